@@ -1,0 +1,116 @@
+// What a specification declares, with every name resolved to a number.
+use crate::{Constraint, Expr, Name, Rule, Seq};
+
+/// The order of a number's bytes.
+#[derive(Clone, Copy, Debug, PartialEq, Eq, PartialOrd, Ord, Hash)]
+pub enum Order {
+    Little,
+    Big,
+}
+
+/// The width of a field's entry; `Bits` holds a number of bits from 1 to 32.
+#[derive(Clone, Copy, Debug, PartialEq, Eq, PartialOrd, Ord, Hash)]
+pub enum Width {
+    U8,
+    U16,
+    U32,
+    U64,
+    Bits(u8),
+}
+
+/// What a field's entry means.
+#[derive(Clone, Copy, Debug, PartialEq, Eq, PartialOrd, Ord, Hash)]
+pub enum Kind {
+    /// A number, with the value that a reset gives it.
+    Number { init: u64 },
+    /// A reference to a pool, counted from 1.
+    Refers { pool: u32 },
+    /// Bytes that are left out.
+    Gap,
+}
+
+/// A field of a structure. A gap of n bytes is a `Gap` of `U8` with the length n.
+#[derive(Drop)]
+pub struct Field {
+    pub name: Name,
+    pub fixed: bool,
+    pub width: Width,
+    /// The number of entries of an array; none for a scalar.
+    pub len: Option<Expr>,
+    pub kind: Kind,
+}
+
+/// A structure with the fields that it declares itself.
+#[derive(Drop)]
+pub struct Structure {
+    pub name: Name,
+    /// The structure that this one extends.
+    pub parent: Option<u32>,
+    pub fields: Seq<Field>,
+}
+
+/// A pool of records of one structure.
+#[derive(Drop)]
+pub struct Pool {
+    pub name: Name,
+    pub structure: u32,
+    pub count: Expr,
+    /// The bytes of a slot; without it a slot has the structure's size.
+    pub slot: Option<Expr>,
+    pub start: Expr,
+    pub code: Expr,
+    pub step: Expr,
+    pub none: Expr,
+    /// The sets that a fresh record avoids; none where the pool has no supply.
+    pub avoid: Option<Seq<u32>>,
+}
+
+/// A set of slots of a pool, whose fields are read by a structure.
+#[derive(Drop)]
+pub struct SetDecl {
+    pub name: Name,
+    /// The pool, counted from 1.
+    pub pool: u32,
+    pub structure: u32,
+    /// The set of which this one is the complement.
+    pub except: Option<u32>,
+}
+
+/// A relation.
+#[derive(Drop)]
+pub struct Rel {
+    pub name: Name,
+    /// The pool of the sources; 0 is the head.
+    pub source: u32,
+    /// The pool of the targets; none where they are numbers.
+    pub target: Option<u32>,
+}
+
+/// A field, by the number of the structure that declares it and its place there.
+#[derive(Clone, Copy, Debug, PartialEq, Eq, PartialOrd, Ord, Hash)]
+pub struct FieldRef {
+    pub structure: u32,
+    pub field: u32,
+}
+
+/// Structures, pools, sets and relations in order of declaration.
+#[derive(Drop)]
+pub struct Structures {
+    /// 1 or 2.
+    pub version: u8,
+    pub order: Order,
+    /// The structure `Head`.
+    pub head: u32,
+    pub structures: Seq<Structure>,
+    pub pools: Seq<Pool>,
+    pub sets: Seq<SetDecl>,
+    pub rels: Seq<Rel>,
+}
+
+/// A typed specification.
+#[derive(Drop)]
+pub struct Spec {
+    pub base: Structures,
+    pub rules: Seq<Rule>,
+    pub constraints: Seq<Constraint>,
+}

@@ -1,0 +1,30 @@
+// Want of memory, and copies that may meet it.
+use std::alloc::{AllocError, AllocFailed, Global};
+
+/// The allocator had no memory left.
+#[derive(Clone, Copy, Debug, PartialEq, Eq, PartialOrd, Ord, Hash)]
+pub struct NoMemory;
+
+impl From<AllocError> for NoMemory {
+    fn from(_: AllocError) -> Self {
+        NoMemory
+    }
+}
+
+impl<T: Drop> From<AllocFailed<T>> for NoMemory {
+    fn from(_: AllocFailed<T>) -> Self {
+        NoMemory
+    }
+}
+
+/// A value that can be copied where there is memory for it.
+pub trait TryClone {
+    ghost use Rattle.std.specs.Prelude.{◌≡◌, IfOk};
+
+    /// When two values count as equal.
+    ghost same: { Self → Self → Type 0 } = { λ a b. a ≡ b };
+
+    /// A value equal to this one, or `NoMemory`.
+    fn clone(&self, alloc: Global) -> Result<Self, NoMemory>
+        ensures { IfOk result (λ copy. same copy self.now) };
+}

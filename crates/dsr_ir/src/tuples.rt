@@ -1,0 +1,39 @@
+// Records of an image, and the facts and bindings that are made of them.
+
+/// A record of an image. Pool 0 has one record, the head at slot 0; pool p is the one declared
+/// at place p, counted from 1, and its slots count from 0.
+#[derive(Clone, Copy, Debug, PartialEq, Eq, PartialOrd, Ord, Hash)]
+pub struct Element {
+    pub pool: u32,
+    pub slot: u32,
+}
+
+/// What a constraint's variables are bound to, as its quantifier asks.
+#[derive(Clone, Copy, Debug, PartialEq, Eq, PartialOrd, Ord, Hash)]
+pub enum Binding {
+    Once,
+    Each(Element),
+    Pair(Element, Element),
+}
+
+/// The second part of a pair of a relation.
+#[derive(Clone, Copy, Debug, PartialEq, Eq, PartialOrd, Ord, Hash)]
+pub enum Target {
+    Elem(Element),
+    Num(u64),
+}
+
+/// A fact of the model: a member of a set, or a pair of a relation, each with the symbol's number.
+#[derive(Clone, Copy, Debug, PartialEq, Eq, PartialOrd, Ord, Hash)]
+pub enum Fact {
+    Member(u32, Element),
+    Pair(u32, Element, Target),
+}
+
+/// A rule, a record of its premise's pool and an entry of its index (0 without one).
+#[derive(Clone, Copy, Debug, PartialEq, Eq, PartialOrd, Ord, Hash)]
+pub struct Instance {
+    pub rule: u32,
+    pub elem: Element,
+    pub index: u64,
+}

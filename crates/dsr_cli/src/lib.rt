@@ -1,0 +1,4 @@
+//! The commands, from their words to their answers.
+#![tactic(auto)]
+
+mod plain_layouts;

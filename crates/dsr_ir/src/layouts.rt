@@ -25,7 +25,7 @@ pub struct FieldPlace {
 /// What a specification's expressions amount to on an image: its length in bytes, the order of a
 /// number's bytes, the numbers of the pools in order of declaration, and the places of each
 /// structure's own fields.
-#[derive(Drop)]
+#[derive(Drop, PartialEq, Eq, PartialOrd, Ord, Hash)]
 pub struct Layout {
     pub length: u64,
     pub order: Order,

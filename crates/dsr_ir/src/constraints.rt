@@ -42,13 +42,13 @@ pub struct Literal {
 }
 
 /// Literals that are to hold together.
-#[derive(Drop)]
+#[derive(Drop, PartialEq, Eq, PartialOrd, Ord, Hash)]
 pub struct Conj {
     pub literals: Seq<Literal>,
 }
 
 /// A constraint's body before it is brought to disjunctive normal form.
-#[derive(Drop)]
+#[derive(Drop, PartialEq, Eq, PartialOrd, Ord, Hash)]
 pub enum Formula {
     Any(Vec<Formula>),
     Every(Vec<Formula>),
@@ -66,7 +66,7 @@ pub enum Quant {
 }
 
 /// A consistency constraint (OOPSLA 2003) in disjunctive normal form.
-#[derive(Drop)]
+#[derive(Drop, PartialEq, Eq, PartialOrd, Ord, Hash)]
 pub struct Constraint {
     pub name: Name,
     pub quant: Quant,

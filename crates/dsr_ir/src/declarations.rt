@@ -30,7 +30,7 @@ pub enum Kind {
 }
 
 /// A field of a structure. A gap of n bytes is a `Gap` of `U8` with the length n.
-#[derive(Drop)]
+#[derive(Drop, PartialEq, Eq, PartialOrd, Ord, Hash)]
 pub struct Field {
     pub name: Name,
     pub fixed: bool,
@@ -41,7 +41,7 @@ pub struct Field {
 }
 
 /// A structure with the fields that it declares itself.
-#[derive(Drop)]
+#[derive(Drop, PartialEq, Eq, PartialOrd, Ord, Hash)]
 pub struct Structure {
     pub name: Name,
     /// The structure that this one extends.
@@ -50,7 +50,7 @@ pub struct Structure {
 }
 
 /// A pool of records of one structure.
-#[derive(Drop)]
+#[derive(Drop, PartialEq, Eq, PartialOrd, Ord, Hash)]
 pub struct Pool {
     pub name: Name,
     pub structure: u32,
@@ -66,7 +66,7 @@ pub struct Pool {
 }
 
 /// A set of slots of a pool, whose fields are read by a structure.
-#[derive(Drop)]
+#[derive(Drop, PartialEq, Eq, PartialOrd, Ord, Hash)]
 pub struct SetDecl {
     pub name: Name,
     /// The pool, counted from 1.
@@ -77,7 +77,7 @@ pub struct SetDecl {
 }
 
 /// A relation.
-#[derive(Drop)]
+#[derive(Drop, PartialEq, Eq, PartialOrd, Ord, Hash)]
 pub struct Rel {
     pub name: Name,
     /// The pool of the sources; 0 is the head.
@@ -94,7 +94,7 @@ pub struct FieldRef {
 }
 
 /// Structures, pools, sets and relations in order of declaration.
-#[derive(Drop)]
+#[derive(Drop, PartialEq, Eq, PartialOrd, Ord, Hash)]
 pub struct Structures {
     /// 1 or 2.
     pub version: u8,
@@ -108,7 +108,7 @@ pub struct Structures {
 }
 
 /// A typed specification.
-#[derive(Drop)]
+#[derive(Drop, PartialEq, Eq, PartialOrd, Ord, Hash)]
 pub struct Spec {
     pub base: Structures,
     pub rules: Seq<Rule>,

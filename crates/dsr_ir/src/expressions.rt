@@ -1,7 +1,7 @@
 // Expressions of a layout.
 
 /// An expression over numbers and fixed fields, computed in whole numbers from 0 to 2^64 - 1.
-#[derive(Drop)]
+#[derive(Drop, PartialEq, Eq, PartialOrd, Ord, Hash)]
 pub enum Expr {
     Num(u64),
     /// The value of the head's field of this number.

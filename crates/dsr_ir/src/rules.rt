@@ -60,7 +60,7 @@ pub enum Inc {
 }
 
 /// A model definition rule (OOPSLA 2003): from a premise and guards to an inclusion.
-#[derive(Drop)]
+#[derive(Drop, PartialEq, Eq, PartialOrd, Ord, Hash)]
 pub struct Rule {
     /// The set of the premise; none for the head.
     pub premise: Option<u32>,

@@ -81,7 +81,7 @@ pub enum Sign {
 }
 
 /// A token: a keyword, a name that is no keyword, a number, or a sign.
-#[derive(Drop, PartialEq, Eq)]
+#[derive(Drop, PartialEq, Eq, PartialOrd, Ord, Hash)]
 pub enum Token {
     Keyword(Keyword),
     Name(Name),
@@ -90,7 +90,7 @@ pub enum Token {
 }
 
 /// A token with the place of its first byte in the text, counted from 0.
-#[derive(Drop)]
+#[derive(Drop, PartialEq, Eq, PartialOrd, Ord, Hash)]
 pub struct Lexeme {
     pub token: Token,
     pub place: u64,

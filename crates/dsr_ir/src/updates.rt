@@ -43,7 +43,7 @@ pub enum At {
 }
 
 /// Writes to the cells of one record, and perhaps a fresh record of a pool.
-#[derive(Drop)]
+#[derive(Drop, PartialEq, Eq, PartialOrd, Ord, Hash)]
 pub struct Update {
     pub rule: u32,
     pub place: Place,
@@ -67,7 +67,7 @@ pub enum Goal {
 }
 
 /// A goal with one update, or one update for each rule of a symbol.
-#[derive(Drop)]
+#[derive(Drop, PartialEq, Eq, PartialOrd, Ord, Hash)]
 pub struct Template {
     pub goal: Goal,
     pub updates: Seq<Update>,

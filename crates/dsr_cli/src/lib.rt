@@ -2,3 +2,4 @@
 #![tactic(auto)]
 
 mod plain_layouts;
+mod views;

@@ -57,37 +57,35 @@ lies spec plain bytes field lt =
     ] (plain_fields spec plain field.structure) lt)
 
 -- the place of a path's field, on the layout of an image
-pub lies_at : (spec : Spec) → IsPlain spec → (bytes : List ℕ) (layout : Layout) → IsLaidOut spec bytes layout → (structure : ℕ) (path : Path) → IsPlainPath spec structure path → (offset : ℕ) × LiesAt spec layout structure path.field offset
-lies_at spec plain bytes layout laid structure path p =
-    let here : path.field.field < length (fields_of spec path.field.structure) = rw p.structure_is p.declared in
-    let l = lies spec plain bytes path.field here in
+pub lies_at : (spec : Spec) → IsPlain spec → (bytes : List ℕ) (layout : Layout) → IsLaidOut spec bytes layout → (path : Path) → IsPlainPath spec path → (offset : ℕ) × LiesAt spec layout path.field offset
+lies_at spec plain bytes layout laid path p =
+    let l = lies spec plain bytes path.field p.declared in
     let n = bytes_of l.place.width l.width in
-    let within : l.place.bit + width_bits l.place.width ≤ size_bits (fields_of spec structure) = subst (λ s. l.place.bit + width_bits l.place.width ≤ size_bits (fields_of spec s)) p.structure_is (omega (arith, l.within)) in
-    (l.offset, record { place = l.place; is = ap (λ y. field_place y path.field) laid.layout_is ∙ l.is; width = l.width; bit = omega (arith, l.bit); within = omega (arith, within, n.1, l.bit) })
+    (l.offset, record { place = l.place; is = ap (λ y. field_place y path.field) laid.layout_is ∙ l.is; width = l.width; bit = omega (arith, l.bit); within = omega (arith, l.within, n.1, l.bit) })
 
 -- the field of a path has a place
-pub has_place : (spec : Spec) → IsPlain spec → (bytes : List ℕ) (layout : Layout) → IsLaidOut spec bytes layout → (structure : ℕ) (path : Path) → IsPlainPath spec structure path → IsSome (field_place layout path.field)
-has_place spec plain bytes layout laid structure path p = rw (lies_at spec plain bytes layout laid structure path p).1.is refl
+pub has_place : (spec : Spec) → IsPlain spec → (bytes : List ℕ) (layout : Layout) → IsLaidOut spec bytes layout → (path : Path) → IsPlainPath spec path → IsSome (field_place layout path.field)
+has_place spec plain bytes layout laid path p = rw (lies_at spec plain bytes layout laid path p).1.is refl
 
 -- the byte of the field's first bit
-pub lies_in_byte : (spec : Spec) (layout : Layout) (structure : ℕ) (field : FieldRef) (bit : ℕ) → ((offset : ℕ) × LiesAt spec layout structure field offset) → IsSomeAnd (field_place layout field) (λ place. bit ≡ place.bit) → LiesAt spec layout structure field (bit / 8)
-lies_in_byte spec layout structure field bit l h =
+pub lies_in_byte : (spec : Spec) (layout : Layout) (field : FieldRef) (bit : ℕ) → ((offset : ℕ) × LiesAt spec layout field offset) → IsSomeAnd (field_place layout field) (λ place. bit ≡ place.bit) → LiesAt spec layout field (bit / 8)
+lies_in_byte spec layout field bit l h =
     let bit_is : bit ≡ l.1.place.bit = rw l.1.is at h in
     let same : l.0 ≡ bit / 8 = omega (arith, l.1.bit, bit_is) in
-    subst (LiesAt spec layout structure field) same l.1
+    subst (LiesAt spec layout field) same l.1
 
 -- the value of a field of two bytes, and of one of four
-module _ (spec : Spec) (layout : Layout) (bytes : List ℕ) (e : Element) (structure : ℕ) (path : Path) (start offset value : ℕ) where
-  pub short_value : layout.order ≡ Little → path.indexed ≡ false → start ≡ record_start layout e → (l : LiesAt spec layout structure path.field offset) → U16 ≡ l.place.width → value ≡ bytes_value Little bytes (start + offset) 2 → value_at layout bytes e 0 path ≡ Some value
+module _ (spec : Spec) (layout : Layout) (bytes : List ℕ) (e : Element) (path : Path) (start offset value : ℕ) where
+  pub short_value : layout.order ≡ Little → path.indexed ≡ false → start ≡ record_start layout e → (l : LiesAt spec layout path.field offset) → U16 ≡ l.place.width → value ≡ bytes_value Little bytes (start + offset) 2 → value_at layout bytes e 0 path ≡ Some value
   short_value order_is plain start_is l width_is v =
       let at : start + offset ≡ (8 * record_start layout e + l.place.bit + 0 * 16) / 8 = omega (arith, start_is, l.bit) in
       rw (plain, l.is, ← width_is, order_is) (ap Some (ap (λ k. bytes_value Little bytes k 2) (sym at) ∙ sym v))
 
-  pub long_value : layout.order ≡ Little → path.indexed ≡ false → start ≡ record_start layout e → (l : LiesAt spec layout structure path.field offset) → U32 ≡ l.place.width → value ≡ bytes_value Little bytes (start + offset) 4 → value_at layout bytes e 0 path ≡ Some value
+  pub long_value : layout.order ≡ Little → path.indexed ≡ false → start ≡ record_start layout e → (l : LiesAt spec layout path.field offset) → U32 ≡ l.place.width → value ≡ bytes_value Little bytes (start + offset) 4 → value_at layout bytes e 0 path ≡ Some value
   long_value order_is plain start_is l width_is v =
       let at : start + offset ≡ (8 * record_start layout e + l.place.bit + 0 * 32) / 8 = omega (arith, start_is, l.bit) in
       rw (plain, l.is, ← width_is, order_is) (ap Some (ap (λ k. bytes_value Little bytes k 4) (sym at) ∙ sym v))
 
 -- the width that a layout tells of a field
-pub width_told : (spec : Spec) (layout : Layout) (structure : ℕ) (field : FieldRef) (offset : ℕ) (w : Width) → (l : LiesAt spec layout structure field offset) → IsSomeAnd (field_place layout field) (λ place. w ≡ place.width) → w ≡ l.place.width
-width_told spec layout structure field offset w l h = rw l.is at h
+pub width_told : (spec : Spec) (layout : Layout) (field : FieldRef) (offset : ℕ) (w : Width) → (l : LiesAt spec layout field offset) → IsSomeAnd (field_place layout field) (λ place. w ≡ place.width) → w ≡ l.place.width
+width_told spec layout field offset w l h = rw l.is at h

@@ -54,11 +54,15 @@ abbrev pub structure_of : Option ℕ → ℕ
 structure_of None = 0
 structure_of (Some set) = 1
 
--- the path reads a field of the structure, which refers to the pool where the kind says so
-pub record IsPlainPath (spec : Spec) (structure : ℕ) (path : Path) : Type 0 where
+-- the path reads a declared field
+pub record IsPlainPath (spec : Spec) (path : Path) : Type 0 where
   pub not_indexed : path.indexed ≡ false
-  pub structure_is : path.field.structure ≡ structure
-  pub declared : path.field.field < length (fields_of spec structure)
+  pub declared : path.field.field < length (fields_of spec path.field.structure)
+
+-- a declared field of the structure of the premise's records
+pub record IsPathUnder (spec : Spec) (premise : Option ℕ) (path : Path) : Type 0 where
+  pub path_is : IsPlainPath spec path
+  pub structure_is : path.field.structure ≡ structure_of premise
 
 -- the relation goes from a pool to a target
 abbrev pub Relates : Spec → ℕ → ℕ → Option ℕ → Type 0
@@ -67,8 +71,8 @@ Relates spec rel source target = IsSomeAnd (slice_get spec.base.rels rel) (λ r.
 -- the inclusion fits a premise
 abbrev pub IsPlainInc : Spec → Option ℕ → Inc → Type 0
 IsPlainInc spec premise (Own set) = (premise ≢ None) × (set < length spec.base.sets)
-IsPlainInc spec premise (Target set path) = IsPlainPath spec (structure_of premise) path × (referred_pool spec path.field ≡ Some 1) × (set < length spec.base.sets)
-IsPlainInc spec premise (OwnPair rel path) = IsPlainPath spec (structure_of premise) path × Relates spec rel (structure_of premise) (referred_pool spec path.field)
+IsPlainInc spec premise (Target set path) = IsPathUnder spec premise path × (referred_pool spec path.field ≡ Some 1) × (set < length spec.base.sets)
+IsPlainInc spec premise (OwnPair rel path) = IsPathUnder spec premise path × Relates spec rel (structure_of premise) (referred_pool spec path.field)
 IsPlainInc spec premise _ = ⊥
 
 -- the set of a premise is declared

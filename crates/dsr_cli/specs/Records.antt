@@ -20,9 +20,9 @@ abbrev pub IsRecord : List ℕ → ℕ → Element → Type 0
 IsRecord bytes structure e = ((structure ≡ 0) × (e ≡ head)) ⊎ ((structure ≡ 1) × (e.pool ≡ 1) × (e.slot < count_in bytes))
 
 -- the field begins at a byte of its record, and ends within it
-pub record LiesAt (spec : Spec) (layout : Layout) (structure : ℕ) (field : FieldRef) (offset : ℕ) : Type 0 where
+pub record LiesAt (spec : Spec) (layout : Layout) (field : FieldRef) (offset : ℕ) : Type 0 where
   pub place : FieldPlace
   pub is : field_place layout field ≡ Some place
   pub width : IsPlainWidth place.width
   pub bit : place.bit ≡ 8 * offset
-  pub within : offset + width_bits place.width / 8 ≤ size_of spec structure
+  pub within : offset + width_bits place.width / 8 ≤ size_of spec field.structure

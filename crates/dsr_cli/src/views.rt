@@ -1,5 +1,5 @@
 // A specification with an image and its layout.
-ghost use Rattle.std.specs.Prelude.{◌≡◌, ◌≤◌, ◌+◌, length};
+ghost use Rattle.std.specs.Prelude.{◌≡◌, ◌≤◌, ◌+◌, ℕ, length};
 ghost use Rattle.dsr_meaning.specs.Cells.{bytes_value, record_start, value_at};
 ghost use Rattle.dsr_cli.specs.Plain.{IsPlain, IsPlainPath};
 ghost use Rattle.dsr_cli.specs.PlainLayouts.{size_of, IsLaidOut};
@@ -15,12 +15,12 @@ pub struct View<'a> {
     pub image: &'a [u8],
 }
 
-fn start_of(view: &View, structure: u32, elem: Element) -> usize
+fn start_of(view: &View, elem: Element) -> usize
     requires plain { IsPlain view.now.spec.now }
     requires laid_out { IsLaidOut view.now.spec.now view.now.image.now view.now.layout.now }
-    requires elem { IsRecord view.now.image.now structure elem }
+    requires elem { (structure : ℕ) × IsRecord view.now.image.now structure elem }
     ensures value { result ≡ record_start view.now.layout.now elem }
-    ensures inside { result + size_of view.now.spec.now structure ≤ length view.now.image.now }
+    ensures inside { (structure : ℕ) → IsRecord view.now.image.now structure elem → result + size_of view.now.spec.now structure ≤ length view.now.image.now }
 {
     if elem.pool == 0 {
         return 0;
@@ -28,11 +28,11 @@ fn start_of(view: &View, structure: u32, elem: Element) -> usize
     (view.layout.start(1) + u64::from(elem.slot) * view.layout.slot(1)) as usize
 }
 
-fn offset_of(view: &View, structure: u32, path: Path) -> usize
+fn offset_of(view: &View, path: Path) -> usize
     requires plain { IsPlain view.now.spec.now }
     requires laid_out { IsLaidOut view.now.spec.now view.now.image.now view.now.layout.now }
-    requires path { IsPlainPath view.now.spec.now structure path }
-    ensures { LiesAt view.now.spec.now view.now.layout.now structure path.field result }
+    requires path { IsPlainPath view.now.spec.now path }
+    ensures { LiesAt view.now.spec.now view.now.layout.now path.field result }
 {
     view.layout.bit_offset(path.field) as usize / 8
 }
@@ -52,14 +52,14 @@ fn long_at(image: &[u8], at: usize) -> u64
 }
 
 /// The value of a field of a record.
-pub fn value_of(view: &View, structure: u32, elem: Element, path: Path) -> u64
+pub fn value_of(view: &View, elem: Element, path: Path) -> u64
     requires plain { IsPlain view.now.spec.now }
     requires laid_out { IsLaidOut view.now.spec.now view.now.image.now view.now.layout.now }
-    requires path { IsPlainPath view.now.spec.now structure path }
-    requires elem { IsRecord view.now.image.now structure elem }
+    requires path { IsPlainPath view.now.spec.now path }
+    requires elem { IsRecord view.now.image.now path.field.structure elem }
     ensures { value_at view.now.layout.now view.now.image.now elem 0 path ≡ Some result }
 {
-    let at = start_of(view, structure, elem) + offset_of(view, structure, path);
+    let at = start_of(view, elem) + offset_of(view, path);
     match view.layout.width(path.field) {
         Width::U16 => short_at(view.image, at),
         Width::U32 => long_at(view.image, at),

@@ -1,5 +1,6 @@
 //! The commands, from their words to their answers.
 #![tactic(auto)]
 
+mod members;
 mod plain_layouts;
 mod views;

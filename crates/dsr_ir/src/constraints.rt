@@ -1,5 +1,6 @@
 // Consistency constraints.
-use crate::{Name, Op, Seq};
+use crate::{Name, NoMemory, Op, Seq, TryClone};
+use std::alloc::Global;
 
 /// A variable of a constraint; `First` and `Second` are the ones of its quantifier.
 #[derive(Clone, Copy, Debug, PartialEq, Eq, PartialOrd, Ord, Hash)]
@@ -47,6 +48,14 @@ pub struct Conj {
     pub literals: Seq<Literal>,
 }
 
+impl TryClone for Conj {
+    fn clone(&self, alloc: Global) -> Result<Conj, NoMemory> {
+        Ok(Conj {
+            literals: self.literals.clone(alloc)?,
+        })
+    }
+}
+
 /// A constraint's body before it is brought to disjunctive normal form.
 #[derive(Drop, PartialEq, Eq, PartialOrd, Ord, Hash)]
 pub enum Formula {
@@ -71,4 +80,14 @@ pub struct Constraint {
     pub name: Name,
     pub quant: Quant,
     pub conjs: Seq<Conj>,
+}
+
+impl TryClone for Constraint {
+    fn clone(&self, alloc: Global) -> Result<Constraint, NoMemory> {
+        Ok(Constraint {
+            name: self.name.clone(alloc)?,
+            quant: self.quant,
+            conjs: self.conjs.clone(alloc)?,
+        })
+    }
 }

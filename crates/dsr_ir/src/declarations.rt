@@ -1,5 +1,6 @@
 // What a specification declares, with every name resolved to a number.
-use crate::{Constraint, Expr, Name, Rule, Seq};
+use crate::{Constraint, Expr, Name, NoMemory, Rule, Seq, TryClone, TryCloneTree};
+use std::alloc::Global;
 
 /// The order of a number's bytes.
 #[derive(Clone, Copy, Debug, PartialEq, Eq, PartialOrd, Ord, Hash)]
@@ -76,6 +77,17 @@ pub struct SetDecl {
     pub except: Option<u32>,
 }
 
+impl TryClone for SetDecl {
+    fn clone(&self, alloc: Global) -> Result<SetDecl, NoMemory> {
+        Ok(SetDecl {
+            name: self.name.clone(alloc)?,
+            pool: self.pool,
+            structure: self.structure,
+            except: self.except,
+        })
+    }
+}
+
 /// A relation.
 #[derive(Drop, PartialEq, Eq, PartialOrd, Ord, Hash)]
 pub struct Rel {
@@ -84,6 +96,16 @@ pub struct Rel {
     pub source: u32,
     /// The pool of the targets; none where they are numbers.
     pub target: Option<u32>,
+}
+
+impl TryClone for Rel {
+    fn clone(&self, alloc: Global) -> Result<Rel, NoMemory> {
+        Ok(Rel {
+            name: self.name.clone(alloc)?,
+            source: self.source,
+            target: self.target,
+        })
+    }
 }
 
 /// A field, by the number of the structure that declares it and its place there.

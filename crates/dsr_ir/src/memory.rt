@@ -47,3 +47,18 @@ impl<T: Copy> TryClone for T {
         Ok(*self)
     }
 }
+
+impl<T: TryCloneTree + Drop> TryCloneTree for Option<T> {
+    ghost use Rattle.std.specs.Prelude.{Option, option_map};
+
+    ghost Shape = { Option T.Shape };
+
+    ghost shape = { option_map T.shape };
+
+    fn clone(&self, alloc: Global) -> Result<Option<T>, NoMemory> {
+        match self {
+            Some(value) => Ok(Some(value.clone(alloc)?)),
+            None => Ok(None),
+        }
+    }
+}

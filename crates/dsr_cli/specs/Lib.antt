@@ -1,0 +1,3 @@
+pub mod Plain
+pub mod PlainLayouts
+pub mod Records

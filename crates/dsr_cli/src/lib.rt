@@ -1,0 +1,5 @@
+//! The commands, from their words to their answers.
+#![tactic(auto)]
+
+mod plain_layouts;
+mod views;

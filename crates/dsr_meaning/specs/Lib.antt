@@ -1,0 +1,7 @@
+pub mod Cells
+pub mod Consistency
+pub mod Counting
+pub mod Instances
+pub mod Models
+pub mod References
+pub mod Truth

@@ -3,4 +3,5 @@
 
 mod members;
 mod plain_layouts;
+mod values;
 mod views;

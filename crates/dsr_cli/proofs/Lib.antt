@@ -6,3 +6,4 @@ pub mod PlainSizes
 pub mod RowMembers
 pub mod Searching
 pub mod Targets
+pub mod Verdict

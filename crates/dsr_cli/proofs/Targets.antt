@@ -16,8 +16,12 @@ use Rattle.dsr_meaning.specs.Counting.{AreMany, Enumerates, IsDistinct, IsIn}
 use Rattle.dsr_meaning.specs.Instances.{referred_pool}
 use Rattle.dsr_meaning.specs.Models.{IsPair}
 use Rattle.dsr_meaning.specs.References.{IsCodeOf}
-use Rattle.dsr_meaning.specs.Truth.{head}
-use Rattle.dsr_cli.specs.Plain.{IsPlain, Relates}
+use Rattle.dsr_meaning.specs.Truth.{head, HasSize}
+use Rattle.dsr_ir.specs.declared.constraints.Measure.TheVariants.{Out}
+use Rattle.dsr_ir.specs.declared.constraints.Var.{Var}
+use Rattle.dsr_ir.specs.declared.constraints.Var.TheVariants.{Head, First, Second}
+use Rattle.dsr_ir.specs.declared.tuples.Binding.TheVariants.{Once}
+use Rattle.dsr_cli.specs.Plain.{IsPlain, IsPlainMeasure, Relates}
 use Rattle.dsr_cli.specs.PlainLayouts.{count_in, IsLaidOut}
 use Rattle.dsr_cli.specs.Records.{record_at}
 use Rattle.dsr_cli.specs.Values.{AddsTarget, AreTargets, LeadsHead, head_path}
@@ -174,3 +178,17 @@ many_targets spec plain bytes layout laid rel relates slots t = record {
   };
   counted = length_elems slots;
 }
+
+-- the targets that a size counts are the head's
+pub of_head : (spec : Spec) (v : Var) (rel : ℕ) → IsPlainMeasure spec (Out v rel) → (v ≡ Head) × Relates spec rel 0 (Some 1)
+of_head spec Head rel h = (refl, h)
+of_head spec First rel h = absurd h
+of_head spec Second rel h = absurd h
+
+pub size_of_targets : (spec : Spec) → IsPlain spec → (bytes : List ℕ) (layout : Layout) → IsLaidOut spec bytes layout → (v : Var) (rel : ℕ) → IsPlainMeasure spec (Out v rel) → (slots : List ℕ) → AreTargets spec layout bytes rel slots → HasSize spec layout bytes Once (Out v rel) (length slots)
+size_of_targets spec plain bytes layout laid v rel h slots t =
+    let f = of_head spec v rel h in
+    subst (λ w. HasSize spec layout bytes Once (Out w rel) (length slots)) (sym f.0) (many_targets spec plain bytes layout laid rel f.1 slots t)
+
+pub head_relates : (spec : Spec) (v : Var) (rel : ℕ) → IsPlainMeasure spec (Out v rel) → Relates spec rel 0 (Some 1)
+head_relates spec v rel h = (of_head spec v rel h).1

@@ -10,3 +10,6 @@ mod system;
 pub use memory::{MemoryShelf, MemorySink, SureShelf, SureSink};
 pub use outside::{Content, Held, Label, Missed, Shelf, ShelfFault, Sink, SinkFault};
 pub use system::{FileShelf, StdSink};
+
+#[cfg(test)]
+mod tests;

@@ -33,7 +33,7 @@ pub struct MemoryShelf {
     /// How many calls were made, without those that ran out of memory. At its last value it
     /// stays, and no further call is made to fail.
     pub calls: u64,
-    /// The last call that failed.
+    /// The last call that failed, if one did.
     pub last: Option<Missed>,
 }
 
@@ -53,13 +53,18 @@ impl Shelf for MemoryShelf {
         ensures front { IfOk result (λ bytes. IsFrontOf (held_in self.old.files.items) name.now cap bytes.items) }
         ensures held { held_in self.new.files.items ≡ held_in self.old.files.items }
         ensures later { failures self.old.fail.items self.old.calls ≤ failures self.new.fail.items self.new.calls }
-        ensures failed { IsErrOf result ShelfFault.Failed → Rose (failures self.old.fail.items self.old.calls) (failures self.new.fail.items self.new.calls) ⊎ Lacks (held_in self.old.files.items) name.now }
+        ensures failed { IsErrOf result ShelfFault.Failed →
+            Rose (failures self.old.fail.items self.old.calls) (failures self.new.fail.items self.new.calls)
+            ⊎ Lacks (held_in self.old.files.items) name.now }
         ensures last { Marks result (record { saving = false; name = name.now }) self.old.last self.new.last }
 
         ensures due { IsTrue (is_due self.old.fail.items self.old.calls) → IsErr result }
-        ensures cause { IsErrOf result ShelfFault.Failed → IsTrue (is_due self.old.fail.items self.old.calls) ⊎ Lacks (held_in self.old.files.items) name.now }
-        ensures same { (self.new.files.items ≡ self.old.files.items) × (self.new.fail.items ≡ self.old.fail.items) }
-        ensures calls { self.new.calls ≡ calls_after result self.old.calls }
+        // No other call of a file that is held fails.
+        ensures cause { IsErrOf result ShelfFault.Failed →
+            IsTrue (is_due self.old.fail.items self.old.calls) ⊎ Lacks (held_in self.old.files.items) name.now }
+        ensures same_files { self.new.files.items ≡ self.old.files.items }
+        ensures same_fail { self.new.fail.items ≡ self.old.fail.items }
+        ensures counted { self.new.calls ≡ calls_after result self.old.calls }
     {
         let missed = Missed::new(alloc, false, name)?;
         let front = front_of(alloc, &self.files, name, cap)?;
@@ -76,17 +81,20 @@ impl Shelf for MemoryShelf {
     /// A save that is made to fail leaves the file empty.
     fn save(&mut self, alloc: Global, name: &str, bytes: &[u8]) -> Result<(), ShelfFault>
         ensures ok { OnOk result (held_in self.new.files.items ≡ with_file (held_in self.old.files.items) name.now bytes.now) }
-        ensures no_memory { IsErrOf result ShelfFault.NoMemory → held_in self.new.files.items ≡ held_in self.old.files.items }
+        ensures no_memory { IsErrOf result ShelfFault.NoMemory →
+            held_in self.new.files.items ≡ held_in self.old.files.items }
         ensures others { OthersStand (held_in self.old.files.items) (held_in self.new.files.items) name.now }
         ensures later { failures self.old.fail.items self.old.calls ≤ failures self.new.fail.items self.new.calls }
-        ensures failed { IsErrOf result ShelfFault.Failed → Rose (failures self.old.fail.items self.old.calls) (failures self.new.fail.items self.new.calls) }
+        ensures failed { IsErrOf result ShelfFault.Failed →
+            Rose (failures self.old.fail.items self.old.calls) (failures self.new.fail.items self.new.calls) }
         ensures last { Marks result (record { saving = true; name = name.now }) self.old.last self.new.last }
 
         ensures due { IsTrue (is_due self.old.fail.items self.old.calls) → IsErr result }
         ensures cause { IsErrOf result ShelfFault.Failed → IsTrue (is_due self.old.fail.items self.old.calls) }
-        ensures emptied { IsErrOf result ShelfFault.Failed → held_in self.new.files.items ≡ with_file (held_in self.old.files.items) name.now [] }
-        ensures same { self.new.fail.items ≡ self.old.fail.items }
-        ensures calls { self.new.calls ≡ calls_after result self.old.calls }
+        ensures emptied { IsErrOf result ShelfFault.Failed →
+            held_in self.new.files.items ≡ with_file (held_in self.old.files.items) name.now [] }
+        ensures same_fail { self.new.fail.items ≡ self.old.fail.items }
+        ensures counted { self.new.calls ≡ calls_after result self.old.calls }
     {
         let missed = Missed::new(alloc, true, name)?;
         let mut calls = self.calls;
@@ -103,17 +111,20 @@ impl Shelf for MemoryShelf {
 }
 
 /// A shelf whose files live in memory, and which fails only a load of a file that isn't held.
+///
+/// Its count of failures is always 0, so what each shelf promises already says that, and that no
+/// save answers `Failed`.
 #[derive(Drop)]
 pub struct SureShelf {
     /// The files, each name once: a further file of a name isn't seen.
     pub files: Vec<Held>,
-    /// The last call that failed, which is a load.
+    /// The last call that failed, if one did.
     pub last: Option<Missed>,
 }
 
 impl Shelf for SureShelf {
-    ghost use Rattle.dsr_store.specs.Causes.{Rose, Marks};
-    ghost use Rattle.dsr_store.specs.Files.{IsFrontOf, Lacks, with_file, OthersStand};
+    ghost use Rattle.dsr_store.specs.Causes.{Marks};
+    ghost use Rattle.dsr_store.specs.Files.{IsFrontOf, Lacks};
 
     ghost held = { λ shelf. held_in shelf.files.items };
 
@@ -128,7 +139,7 @@ impl Shelf for SureShelf {
         ensures last { Marks result (record { saving = false; name = name.now }) self.old.last self.new.last }
 
         ensures failed { IsErrOf result ShelfFault.Failed → Lacks (held_in self.old.files.items) name.now }
-        ensures same { self.new.files.items ≡ self.old.files.items }
+        ensures same_files { self.new.files.items ≡ self.old.files.items }
     {
         let missed = Missed::new(alloc, false, name)?;
         match front_of(alloc, &self.files, name, cap)? {
@@ -141,12 +152,14 @@ impl Shelf for SureShelf {
     }
 
     fn save(&mut self, alloc: Global, name: &str, bytes: &[u8]) -> Result<(), ShelfFault> {
-        put_file(alloc, &mut self.files, name, bytes)?;
-        Ok(())
+        Ok(put_file(alloc, &mut self.files, name, bytes)?)
     }
 }
 
 /// An output that is kept in memory, and whose writes fail where they are told to.
+///
+/// Beside what each sink promises, a write that is made to fail never succeeds, no other answers
+/// `Failed`, and after a fault nothing of the piece was written.
 #[derive(Drop)]
 pub struct MemorySink {
     /// All that was written.
@@ -171,13 +184,15 @@ impl Sink for MemorySink {
         ensures no_memory { IsErrOf result SinkFault.NoMemory → Some self.new.bytes.items ≡ Some self.old.bytes.items }
         ensures front { AppendsFront (Some self.old.bytes.items) (Some self.new.bytes.items) piece.now }
         ensures later { failures self.old.fail.items self.old.calls ≤ failures self.new.fail.items self.new.calls }
-        ensures failed { IsErrOf result SinkFault.Failed → Rose (failures self.old.fail.items self.old.calls) (failures self.new.fail.items self.new.calls) }
+        ensures failed { IsErrOf result SinkFault.Failed →
+            Rose (failures self.old.fail.items self.old.calls) (failures self.new.fail.items self.new.calls) }
 
         ensures due { IsTrue (is_due self.old.fail.items self.old.calls) → IsErr result }
         ensures cause { IsErrOf result SinkFault.Failed → IsTrue (is_due self.old.fail.items self.old.calls) }
         ensures err { OnErr result (self.new.bytes.items ≡ self.old.bytes.items) }
-        ensures same { self.new.fail.items ≡ self.old.fail.items }
-        ensures calls { IsErrOf result SinkFault.NoMemory ⊎ (self.new.calls ≡ one_more self.old.calls) }
+        ensures same_fail { self.new.fail.items ≡ self.old.fail.items }
+        ensures counted { IsErrOf result SinkFault.NoMemory ⊎ (self.new.calls ≡ one_more self.old.calls) }
+        ensures not_counted { IsErrOf result SinkFault.NoMemory → self.new.calls ≡ self.old.calls }
     {
         let mut calls = self.calls;
         if tick(&mut calls, &self.fail) {
@@ -190,7 +205,7 @@ impl Sink for MemorySink {
     }
 }
 
-/// An output that is kept in memory, and never fails but for want of memory.
+/// An output that is kept in memory, and gives no fault but for want of memory.
 #[derive(Drop)]
 pub struct SureSink {
     /// All that was written.
@@ -198,7 +213,6 @@ pub struct SureSink {
 }
 
 impl Sink for SureSink {
-    ghost use Rattle.dsr_store.specs.Causes.{Rose};
     ghost use Rattle.dsr_store.specs.Written.{appended, AppendsFront};
 
     ghost written = { λ sink. Some sink.bytes.items };
@@ -213,7 +227,6 @@ impl Sink for SureSink {
         ensures sure { IfErr result (λ fault. fault ≡ SinkFault.NoMemory) }
         ensures err { OnErr result (self.new.bytes.items ≡ self.old.bytes.items) }
     {
-        self.bytes.extend_from_slice(piece)?;
-        Ok(())
+        Ok(self.bytes.extend_from_slice(piece)?)
     }
 }

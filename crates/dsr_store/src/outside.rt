@@ -127,7 +127,8 @@ pub trait Shelf {
         ensures front { IfOk result (λ bytes. IsFrontOf (held self.old) name.now cap bytes.items) }
         ensures held { held self.new ≡ held self.old }
         ensures later { faults self.old ≤ faults self.new }
-        ensures failed { IsErrOf result ShelfFault.Failed → Rose (faults self.old) (faults self.new) ⊎ Lacks (held self.old) name.now }
+        ensures failed { IsErrOf result ShelfFault.Failed →
+            Rose (faults self.old) (faults self.new) ⊎ Lacks (held self.old) name.now }
         ensures last { Marks result (record { saving = false; name = name.now }) (last self.old) (last self.new) };
 
     /// Makes these the bytes of the file of this name, which need not be held yet. After `Failed`

@@ -42,14 +42,14 @@ fn write_whole<R: Files>(rt: &R, name: &str, bytes: &[u8]) -> io::Result<()> {
     file.write_all(bytes)
 }
 
-/// The system's files, by their paths. What they hold isn't told: others may write them too.
+/// The system's files, by their paths. What they hold isn't told, since others may write them too.
 #[derive(Drop)]
 pub struct FileShelf<'a, R: Files> {
     /// The runtime that the files are reached through.
     pub rt: &'a R,
     /// How many calls failed; it stays at its last value.
     pub faults: u64,
-    /// The last call that failed.
+    /// The last call that failed, if one did.
     pub last: Option<Missed>,
 }
 

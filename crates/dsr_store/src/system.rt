@@ -1,5 +1,5 @@
 // The system's files and its standard output.
-ghost use Rattle.std.specs.Prelude.{◌≤◌, vec_len, IfOk, None};
+ghost use Rattle.std.specs.Prelude.{◌≡◌, ◌≤◌, vec_len, take, IfOk, IfSome, None};
 
 use crate::outside::{Missed, Shelf, ShelfFault, Sink, SinkFault};
 use std::alloc::Global;
@@ -10,29 +10,37 @@ use std::rt::Files;
 // How many bytes one read asks for at most.
 const CHUNK: usize = 4096;
 
-// The first bytes of a file, at most `cap`. A read that gives nothing is the end of the file.
-fn read_front<R: Files>(alloc: Global, rt: &R, name: &str, cap: u64) -> Result<Vec<u8>, ShelfFault>
-    ensures { IfOk result (λ bytes. vec_len bytes ≤ cap) }
+// The first bytes that a reader gives, at most `cap`. A read that gives nothing is its end.
+fn read_front<F: Read>(alloc: Global, file: &mut F, cap: u64) -> Result<Vec<u8>, ShelfFault>
+    ensures capped { IfOk result (λ bytes. vec_len bytes ≤ cap) }
+    ensures front { IfOk result (λ bytes. IfSome (F.remaining file.old) (λ whole. bytes.items ≡ take cap whole)) }
 {
-    let mut file = match fs::open(rt, name) {
-        Ok(file) => file,
-        Err(_) => return Err(ShelfFault::Failed),
-    };
     let mut bytes = Vec::new(alloc);
     let mut chunk = [0u8; CHUNK];
-    for _ in 0..u64::MAX {
+    for _turn in 0..u64::MAX {
         let left = cap - bytes.len() as u64;
         if left == 0 {
-            break;
+            return Ok(bytes);
         }
         let want = left.min(CHUNK as u64) as usize;
         match file.read(&mut chunk[..want]) {
-            Ok(0) => break,
+            Ok(0) => return Ok(bytes),
             Ok(count) => bytes.extend_from_slice(&chunk[..count])?,
             Err(_) => return Err(ShelfFault::Failed),
         }
     }
+    // Each turn gave a byte at least, so these are as many as the cap.
     Ok(bytes)
+}
+
+// The first bytes of a file, at most `cap`.
+fn load_front<R: Files>(alloc: Global, rt: &R, name: &str, cap: u64) -> Result<Vec<u8>, ShelfFault>
+    ensures { IfOk result (λ bytes. vec_len bytes ≤ cap) }
+{
+    match fs::open(rt, name) {
+        Ok(mut file) => read_front(alloc, &mut file, cap),
+        Err(_) => Err(ShelfFault::Failed),
+    }
 }
 
 // Makes these the file's only bytes. `write_all` gives an error for a write that takes nothing of
@@ -62,7 +70,7 @@ impl<'a, R: Files> Shelf for FileShelf<'a, R> {
 
     fn load(&mut self, alloc: Global, name: &str, cap: u64) -> Result<Vec<u8>, ShelfFault> {
         let missed = Missed::new(alloc, false, name)?;
-        match read_front(alloc, self.rt, name, cap) {
+        match load_front(alloc, self.rt, name, cap) {
             Ok(bytes) => Ok(bytes),
             Err(ShelfFault::NoMemory) => Err(ShelfFault::NoMemory),
             Err(ShelfFault::Failed) => {

@@ -1,3 +1,5 @@
+pub mod AnswerLaws
+pub mod Findings
 pub mod Given
 pub mod Marking
 pub mod Pairs
@@ -6,4 +8,6 @@ pub mod PlainSizes
 pub mod RowMembers
 pub mod Searching
 pub mod Targets
+pub mod Tellings
+pub mod Texts
 pub mod Verdict

@@ -114,6 +114,7 @@ pub record IsPlain (spec : Spec) : Type 0 where
   pub head_begins : 0 < length (fields_of spec 0)
   pub few_head_fields : length (fields_of spec 0) ≤ 64
   pub few_fields : length (fields_of spec 1) ≤ 64
+  pub one_pool : length spec.base.pools ≡ 1
   pub few_sets : length spec.base.sets ≤ 64
   pub sets : All IsPlainSet spec.base.sets
   pub rules : All (IsPlainRule spec) spec.rules

@@ -1,0 +1,5 @@
+pub mod Found
+pub mod Lookups
+pub mod Numbers
+pub mod Reaches
+pub mod Shapes

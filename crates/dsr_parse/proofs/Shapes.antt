@@ -142,7 +142,7 @@ pub apart : (f g : ℕ → Bool) → ((b : ℕ) → f b ≡ true → g b ≡ tru
 apart f g differ {bytes = []} fs gs q = absurd cc
 apart f g differ {bytes = b ∷ bytes} fs gs q = differ b fs (subst (λ bytes. begins g bytes ≡ true) (sym q) gs)
 
-same_keyword : (j k : Keyword) → keyword_spelling j ≡ keyword_spelling k → j ≡ k
+pub same_keyword : (j k : Keyword) → keyword_spelling j ≡ keyword_spelling k → j ≡ k
 same_keyword j k q = let found : Some j ≡ Some k = sym (finds_each_keyword j) ∙ (ap (keyword_among KEYWORDS) q ∙ finds_each_keyword k) in cc
 
 same_sign : (s t : Sign) → sign_spelling s ≡ sign_spelling t → s ≡ t

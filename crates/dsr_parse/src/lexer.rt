@@ -43,13 +43,14 @@ impl<T: Drop> From<AllocFailed<T>> for TokenFault {
 
 // The length of a blank or a comment at the front.
 fn find_gap(text: &[u8]) -> Option<usize>
+    requires { 0 < length text.now }
     ensures { FindsGap text.now result }
 {
-    let first = *text.first()?;
+    let first = text[0];
     if is_blank_byte(first) {
         Some(1)
     } else if first == b'#' {
-        Some(1 + line_len(&text[1..]))
+        Some(line_len(text))
     } else {
         None
     }

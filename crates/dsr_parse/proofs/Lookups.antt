@@ -62,8 +62,9 @@ finds_each_keyword keyword.Size = refl
 pub is_keyword_found : (ks : List Keyword) (bytes : List ℕ) (k : Keyword) → keyword_among ks bytes ≡ Some k → bytes ≡ keyword_spelling k
 is_keyword_found [] bytes k = λ e. absurd cc
 is_keyword_found (j ∷ js) bytes k = elim (bytes_eq (keyword_spelling j) bytes) as (λ b. bytes_eq (keyword_spelling j) bytes ≡ b → cond b (Some j) (keyword_among js bytes) ≡ Some k → bytes ≡ keyword_spelling k) [
-    true ↦ λ same e. let q : j ≡ k = cc in sym ((bytes_eq-Decides (keyword_spelling j) bytes).0 same) ∙ ap keyword_spelling q
-  | false ↦ λ _ e. is_keyword_found js bytes k e ] refl
+  | true ↦ λ same e. let q : j ≡ k = cc in sym ((bytes_eq-Decides (keyword_spelling j) bytes).0 same) ∙ ap keyword_spelling q
+  | false ↦ λ _ e. is_keyword_found js bytes k e
+] refl
 
 pub no_keyword_found : (bytes : List ℕ) → keyword_among KEYWORDS bytes ≡ None → (k : Keyword) → bytes ≢ keyword_spelling k
 no_keyword_found bytes e k q = let found : keyword_among KEYWORDS bytes ≡ Some k = ap (keyword_among KEYWORDS) q ∙ finds_each_keyword k in absurd cc
@@ -71,20 +72,21 @@ no_keyword_found bytes e k q = let found : keyword_among KEYWORDS bytes ≡ Some
 -- a word that is a keyword in the other version alone is none
 pub other_keyword_found : (second : Bool) (bytes : List ℕ) (j : Keyword) → keyword_among KEYWORDS bytes ≡ Some j → is_keyword second j ≡ false → (k : Keyword) → IsTrue (is_keyword second k) → bytes ≢ keyword_spelling k
 other_keyword_found second bytes j e not_one k one q =
-  let found : keyword_among KEYWORDS bytes ≡ Some k = ap (keyword_among KEYWORDS) q ∙ finds_each_keyword k in
-  let same : j ≡ k = cc in
-  absurd cc
+    let found : keyword_among KEYWORDS bytes ≡ Some k = ap (keyword_among KEYWORDS) q ∙ finds_each_keyword k in
+    let same : j ≡ k = cc in
+    absurd cc
 
 pub starts : (s : Sign) (bytes : List ℕ) → starts_with nat_eq bytes (sign_spelling s) ≡ true → bytes ≡ sign_spelling s ++ drop (length (sign_spelling s)) bytes
 starts s bytes e =
-  let front : sign_spelling s ≡ take (length (sign_spelling s)) bytes = (bytes_eq-Decides (sign_spelling s) (take (length (sign_spelling s)) bytes)).0 e in
-  sym (take-append-drop (length (sign_spelling s)) bytes) ∙ ap (λ front. front ++ drop (length (sign_spelling s)) bytes) (sym front)
+    let front : sign_spelling s ≡ take (length (sign_spelling s)) bytes = (bytes_eq-Decides (sign_spelling s) (take (length (sign_spelling s)) bytes)).0 e in
+    sym (take-append-drop (length (sign_spelling s)) bytes) ∙ ap (λ front. front ++ drop (length (sign_spelling s)) bytes) (sym front)
 
 pub is_sign_found : (ss : List Sign) (bytes : List ℕ) (s : Sign) → sign_among ss bytes ≡ Some s → bytes ≡ sign_spelling s ++ drop (length (sign_spelling s)) bytes
 is_sign_found [] bytes s = λ e. absurd cc
 is_sign_found (t ∷ ts) bytes s = elim (starts_with nat_eq bytes (sign_spelling t)) as (λ b. starts_with nat_eq bytes (sign_spelling t) ≡ b → cond b (Some t) (sign_among ts bytes) ≡ Some s → bytes ≡ sign_spelling s ++ drop (length (sign_spelling s)) bytes) [
-    true ↦ λ same e. let q : t ≡ s = cc in subst (λ s. bytes ≡ sign_spelling s ++ drop (length (sign_spelling s)) bytes) q (starts t bytes same)
-  | false ↦ λ _ e. is_sign_found ts bytes s e ] refl
+  | true ↦ λ same e. let q : t ≡ s = cc in subst (λ s. bytes ≡ sign_spelling s ++ drop (length (sign_spelling s)) bytes) q (starts t bytes same)
+  | false ↦ λ _ e. is_sign_found ts bytes s e
+] refl
 
 -- whether each of these signs has so many bytes
 abbrev has_lengths : ℕ → List Sign → Bool
@@ -94,8 +96,9 @@ has_lengths n (s ∷ ss) = nat_eq (length (sign_spelling s)) n && has_lengths n 
 found_length : (n : ℕ) (ss : List Sign) (bytes : List ℕ) (s : Sign) → has_lengths n ss ≡ true → sign_among ss bytes ≡ Some s → length (sign_spelling s) ≡ n
 found_length n [] bytes s h = λ e. absurd cc
 found_length n (t ∷ ts) bytes s h = elim (starts_with nat_eq bytes (sign_spelling t)) as (λ b. cond b (Some t) (sign_among ts bytes) ≡ Some s → length (sign_spelling s) ≡ n) [
-    true ↦ λ e. let q : t ≡ s = cc in subst (λ s. length (sign_spelling s) ≡ n) q (grind (arith, nat_tests, h))
-  | false ↦ λ e. found_length n ts bytes s (grind (arith, nat_tests, h)) e ]
+  | true ↦ λ e. let q : t ≡ s = cc in subst (λ s. length (sign_spelling s) ≡ n) q (grind (arith, nat_tests, h))
+  | false ↦ λ e. found_length n ts bytes s (grind (arith, nat_tests, h)) e
+]
 
 -- a long sign is found before any short one
 pub finds_each_sign : (s : Sign) (rest : List ℕ) → ((length (sign_spelling s) ≡ 2) × (sign_among LONG_SIGNS (sign_spelling s ++ rest) ≡ Some s)) ⊎ ((length (sign_spelling s) ≡ 1) × (sign_among SHORT_SIGNS (sign_spelling s ++ rest) ≡ Some s))
@@ -127,22 +130,24 @@ sign_length s = elim (finds_each_sign s []) as (λ _. (1 ≤ length (sign_spelli
 
 pub long_sign_found : (bytes : List ℕ) (s : Sign) → sign_among LONG_SIGNS bytes ≡ Some s → BeginsWithSign bytes s
 long_sign_found bytes s e =
-  let long : length (sign_spelling s) ≡ 2 = found_length 2 LONG_SIGNS bytes s refl e in
-  record { rest = drop (length (sign_spelling s)) bytes; cut = is_sign_found LONG_SIGNS bytes s e; longest = λ other after q. omega (arith, (sign_length other).1, long) }
+    let long : length (sign_spelling s) ≡ 2 = found_length 2 LONG_SIGNS bytes s refl e in
+    record { rest = drop (length (sign_spelling s)) bytes; cut = is_sign_found LONG_SIGNS bytes s e; longest = λ other after q. omega (arith, (sign_length other).1, long) }
 
 pub short_sign_found : (bytes : List ℕ) (s : Sign) → sign_among LONG_SIGNS bytes ≡ None → sign_among SHORT_SIGNS bytes ≡ Some s → BeginsWithSign bytes s
 short_sign_found bytes s none e =
-  record { rest = drop (length (sign_spelling s)) bytes; cut = is_sign_found SHORT_SIGNS bytes s e; longest = longest }
+    record { rest = drop (length (sign_spelling s)) bytes; cut = is_sign_found SHORT_SIGNS bytes s e; longest = longest }
   where
     longest : (other : Sign) (after : List ℕ) → bytes ≡ sign_spelling other ++ after → length (sign_spelling other) ≤ length (sign_spelling s)
     longest other after q = elim (finds_each_sign other after) as (λ _. length (sign_spelling other) ≤ length (sign_spelling s)) [
-        inl x ↦ (let found : sign_among LONG_SIGNS bytes ≡ Some other = ap (sign_among LONG_SIGNS) q ∙ x.1 in absurd cc)
-      | inr x ↦ omega (arith, x.0, (sign_length s).0) ]
+      | inl x ↦ (let found : sign_among LONG_SIGNS bytes ≡ Some other = ap (sign_among LONG_SIGNS) q ∙ x.1 in absurd cc)
+      | inr x ↦ omega (arith, x.0, (sign_length s).0)
+    ]
 
 pub no_sign_found : (bytes : List ℕ) → sign_among LONG_SIGNS bytes ≡ None → sign_among SHORT_SIGNS bytes ≡ None → (other : Sign) (after : List ℕ) → bytes ≢ sign_spelling other ++ after
 no_sign_found bytes long short other after q = elim (finds_each_sign other after) as (λ _. ⊥) [
-    inl x ↦ (let found : sign_among LONG_SIGNS bytes ≡ Some other = ap (sign_among LONG_SIGNS) q ∙ x.1 in absurd cc)
-  | inr x ↦ (let found : sign_among SHORT_SIGNS bytes ≡ Some other = ap (sign_among SHORT_SIGNS) q ∙ x.1 in absurd cc) ]
+  | inl x ↦ (let found : sign_among LONG_SIGNS bytes ≡ Some other = ap (sign_among LONG_SIGNS) q ∙ x.1 in absurd cc)
+  | inr x ↦ (let found : sign_among SHORT_SIGNS bytes ≡ Some other = ap (sign_among SHORT_SIGNS) q ∙ x.1 in absurd cc)
+]
 
 pub short_signs_searched : (bytes : List ℕ) (found : Option Sign) → sign_among LONG_SIGNS bytes ≡ None → found ≡ sign_among SHORT_SIGNS bytes → FindsSign bytes found
 short_signs_searched bytes (Some s) long e = short_sign_found bytes s long (sym e)

@@ -15,19 +15,21 @@ value_grows base before (d ∷ digits) h = let more : before * base + digit_valu
 -- past the limit, the digits that follow do not come back below it
 pub passes_limit : (limit base before whole : ℕ) (digits : List ℕ) (i : ℕ) → 1 ≤ base → i < length digits → value_after base before (drop i digits) ≡ whole → (before * base + digit_value (get_or digits i 0) < limit → ⊥) → number_below limit whole ≡ None
 passes_limit limit base before whole digits i one within e past =
-  let step : value_after base (before * base + digit_value (get_or digits i 0)) (drop (suc i) digits) ≡ whole = subst (λ ds. value_after base before ds ≡ whole) (drop-cons digits i 0 within) e in
-  let grows : before * base + digit_value (get_or digits i 0) ≤ whole = subst (λ n. before * base + digit_value (get_or digits i 0) ≤ n) step (value_grows base (before * base + digit_value (get_or digits i 0)) (drop (suc i) digits) one) in
-  grind (arith, nat_tests)
+    let step : value_after base (before * base + digit_value (get_or digits i 0)) (drop (suc i) digits) ≡ whole = subst (λ ds. value_after base before ds ≡ whole) (drop-cons digits i 0 within) e in
+    let grows : before * base + digit_value (get_or digits i 0) ≤ whole = subst (λ n. before * base + digit_value (get_or digits i 0) ≤ n) step (value_grows base (before * base + digit_value (get_or digits i 0)) (drop (suc i) digits) one) in
+    grind (arith, nat_tests)
 
 pub stays_below : (limit n : ℕ) → n < limit → Some n ≡ number_below limit n
 stays_below limit n h = grind (arith, nat_tests)
 
 pub below_some : (limit n found : ℕ) → Some found ≡ number_below limit n → (found ≡ n) × (n < limit)
 below_some limit n found e = elim (nat_lt n limit) as (λ b. nat_lt n limit ≡ b → Some found ≡ cond b (Some n) None → (found ≡ n) × (n < limit)) [
-    true ↦ λ below e. (cc, grind (arith, nat_tests, below))
-  | false ↦ λ _ e. absurd cc ] refl e
+  | true ↦ λ below e. (cc, grind (arith, nat_tests, below))
+  | false ↦ λ _ e. absurd cc
+] refl e
 
 pub below_none : (limit n : ℕ) → None ≡ number_below limit n → n < limit → ⊥
 below_none limit n e below = elim (nat_lt n limit) as (λ b. nat_lt n limit ≡ b → None ≡ cond b (Some n) None → ⊥) [
-    true ↦ λ _ e. absurd cc
-  | false ↦ λ past _. grind (arith, nat_tests, past, below) ] refl e
+  | true ↦ λ _ e. absurd cc
+  | false ↦ λ past _. grind (arith, nat_tests, past, below)
+] refl e

@@ -31,6 +31,7 @@ word_reaches second text l other longer after s q = reach s q
   where
     run : (bytes : List ℕ) → every is_in_word bytes ≡ true → text ≡ bytes ++ after → length bytes ≤ prefix_len is_in_word text
     run bytes w q = subst (λ text. length bytes ≤ prefix_len is_in_word text) (sym q) (every_reaches is_in_word bytes after w)
+
     reach : {bytes : List ℕ} {t : Token} → Spells second bytes t → text ≡ bytes ++ after → length bytes ≤ prefix_len is_in_word text
     reach (a_keyword k _) q = run (keyword_spelling k) (keyword_begins k).1 q
     reach (a_name b bytes l w _) q = run (b ∷ bytes) (name_in_word b bytes l w) q
@@ -46,9 +47,9 @@ digits_reach second text d plain other longer after s q = reach s q
     reach (a_name b bytes l w _) q = absurd (apart is_letter is_digit letter_no_digit l d (sym q))
     reach (a_decimal e digits h) q = subst (λ text. length (e ∷ digits) ≤ prefix_len is_digit text) (sym q) (every_reaches is_digit (e ∷ digits) after h)
     reach (a_hexadecimal e digits h) q = (
-      let first : is_hexadecimal_digit e ≡ false = subst (λ text. begins_hexadecimal text ≡ false) q plain in
-      let clash = both (is_hexadecimal_digit e) (every is_hexadecimal_digit digits) h in
-      absurd cc)
+        let first : is_hexadecimal_digit e ≡ false = subst (λ text. begins_hexadecimal text ≡ false) q plain in
+        let clash = both (is_hexadecimal_digit e) (every is_hexadecimal_digit digits) h in
+        absurd cc)
     reach (a_sign s) q = absurd (apart is_digit is_mark digit_no_mark d (begins_more is_mark (sign_spelling s) after (sign_begins s)) q)
 
 -- a text that begins with `0x` and a hexadecimal digit
@@ -63,28 +64,29 @@ is_hexadecimal [] h = absurd cc
 is_hexadecimal (a ∷ []) h = absurd cc
 is_hexadecimal (a ∷ b ∷ []) h = absurd cc
 is_hexadecimal (a ∷ b ∷ d ∷ more) h =
-  let zero_first = both (nat_eq a 48 && nat_eq b 120) (is_hexadecimal_digit d) h in
-  let ways = both (nat_eq a 48) (nat_eq b 120) zero_first.0 in
-  let e : a ≡ 48 = grind (arith, nat_tests, ways.0) in
-  let f : b ≡ 120 = grind (arith, nat_tests, ways.1) in
-  record { first = d; more = more; is = cc; digit = zero_first.1 }
+    let zero_first = both (nat_eq a 48 && nat_eq b 120) (is_hexadecimal_digit d) h in
+    let ways = both (nat_eq a 48) (nat_eq b 120) zero_first.0 in
+    let e : a ≡ 48 = grind (arith, nat_tests, ways.0) in
+    let f : b ≡ 120 = grind (arith, nat_tests, ways.1) in
+    record { first = d; more = more; is = cc; digit = zero_first.1 }
 
 pub hexadecimal_reaches : (second : Bool) (text : List ℕ) → begins_hexadecimal text ≡ true → Reaches second text (2 + prefix_len is_hexadecimal_digit (drop 2 text))
 hexadecimal_reaches second text x other longer after s q = reach s q
   where
     zero_first : 48 ∷ 120 ∷ (is_hexadecimal text x).first ∷ (is_hexadecimal text x).more ≡ text
     zero_first = sym (is_hexadecimal text x).is
+
     reach : {bytes : List ℕ} {t : Token} → Spells second bytes t → text ≡ bytes ++ after → length bytes ≤ 2 + prefix_len is_hexadecimal_digit (drop 2 text)
     reach (a_keyword k _) q = absurd (apart is_letter is_digit letter_no_digit (begins_more is_letter (keyword_spelling k) after (keyword_begins k).0) refl (sym q ∙ sym zero_first))
     reach (a_name b bytes l w _) q = absurd (apart is_letter is_digit letter_no_digit {bytes = b ∷ (bytes ++ after)} l refl (sym q ∙ sym zero_first))
     reach (a_decimal e [] h) q = omega arith
     reach (a_decimal e (f ∷ digits) h) q = (
-      let two : e ∷ f ∷ (digits ++ after) ≡ 48 ∷ 120 ∷ (is_hexadecimal text x).first ∷ (is_hexadecimal text x).more = sym q ∙ sym zero_first in
-      let same : f ≡ 120 = cc in
-      let more = both (is_digit e) (is_digit f && every is_digit digits) h in
-      let digit = both (is_digit f) (every is_digit digits) more.1 in
-      let clash : is_digit 120 ≡ true = subst (λ f. is_digit f ≡ true) same digit.0 in
-      absurd cc)
+        let two : e ∷ f ∷ (digits ++ after) ≡ 48 ∷ 120 ∷ (is_hexadecimal text x).first ∷ (is_hexadecimal text x).more = sym q ∙ sym zero_first in
+        let same : f ≡ 120 = cc in
+        let more = both (is_digit e) (is_digit f && every is_digit digits) h in
+        let digit = both (is_digit f) (every is_digit digits) more.1 in
+        let clash : is_digit 120 ≡ true = subst (λ f. is_digit f ≡ true) same digit.0 in
+        absurd cc)
     reach (a_hexadecimal e digits h) q = subst (λ text. suc (suc (length (e ∷ digits))) ≤ 2 + prefix_len is_hexadecimal_digit (drop 2 text)) (sym q) (omega (arith, every_reaches is_hexadecimal_digit (e ∷ digits) after h))
     reach (a_sign s) q = absurd (apart is_digit is_mark digit_no_mark {bytes = 48 ∷ 120 ∷ (is_hexadecimal text x).first ∷ (is_hexadecimal text x).more} refl (begins_more is_mark (sign_spelling s) after (sign_begins s)) (zero_first ∙ q))
 
@@ -93,6 +95,7 @@ sign_reaches second text s front other longer after spelled q = reach spelled q
   where
     mark : begins is_mark (sign_spelling s ++ front.rest) ≡ true
     mark = begins_more is_mark (sign_spelling s) front.rest (sign_begins s)
+
     reach : {bytes : List ℕ} {t : Token} → Spells second bytes t → text ≡ bytes ++ after → length bytes ≤ length (sign_spelling s)
     reach (a_keyword k _) q = absurd (apart is_letter is_mark letter_no_mark (begins_more is_letter (keyword_spelling k) after (keyword_begins k).0) mark (sym q ∙ front.cut))
     reach (a_name b bytes l w _) q = absurd (apart is_letter is_mark letter_no_mark {bytes = b ∷ (bytes ++ after)} l mark (sym q ∙ front.cut))

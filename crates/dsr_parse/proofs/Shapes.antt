@@ -22,23 +22,24 @@ both false b e = absurd cc
 pub every_front : (passes : ℕ → Bool) (bytes : List ℕ) → every passes (take (prefix_len passes bytes) bytes) ≡ true
 every_front passes [] = refl
 every_front passes (b ∷ bytes) = elim (passes b) as (λ x. passes b ≡ x → every passes (take (cond x (1 + prefix_len passes bytes) 0) (b ∷ bytes)) ≡ true) [
-    true ↦ λ e. (
+  | true ↦ λ e. (
       let more : suc (prefix_len passes bytes) ≡ 1 + prefix_len passes bytes = omega arith in
       let front : (passes b && every passes (take (prefix_len passes bytes) bytes)) ≡ true = rw e (every_front passes bytes) in
       subst (λ n. every passes (take n (b ∷ bytes)) ≡ true) more front)
-  | false ↦ λ e. refl ] refl
+  | false ↦ λ e. refl
+] refl
 
 pub every_reaches : (passes : ℕ → Bool) (bytes after : List ℕ) → every passes bytes ≡ true → length bytes ≤ prefix_len passes (bytes ++ after)
 every_reaches passes [] after h = omega arith
 every_reaches passes (b ∷ bytes) after h =
-  let parts = both (passes b) (every passes bytes) h in
-  rw parts.0 (omega (arith, every_reaches passes bytes after parts.1))
+    let parts = both (passes b) (every passes bytes) h in
+    rw parts.0 (omega (arith, every_reaches passes bytes after parts.1))
 
 pub every_as : (f g : ℕ → Bool) → ((b : ℕ) → f b ≡ true → g b ≡ true) → (bytes : List ℕ) → every f bytes ≡ true → every g bytes ≡ true
 every_as f g also [] h = refl
 every_as f g also (b ∷ bytes) h =
-  let parts = both (f b) (every f bytes) h in
-  rw (also b parts.0) (every_as f g also bytes parts.1)
+    let parts = both (f b) (every f bytes) h in
+    rw (also b parts.0) (every_as f g also bytes parts.1)
 
 -- a byte that begins a sign
 abbrev pub is_mark : ℕ → Bool
@@ -147,12 +148,15 @@ same_keyword j k q = let found : Some j ≡ Some k = sym (finds_each_keyword j) 
 
 same_sign : (s t : Sign) → sign_spelling s ≡ sign_spelling t → s ≡ t
 same_sign s t q = elim (finds_each_sign s []) as (λ _. s ≡ t) [
-    inl x ↦ elim (finds_each_sign t []) as (λ _. s ≡ t) [
-        inl y ↦ (let found : Some s ≡ Some t = sym x.1 ∙ (ap (λ bytes. sign_among LONG_SIGNS (bytes ++ [])) q ∙ y.1) in cc)
-      | inr y ↦ absurd (omega (arith, x.0, y.0, ap length q)) ]
+  | inl x ↦ elim (finds_each_sign t []) as (λ _. s ≡ t) [
+    | inl y ↦ (let found : Some s ≡ Some t = sym x.1 ∙ (ap (λ bytes. sign_among LONG_SIGNS (bytes ++ [])) q ∙ y.1) in cc)
+    | inr y ↦ absurd (omega (arith, x.0, y.0, ap length q))
+  ]
   | inr x ↦ elim (finds_each_sign t []) as (λ _. s ≡ t) [
-        inl y ↦ absurd (omega (arith, x.0, y.0, ap length q))
-      | inr y ↦ (let found : Some s ≡ Some t = sym x.1 ∙ (ap (λ bytes. sign_among SHORT_SIGNS (bytes ++ [])) q ∙ y.1) in cc) ] ]
+    | inl y ↦ absurd (omega (arith, x.0, y.0, ap length q))
+    | inr y ↦ (let found : Some s ≡ Some t = sym x.1 ∙ (ap (λ bytes. sign_among SHORT_SIGNS (bytes ++ [])) q ∙ y.1) in cc)
+  ]
+]
 
 decimal_no_hexadecimal : (d : ℕ) (digits : List ℕ) (e : ℕ) (others : List ℕ) → every is_digit (d ∷ digits) ≡ true → d ∷ digits ≡ 48 ∷ 120 ∷ e ∷ others → ⊥
 decimal_no_hexadecimal d digits e others h q = let clash : false ≡ true = subst (λ bytes. every is_digit bytes ≡ true) q h in absurd cc

@@ -60,29 +60,29 @@ line_once : (bytes others rest left : List ℕ) → every (λ b. not (nat_eq b 1
 line_once [] [] rest left _ _ _ _ q = (refl, q)
 line_once [] (b ∷ others) [] left _ _ _ _ q = absurd cc
 line_once [] (b ∷ others) (c ∷ rest) left _ w ends _ q =
-  let same : b ≡ 10 = cc in
-  let clash = (both (not (nat_eq b 10)) (every (λ b. not (nat_eq b 10)) others) w).0 in
-  absurd (grind (arith, nat_tests, clash, same))
+    let same : b ≡ 10 = cc in
+    let clash = (both (not (nat_eq b 10)) (every (λ b. not (nat_eq b 10)) others) w).0 in
+    absurd (grind (arith, nat_tests, clash, same))
 line_once (b ∷ bytes) [] rest [] _ _ _ _ q = absurd cc
 line_once (b ∷ bytes) [] rest (c ∷ left) v _ _ ends q =
-  let same : b ≡ 10 = cc in
-  let clash = (both (not (nat_eq b 10)) (every (λ b. not (nat_eq b 10)) bytes) v).0 in
-  absurd (grind (arith, nat_tests, clash, same))
+    let same : b ≡ 10 = cc in
+    let clash = (both (not (nat_eq b 10)) (every (λ b. not (nat_eq b 10)) bytes) v).0 in
+    absurd (grind (arith, nat_tests, clash, same))
 line_once (b ∷ bytes) (c ∷ others) rest left v w ends stops q =
-  let first : b ≡ c = cc in
-  let more : bytes ++ rest ≡ others ++ left = cc in
-  let same = line_once bytes others rest left (both (not (nat_eq b 10)) (every (λ b. not (nat_eq b 10)) bytes) v).1 (both (not (nat_eq c 10)) (every (λ b. not (nat_eq b 10)) others) w).1 ends stops more in
-  (cc, same.1)
+    let first : b ≡ c = cc in
+    let more : bytes ++ rest ≡ others ++ left = cc in
+    let same = line_once bytes others rest left (both (not (nat_eq b 10)) (every (λ b. not (nat_eq b 10)) bytes) v).1 (both (not (nat_eq c 10)) (every (λ b. not (nat_eq b 10)) others) w).1 ends stops more in
+    (cc, same.1)
 
 stands_once : (second : Bool) (bytes others rest left : List ℕ) (t u : Token) (place at : ℕ) → Stands second bytes t rest → Stands second others u left → place ≡ at → bytes ++ rest ≡ others ++ left → SameStep bytes others rest left (record { token = t; place = place } ∷ []) (record { token = u; place = at } ∷ [])
 stands_once second bytes others rest left t u place at one other here q =
-  let below : length others ≤ length bytes = one.longest u others left other.spelled q in
-  let above : length bytes ≤ length others = other.longest t bytes rest one.spelled (sym q) in
-  let size : length others ≡ length bytes = omega arith in
-  let same : bytes ≡ others = sym (take-append_seam bytes rest) ∙ (ap (take (length bytes)) q ∙ take_at others left (length bytes) size) in
-  let after : rest ≡ left = sym (drop-append_seam bytes rest) ∙ (ap (drop (length bytes)) q ∙ drop_at others left (length bytes) size) in
-  let token_same : t ≡ u = spelled_once second one.spelled other.spelled same in
-  record { bytes_same = same; rest_same = after; found_same = cc }
+    let below : length others ≤ length bytes = one.longest u others left other.spelled q in
+    let above : length bytes ≤ length others = other.longest t bytes rest one.spelled (sym q) in
+    let size : length others ≡ length bytes = omega arith in
+    let same : bytes ≡ others = sym (take-append_seam bytes rest) ∙ (ap (take (length bytes)) q ∙ take_at others left (length bytes) size) in
+    let after : rest ≡ left = sym (drop-append_seam bytes rest) ∙ (ap (drop (length bytes)) q ∙ drop_at others left (length bytes) size) in
+    let token_same : t ≡ u = spelled_once second one.spelled other.spelled same in
+    record { bytes_same = same; rest_same = after; found_same = cc }
 
 pub begins_once : (second : Bool) {place at : ℕ} {bytes others rest left : List ℕ} {found more : List Lexeme} → Begins second place bytes rest found → Begins second at others left more → place ≡ at → bytes ++ rest ≡ others ++ left → SameStep bytes others rest left found more
 begins_once second (a_blank b rest _) (a_blank c left _) here q = record { bytes_same = cc; rest_same = cc; found_same = refl }
@@ -90,8 +90,8 @@ begins_once second (a_blank b rest h) (a_comment others left _ _) here q = let s
 begins_once second (a_blank b rest h) (a_token others left t stands) here q = absurd (spelled_no_gap second left (b ∷ rest) stands.spelled (sym q) (blank_gap b h))
 begins_once second (a_comment bytes rest _ _) (a_blank c left h) here q = let same : c ≡ 35 = cc in absurd (grind (arith, nat_tests, h, same))
 begins_once second (a_comment bytes rest v ends) (a_comment others left w stops) here q =
-  let same = line_once bytes others rest left v w ends stops cc in
-  record { bytes_same = ap (λ bytes. 35 ∷ bytes) same.0; rest_same = same.1; found_same = refl }
+    let same = line_once bytes others rest left v w ends stops cc in
+    record { bytes_same = ap (λ bytes. 35 ∷ bytes) same.0; rest_same = same.1; found_same = refl }
 begins_once second (a_comment bytes rest _ _) (a_token others left t stands) here q = absurd (spelled_no_gap second left (35 ∷ (bytes ++ rest)) stands.spelled (sym q) refl)
 begins_once second (a_token bytes rest t stands) (a_blank c left h) here q = absurd (spelled_no_gap second rest (c ∷ left) stands.spelled q (blank_gap c h))
 begins_once second (a_token bytes rest t stands) (a_comment others left _ _) here q = absurd (spelled_no_gap second rest (35 ∷ (others ++ left)) stands.spelled q refl)
@@ -121,20 +121,25 @@ blank_found (b ∷ rest) some h = record { some = omega arith; fits = omega arit
 line_ends : (line : List ℕ) → EndsLine (drop (prefix_len (λ b. not (nat_eq b 10)) line) line)
 line_ends [] = tt
 line_ends (b ∷ line) = elim (nat_eq b 10) as (λ x. nat_eq b 10 ≡ x → EndsLine (drop (cond (not x) (1 + prefix_len (λ b. not (nat_eq b 10)) line) 0) (b ∷ line))) [
-    true ↦ λ e. grind (arith, nat_tests, e)
+  | true ↦ λ e. grind (arith, nat_tests, e)
   | false ↦ λ _. (
       let more : suc (prefix_len (λ b. not (nat_eq b 10)) line) ≡ 1 + prefix_len (λ b. not (nat_eq b 10)) line = omega arith in
-      subst (λ n. EndsLine (drop n (b ∷ line))) more (line_ends line)) ] refl
+      subst (λ n. EndsLine (drop n (b ∷ line))) more (line_ends line))
+] refl
 
 pub comment_found : (text : List ℕ) (n : ℕ) → 0 < length text → get_or text 0 0 ≡ 35 → n ≡ prefix_len (λ b. not (nat_eq b 10)) text → IsGap text n
 comment_found [] n some h run = absurd (omega arith)
 comment_found (b ∷ line) n some h run =
-  let len : n ≡ suc (prefix_len (λ b. not (nat_eq b 10)) line) = subst (λ b. n ≡ prefix_len (λ b. not (nat_eq b 10)) (b ∷ line) → n ≡ suc (prefix_len (λ b. not (nat_eq b 10)) line)) (sym h) (λ run. omega (arith, run)) run in
-  let fits : n ≤ length (b ∷ line) = omega (arith, len, prefix_len-le-length (λ b. not (nat_eq b 10)) line) in
-  record { some = omega arith; fits = fits; begins = λ second place.
-    subst (λ len. Begins second place (take len (b ∷ line)) (drop len (b ∷ line)) []) (sym len)
-      (subst (λ b. Begins second place (b ∷ take (prefix_len (λ b. not (nat_eq b 10)) line) line) (drop (prefix_len (λ b. not (nat_eq b 10)) line) line) []) (sym h)
-        (a_comment (take (prefix_len (λ b. not (nat_eq b 10)) line) line) (drop (prefix_len (λ b. not (nat_eq b 10)) line) line) (every_front (λ b. not (nat_eq b 10)) line) (line_ends line))) }
+    let len : n ≡ suc (prefix_len (λ b. not (nat_eq b 10)) line) = subst (λ b. n ≡ prefix_len (λ b. not (nat_eq b 10)) (b ∷ line) → n ≡ suc (prefix_len (λ b. not (nat_eq b 10)) line)) (sym h) (λ run. omega (arith, run)) run in
+    let fits : n ≤ length (b ∷ line) = omega (arith, len, prefix_len-le-length (λ b. not (nat_eq b 10)) line) in
+    record {
+      some = omega arith;
+      fits = fits;
+      begins = λ second place.
+          subst (λ len. Begins second place (take len (b ∷ line)) (drop len (b ∷ line)) []) (sym len)
+          (subst (λ b. Begins second place (b ∷ take (prefix_len (λ b. not (nat_eq b 10)) line) line) (drop (prefix_len (λ b. not (nat_eq b 10)) line) line) []) (sym h)
+          (a_comment (take (prefix_len (λ b. not (nat_eq b 10)) line) line) (drop (prefix_len (λ b. not (nat_eq b 10)) line) line) (every_front (λ b. not (nat_eq b 10)) line) (line_ends line)));
+    }
 
 pub no_gap_found : (text : List ℕ) → 0 < length text → is_blank (get_or text 0 0) ≡ false → (get_or text 0 0 ≡ 35 → ⊥) → FindsGap text None
 no_gap_found [] some h other = absurd (omega arith)
@@ -143,13 +148,13 @@ no_gap_found (b ∷ rest) some h other = no_gap (b ∷ rest) (grind (arith, nat_
 -- a step over a blank or a comment
 pub gap_step : (lexemes : List Lexeme) (text : List ℕ) (place len : ℕ) → IsGap (take (length text - place) (drop place text)) len → place < length text → Steps lexemes lexemes text place (place + len)
 gap_step lexemes text place len gap within =
-  let behind : take (length text - place) (drop place text) ≡ drop place text = take_all (length text - place) (drop place text) (omega (arith, length-drop place text)) in
-  let gap = subst (λ rest. IsGap rest len) behind gap in
-  record { len = len; found = []; begins = gap.begins (is_second_version lexemes) place; added = sym (append-nil lexemes); is = refl; further = omega (arith, gap.some); fits = omega (arith, gap.fits, length-drop place text) }
+    let behind : take (length text - place) (drop place text) ≡ drop place text = take_all (length text - place) (drop place text) (omega (arith, length-drop place text)) in
+    let gap = subst (λ rest. IsGap rest len) behind gap in
+    record { len = len; found = []; begins = gap.begins (is_second_version lexemes) place; added = sym (append-nil lexemes); is = refl; further = omega (arith, gap.some); fits = omega (arith, gap.fits, length-drop place text) }
 
 -- a step over a token
 pub token_step : (lexemes new : List Lexeme) (text : List ℕ) (place len : ℕ) (t : Token) → StandsAt (is_second_version lexemes) (take (length text - place) (drop place text)) t len → place < length text → new ≡ lexemes ++ record { token = t; place = place } ∷ [] → Steps lexemes new text place (place + len)
 token_step lexemes new text place len t at within added =
-  let behind : take (length text - place) (drop place text) ≡ drop place text = take_all (length text - place) (drop place text) (omega (arith, length-drop place text)) in
-  let at = subst (λ rest. StandsAt (is_second_version lexemes) rest t len) behind at in
-  record { len = len; found = record { token = t; place = place } ∷ []; begins = a_token (take len (drop place text)) (drop len (drop place text)) t at.stands; added = added; is = refl; further = omega (arith, at.some); fits = omega (arith, at.fits, length-drop place text) }
+    let behind : take (length text - place) (drop place text) ≡ drop place text = take_all (length text - place) (drop place text) (omega (arith, length-drop place text)) in
+    let at = subst (λ rest. StandsAt (is_second_version lexemes) rest t len) behind at in
+    record { len = len; found = record { token = t; place = place } ∷ []; begins = a_token (take len (drop place text)) (drop len (drop place text)) t at.stands; added = added; is = refl; further = omega (arith, at.some); fits = omega (arith, at.fits, length-drop place text) }

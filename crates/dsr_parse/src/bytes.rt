@@ -66,7 +66,10 @@ pub fn digits_len(bytes: &[u8]) -> usize
 pub fn hexadecimal_len(bytes: &[u8]) -> usize
     ensures { result ≡ prefix_len is_hexadecimal_digit bytes.now }
 {
-    bytes.iter().take_while(|b| is_hexadecimal_byte(**b)).count()
+    bytes
+        .iter()
+        .take_while(|b| is_hexadecimal_byte(**b))
+        .count()
 }
 
 /// How many bytes stand before the first line feed.

@@ -4,6 +4,8 @@
 mod bytes;
 mod lexer;
 mod spellings;
+#[cfg(test)]
+mod texts;
 mod words;
 
 pub use lexer::{TokenFault, tokens};

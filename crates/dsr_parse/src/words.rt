@@ -28,9 +28,7 @@ fn number_of(base: u64, digits: &[u8]) -> Option<u64>
 {
     let mut number: u64 = 0;
     for digit in digits {
-        number = number
-            .checked_mul(base)?
-            .checked_add(digit_number(*digit))?;
+        number = number.checked_mul(base)?.checked_add(digit_number(*digit))?;
     }
     Some(number)
 }

@@ -14,8 +14,8 @@ loop-place-smaller c = omega (arith, c.in_ok-place.ensures.further, c.in_ok-plac
 
 pub returns-in_err-place : goal.returns-in_err-place
 returns-in_err-place c =
-  let passed = err_from_is_err_and c.from_residual.result c.from_residual.ensures.1 in
-  fault_passed c.args.text.now c.loop-place.lexemes.items c.step.new.lexemes.items c.loop-place.place c.in_err-place.field-0.0 c.from_residual.result (passed.1 ∙ ap Err passed.2) c.in_err-place.ensures c.loop-place-test.true c.loop-place.invariant.cut
+    let passed = err_from_is_err_and c.from_residual.result c.from_residual.ensures.1 in
+    fault_passed c.args.text.now c.loop-place.lexemes.items c.step.new.lexemes.items c.loop-place.place c.in_err-place.field-0.0 c.from_residual.result (passed.1 ∙ ap Err passed.2) c.in_err-place.ensures c.loop-place-test.true c.loop-place.invariant.cut
 
 pub returns : goal.returns
 returns c = whole_cut c.args.text.now c.loop-place.lexemes.items c.loop-place.place c.loop-place.invariant.within c.loop-place-test.false c.loop-place.invariant.cut

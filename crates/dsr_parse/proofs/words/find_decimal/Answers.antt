@@ -9,11 +9,11 @@ number_of-requires-clause-digits c = decimal_digits c.args.text.now c.digits_len
 
 pub returns-in_err-number : goal.returns-in_err-number
 returns-in_err-number c second = subst (λ found. FindsFront second c.args.text.now found) (sym c.from_residual.ensures)
-  (number_too_large second c.args.text.now c.digits_len-len.result (value_after 10 0 (take c.digits_len-len.result c.args.text.now))
+    (number_too_large second c.args.text.now c.digits_len-len.result (value_after 10 0 (take c.digits_len-len.result c.args.text.now))
     (decimal_front second c.args.text.now c.digits_len-len.result c.requires.digit c.requires.plain c.digits_len-len.ensures)
     (sym c.in_err-number.was ∙ c.number_of.ensures))
 
 pub returns : goal.returns
 returns c second = number_stands second c.args.text.now c.digits_len-len.result (value_after 10 0 (take c.digits_len-len.result c.args.text.now)) c.in_ok-number.number
-  (decimal_front second c.args.text.now c.digits_len-len.result c.requires.digit c.requires.plain c.digits_len-len.ensures)
-  (sym c.in_ok-number.was ∙ c.number_of.ensures)
+    (decimal_front second c.args.text.now c.digits_len-len.result c.requires.digit c.requires.plain c.digits_len-len.ensures)
+    (sym c.in_ok-number.was ∙ c.number_of.ensures)

@@ -9,11 +9,11 @@ number_of-requires-clause-digits c = hexadecimal_digits (take (length c.args.tex
 
 pub returns-in_err-number : goal.returns-in_err-number
 returns-in_err-number c second = subst (λ found. FindsFront second c.args.text.now found) (sym c.from_residual.ensures)
-  (number_too_large second c.args.text.now (2 + c.hexadecimal_len-len.result) (value_after 16 0 (take c.hexadecimal_len-len.result (take (length c.args.text.now - 2) (drop 2 c.args.text.now))))
+    (number_too_large second c.args.text.now (2 + c.hexadecimal_len-len.result) (value_after 16 0 (take c.hexadecimal_len-len.result (take (length c.args.text.now - 2) (drop 2 c.args.text.now))))
     (hexadecimal_at second c.args.text.now c.hexadecimal_len-len.result c.requires c.hexadecimal_len-len.ensures)
     (sym c.in_err-number.was ∙ c.number_of.ensures))
 
 pub returns : goal.returns
 returns c second = number_stands second c.args.text.now (2 + c.hexadecimal_len-len.result) (value_after 16 0 (take c.hexadecimal_len-len.result (take (length c.args.text.now - 2) (drop 2 c.args.text.now)))) c.in_ok-number.number
-  (hexadecimal_at second c.args.text.now c.hexadecimal_len-len.result c.requires c.hexadecimal_len-len.ensures)
-  (sym c.in_ok-number.was ∙ c.number_of.ensures)
+    (hexadecimal_at second c.args.text.now c.hexadecimal_len-len.result c.requires c.hexadecimal_len-len.ensures)
+    (sym c.in_ok-number.was ∙ c.number_of.ensures)

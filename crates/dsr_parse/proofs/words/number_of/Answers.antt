@@ -13,5 +13,5 @@ returns-in_err-number c = c.from_residual-in_err-number.ensures ∙ sym (passes_
 
 pub returns : goal.returns
 returns c =
-  let is : c.loop-digit.number ≡ value_after c.args.base 0 c.args.digits.now = grind (arith, common_steps) in
-  subst (λ n. Some c.loop-digit.number ≡ number_below 18446744073709551616 n) is (stays_below 18446744073709551616 c.loop-digit.number c.loop-digit.invariant.2)
+    let is : c.loop-digit.number ≡ value_after c.args.base 0 c.args.digits.now = grind (arith, common_steps) in
+    subst (λ n. Some c.loop-digit.number ≡ number_below 18446744073709551616 n) is (stays_below 18446744073709551616 c.loop-digit.number c.loop-digit.invariant.2)

@@ -28,6 +28,10 @@ is_in_word b = is_letter b || is_digit b || nat_eq b 95
 abbrev pub is_blank : ℕ → Bool
 is_blank b = nat_eq b 32 || nat_eq b 9 || nat_eq b 10 || nat_eq b 13
 
+-- any byte but a line feed
+abbrev pub is_in_line : ℕ → Bool
+is_in_line b = not (nat_eq b 10)
+
 -- whether each byte passes
 abbrev pub every : (ℕ → Bool) → List ℕ → Bool
 every passes [] = true
@@ -131,7 +135,7 @@ IsWithinLimits (token.Name bytes) = length bytes ≤ 32
 IsWithinLimits (token.Number n) = n < 2 ^ 64
 IsWithinLimits _ = Unit {0}
 
--- a token in a text, before the rest of it: its spelling is the longest that fits there
+-- a token before the rest of a text: its spelling is the longest that fits there, and it is within the limits
 pub record Stands (second : Bool) (bytes : List ℕ) (found : Token) (rest : List ℕ) : Type 0 where
   pub spelled : Spells second bytes found
   pub longest : (other : Token) (longer after : List ℕ) → Spells second longer other → bytes ++ rest ≡ longer ++ after → length longer ≤ length bytes
@@ -142,10 +146,10 @@ abbrev pub EndsLine : List ℕ → Type 0
 EndsLine [] = Unit {0}
 EndsLine (b ∷ rest) = b ≡ 10
 
--- what stands at a place before the rest of the text, with the tokens in it: a blank, a comment, or a token
+-- what stands at a place before the rest of a text, with its tokens: a blank, a comment from `#` to the end of its line, or a token
 pub data Begins (second : Bool) (place : ℕ) : List ℕ → List ℕ → List Lexeme → Type 0 where
   a_blank : (b : ℕ) (rest : List ℕ) → IsTrue (is_blank b) → Begins second place (b ∷ []) rest []
-  a_comment : (bytes rest : List ℕ) → IsTrue (every (λ b. not (nat_eq b 10)) bytes) → EndsLine rest → Begins second place (35 ∷ bytes) rest []
+  a_comment : (bytes rest : List ℕ) → IsTrue (every is_in_line bytes) → EndsLine rest → Begins second place (35 ∷ bytes) rest []
   a_token : (bytes rest : List ℕ) (found : Token) → Stands second bytes found rest → Begins second place bytes rest (record { token = found; place = place } ∷ [])
 
 -- a text at a place, cut into the tokens of its front and what is left at a later place
@@ -153,10 +157,12 @@ pub data IsCut (second : Bool) : ℕ → List ℕ → List Lexeme → ℕ → Li
   here : {place : ℕ} {text : List ℕ} → IsCut second place text [] place text
   further : {place : ℕ} {bytes rest : List ℕ} {found : List Lexeme} {more : List Lexeme} {to : ℕ} {left : List ℕ} → Begins second place bytes rest found → IsCut second (place + length bytes) rest more to left → IsCut second place (bytes ++ rest) (found ++ more) to left
 
+-- `version`
 abbrev pub is_version : Token → Bool
 is_version (token.Keyword keyword.Version) = true
 is_version _ = false
 
+-- the number 2, however it is written
 abbrev pub is_two : Token → Bool
 is_two (token.Number n) = nat_eq n 2
 is_two _ = false

@@ -1,16 +1,8 @@
 -- A text is cut in one way.
-use Rattle.std.proofs.Common.{◌≡◌, ◌≢◌, ℕ, ◌+◌, ◌<◌, ◌≤◌, List, [], ◌∷◌, ◌++◌, length, take, drop, Bool, true, false, cond, refl, ap, ◌∙◌, sym, subst, IsTrue, arith, append_assoc, map, ◌&&◌, nat_eq, codes, ◌⊎◌, inl, inr}
-use Rattle.std.specs.Str.{bytes_eq}
-use Rattle.std.proofs.lemmas.Slice.Eq.{bytes_eq-Decides}
-use Rattle.std.proofs.lemmas.List.{append-nil, map-append}
-use Rattle.dsr_ir.specs.declared.tokens.Keyword.{Keyword}
-use Rattle.dsr_ir.specs.declared.tokens.Keyword.TheVariants as keyword
-use Rattle.dsr_ir.specs.declared.tokens.Token.{Token}
-use Rattle.dsr_ir.specs.declared.tokens.Token.TheVariants as token
+use Rattle.std.proofs.Common.{◌≡◌, ◌≢◌, ℕ, List, [], ◌++◌, length, Bool, refl, ap, ◌∙◌, sym, subst, arith, append_assoc}
 use Rattle.dsr_ir.specs.declared.tokens.Lexeme.{Lexeme}
-use Rattle.dsr_meaning.specs.Tokens.{keyword_spelling, is_keyword, is_version, is_two, is_second_version, Spells, a_keyword, a_name, a_decimal, a_hexadecimal, a_sign, IsWithinLimits, Stands, Begins, a_blank, a_comment, a_token, IsCut, here, further, IsLexed, HasTokenFault}
-use Rattle.dsr_parse.proofs.Shapes.{same_keyword}
-use Rattle.dsr_parse.proofs.Steps.{SameStep, begins_once, begins_some}
+use Rattle.dsr_meaning.specs.Tokens.{Begins, IsCut, here, further}
+use Rattle.dsr_parse.proofs.Steps.{begins_once, begins_some}
 
 -- one cut behind another
 pub cut_more : (second : Bool) {place at to : ℕ} {text rest left : List ℕ} {found more : List Lexeme} → IsCut second place text found at rest → IsCut second at rest more to left → IsCut second place text (found ++ more) to left

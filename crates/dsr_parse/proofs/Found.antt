@@ -1,20 +1,19 @@
 -- From what a search finds at the front of a text to the token that stands there.
-use Rattle.std.proofs.Common.{◌≡◌, ◌≢◌, ℕ, zero, suc, ◌+◌, ◌-◌, ◌<◌, ◌≤◌, ◌^◌, List, [], ◌∷◌, ◌++◌, length, take, drop, Bool, true, false, ◌&&◌, refl, ap, ◌∙◌, sym, subst, cond, nat_eq, IsTrue, arith, length-append, length-drop, Some, None}
+use Rattle.std.proofs.Common.{◌≡◌, ◌≢◌, ℕ, zero, suc, ◌+◌, ◌-◌, ◌<◌, ◌≤◌, ◌^◌, List, [], ◌∷◌, ◌++◌, length, take, drop, Bool, true, false, refl, ap, ◌∙◌, sym, subst, IsTrue, arith, length-append, length-drop, Some, None}
 use Rattle.std.specs.List.{prefix_len}
 use Rattle.std.proofs.lemmas.List.{take-append-drop, take_at, take_all, length-take-le}
 use Rattle.std.proofs.lemmas.List.Sums.{prefix_len-le-length}
-use Rattle.std.proofs.lemmas.Bool.Decides.{nat_tests}
 use Rattle.dsr_ir.specs.declared.tokens.Keyword.{Keyword}
 use Rattle.dsr_ir.specs.declared.tokens.Sign.{Sign}
 use Rattle.dsr_ir.specs.declared.tokens.Token.{Token}
 use Rattle.dsr_ir.specs.declared.tokens.Token.TheVariants as token
-use Rattle.dsr_meaning.specs.Tokens.{is_letter, is_digit, is_hexadecimal_digit, is_in_word, every, keyword_spelling, sign_spelling, value_after, is_keyword, Spells, a_keyword, a_name, a_decimal, a_hexadecimal, a_sign, IsWithinLimits, Stands}
+use Rattle.dsr_meaning.specs.Tokens.{is_letter, is_digit, is_hexadecimal_digit, is_in_word, every, keyword_spelling, sign_spelling, value_after, is_keyword, Spells, a_keyword, a_name, a_decimal, a_hexadecimal, a_sign, IsWithinLimits}
 use Rattle.dsr_parse.specs.Front.{begins, begins_hexadecimal, number_below, StandsAt, NoneStands}
 use Rattle.dsr_parse.specs.Spelled.{BeginsWithSign}
 use Rattle.dsr_parse.proofs.Lookups.{sign_some}
 use Rattle.dsr_parse.proofs.Numbers.{below_some, below_none}
 use Rattle.dsr_parse.proofs.Shapes.{both, every_front, every_as, digit_is_hexadecimal, keyword_begins, spelled_once}
-use Rattle.dsr_parse.proofs.Reaches.{Reaches, begins_more, letter_in_word, word_reaches, digits_reach, hexadecimal_reaches, sign_reaches, IsHexadecimal, is_hexadecimal}
+use Rattle.dsr_parse.proofs.Reaches.{Reaches, begins_more, letter_in_word, word_reaches, digits_reach, hexadecimal_reaches, sign_reaches, is_hexadecimal}
 
 -- the first bytes of a text spell a token, and no token there is longer
 pub record SpellsFront (second : Bool) (text : List ℕ) (t : Token) (n : ℕ) : Type 0 where

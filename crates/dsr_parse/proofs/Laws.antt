@@ -1,5 +1,5 @@
 -- A text has one list of tokens, or one fault.
-use Rattle.std.proofs.Common.{◌≡◌, ◌≢◌, ℕ, ◌+◌, ◌≤◌, List, [], ◌∷◌, ◌++◌, length, Bool, true, false, ◌&&◌, refl, ap, ◌∙◌, sym, subst, arith, map, ◌⊎◌, inl, inr}
+use Rattle.std.proofs.Common.{◌≡◌, ℕ, ◌+◌, List, [], ◌∷◌, ◌++◌, length, Bool, true, false, ◌&&◌, refl, ap, ◌∙◌, sym, subst, map, ◌⊎◌, inl, inr}
 use Rattle.dsr_ir.specs.declared.tokens.Token.{Token}
 use Rattle.dsr_ir.specs.declared.tokens.Token.TheVariants as token
 use Rattle.std.proofs.lemmas.List.{append-nil}

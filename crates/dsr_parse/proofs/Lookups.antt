@@ -1,9 +1,8 @@
 -- What is found by its spelling.
-use Rattle.std.proofs.Common.{◌≡◌, ◌≢◌, ◌⊎◌, inl, inr, ℕ, ◌+◌, ◌<◌, ◌≤◌, List, [], ◌∷◌, ◌++◌, length, take, drop, Bool, true, false, Option, Some, None, refl, ap, ◌∙◌, sym, cond, not, ◌&&◌, nat_eq, subst, IsTrue, arith}
+use Rattle.std.proofs.Common.{◌≡◌, ◌≢◌, ◌⊎◌, inl, inr, ℕ, ◌<◌, ◌≤◌, List, [], ◌∷◌, ◌++◌, length, take, drop, Bool, true, false, Option, Some, None, refl, ap, ◌∙◌, sym, cond, ◌&&◌, nat_eq, subst, IsTrue, arith}
 use Rattle.std.proofs.lemmas.Bool.Decides.{nat_tests}
 use Rattle.std.specs.List.{starts_with}
 use Rattle.std.specs.Str.{bytes_eq}
-use Rattle.std.proofs.Math.Seq.{take-append_seam}
 use Rattle.std.proofs.lemmas.List.{take-append-drop}
 use Rattle.std.proofs.lemmas.Slice.Eq.{bytes_eq-Decides}
 use Rattle.dsr_ir.specs.declared.tokens.Keyword.{Keyword}
@@ -11,7 +10,7 @@ use Rattle.dsr_ir.specs.declared.tokens.Keyword.TheVariants as keyword
 use Rattle.dsr_ir.specs.declared.tokens.Sign.{Sign}
 use Rattle.dsr_ir.specs.declared.tokens.Sign.TheVariants as sign
 use Rattle.dsr_meaning.specs.Tokens.{keyword_spelling, sign_spelling, is_keyword}
-use Rattle.dsr_parse.specs.Spelled.{keyword_among, sign_among, FindsKeyword, BeginsWithSign, FindsSign}
+use Rattle.dsr_parse.specs.Spelled.{keyword_among, sign_among, BeginsWithSign, FindsSign}
 use Rattle.dsr_parse.specs.declared.spellings.TheConstants.{KEYWORDS, LONG_SIGNS, SHORT_SIGNS}
 
 -- a keyword is found by its own spelling

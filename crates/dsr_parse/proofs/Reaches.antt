@@ -1,16 +1,13 @@
 -- The longest token at the front of a text.
-use Rattle.std.proofs.Common.{◌≡◌, ◌≢◌, ℕ, suc, ◌+◌, ◌<◌, ◌≤◌, ◌^◌, List, [], ◌∷◌, ◌++◌, length, take, drop, Bool, true, false, ◌&&◌, refl, ap, ◌∙◌, sym, subst, nat_eq, IsTrue, arith, length-append, length-take}
+use Rattle.std.proofs.Common.{◌≡◌, ℕ, suc, ◌+◌, ◌≤◌, List, [], ◌∷◌, ◌++◌, length, drop, Bool, true, false, ◌&&◌, refl, ◌∙◌, sym, subst, nat_eq, arith}
 use Rattle.std.specs.List.{prefix_len}
-use Rattle.std.proofs.lemmas.List.{take-append-drop, take_at}
 use Rattle.std.proofs.lemmas.Bool.Decides.{nat_tests}
-use Rattle.dsr_ir.specs.declared.tokens.Keyword.{Keyword}
 use Rattle.dsr_ir.specs.declared.tokens.Sign.{Sign}
 use Rattle.dsr_ir.specs.declared.tokens.Token.{Token}
-use Rattle.dsr_ir.specs.declared.tokens.Token.TheVariants as token
-use Rattle.dsr_meaning.specs.Tokens.{is_letter, is_digit, is_hexadecimal_digit, is_in_word, every, keyword_spelling, sign_spelling, value_after, is_keyword, Spells, a_keyword, a_name, a_decimal, a_hexadecimal, a_sign, IsWithinLimits, Stands}
-use Rattle.dsr_parse.specs.Front.{begins, begins_hexadecimal, StandsAt, NoneStands}
+use Rattle.dsr_meaning.specs.Tokens.{is_letter, is_digit, is_hexadecimal_digit, is_in_word, every, keyword_spelling, sign_spelling, Spells, a_keyword, a_name, a_decimal, a_hexadecimal, a_sign}
+use Rattle.dsr_parse.specs.Front.{begins, begins_hexadecimal}
 use Rattle.dsr_parse.specs.Spelled.{BeginsWithSign}
-use Rattle.dsr_parse.proofs.Shapes.{both, every_front, every_reaches, is_mark, keyword_begins, sign_begins, letter_no_digit, letter_no_mark, digit_no_mark, apart, spelled_once, digit_is_hexadecimal}
+use Rattle.dsr_parse.proofs.Shapes.{both, every_reaches, is_mark, keyword_begins, sign_begins, letter_no_digit, letter_no_mark, digit_no_mark, apart}
 
 -- whether no token at the front has more bytes
 abbrev pub Reaches : Bool → List ℕ → ℕ → Type 0

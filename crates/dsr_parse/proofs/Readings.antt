@@ -1,14 +1,12 @@
 -- What the loop over a text keeps.
-use Rattle.std.proofs.Common.{◌≡◌, ◌≢◌, ℕ, ◌+◌, ◌-◌, ◌<◌, ◌≤◌, List, [], ◌∷◌, ◌++◌, length, take, drop, Option, None, Result, Err, Vec, Global, refl, ap, ◌∙◌, sym, subst, length-drop, arith}
-use Rattle.std.proofs.lemmas.List.{take_all, drop_all, drop-drop, take-append-drop, length-take-le}
+use Rattle.std.proofs.Common.{◌≡◌, ◌≢◌, ℕ, ◌+◌, ◌<◌, ◌≤◌, List, [], ◌++◌, length, take, drop, Result, Err, Vec, Global, ap, ◌∙◌, sym, subst, length-drop, arith}
+use Rattle.std.proofs.lemmas.List.{drop_all, drop-drop, take-append-drop, length-take-le}
 use Rattle.dsr_ir.specs.declared.tokens.Lexeme.{Lexeme}
 use Rattle.dsr_meaning.specs.Tokens.{is_second_version, Begins, IsCut, here, IsLexed, HasTokenFault}
-use Rattle.dsr_parse.specs.Front.{NoneStands}
-use Rattle.dsr_parse.specs.Lexing.{FindsGap, Steps, StepsOn, Lexes}
+use Rattle.dsr_parse.specs.Lexing.{Steps, StepsOn, Lexes}
 use Rattle.dsr_parse.specs.declared.lexer.TokenFault.{TokenFault}
 use Rattle.dsr_parse.specs.declared.lexer.TokenFault.TheVariants as fault
 use Rattle.dsr_parse.proofs.Laws.{cut_step}
-use Rattle.dsr_parse.proofs.Steps.{nothing_begins, begins_some}
 
 pub first_cut : (text : List ℕ) (lexemes : List Lexeme) → lexemes ≡ [] → IsCut (is_second_version lexemes) 0 text lexemes 0 text
 first_cut text lexemes none = subst (λ lexemes. IsCut (is_second_version lexemes) 0 text lexemes 0 text) (sym none) here
@@ -29,12 +27,6 @@ whole_cut text lexemes place within over cut =
     let end : place ≡ length text = omega arith in
     let left : drop place text ≡ [] = drop_all place text over in
     record { cut = subst (λ place. IsCut (is_second_version lexemes) 0 text lexemes place []) end (subst (λ left. IsCut (is_second_version lexemes) 0 text lexemes place left) left cut) }
-
--- where neither a blank, nor a comment, nor a token comes next
-pub no_step : (text : List ℕ) (lexemes : List Lexeme) (place : ℕ) → place < length text → FindsGap (take (length text - place) (drop place text)) None → NoneStands (is_second_version lexemes) (take (length text - place) (drop place text)) → (bytes rest : List ℕ) (found : List Lexeme) → Begins (is_second_version lexemes) place bytes rest found → drop place text ≢ bytes ++ rest
-no_step text lexemes place within gap none bytes rest found begins q =
-    let behind : take (length text - place) (drop place text) ≡ drop place text = take_all (length text - place) (drop place text) (omega (arith, length-drop place text)) in
-    nothing_begins (is_second_version lexemes) place (take (length text - place) (drop place text)) gap none bytes rest found begins (behind ∙ q)
 
 pub stopped : (text : List ℕ) (lexemes : List Lexeme) (place at : ℕ) → place < length text → IsCut (is_second_version lexemes) 0 text lexemes place (drop place text) → at ≡ place → ((bytes rest : List ℕ) (found : List Lexeme) → Begins (is_second_version lexemes) place bytes rest found → drop place text ≢ bytes ++ rest) → HasTokenFault text at
 stopped text lexemes place at within cut is none = subst (λ at. HasTokenFault text at) (sym is) (record {

@@ -1,15 +1,15 @@
 -- One thing at most stands at the front of a text.
-use Rattle.std.proofs.Common.{◌≡◌, ◌≢◌, ℕ, suc, ◌+◌, ◌<◌, ◌≤◌, List, [], ◌∷◌, ◌++◌, length, take, drop, Bool, true, false, ◌&&◌, ◌||◌, not, refl, ap, ◌∙◌, sym, subst, nat_eq, cond, get_or, None, ◌-◌, IsTrue, length-drop, arith}
+use Rattle.std.proofs.Common.{◌≡◌, ◌≢◌, ℕ, suc, ◌+◌, ◌<◌, ◌≤◌, List, [], ◌∷◌, ◌++◌, length, take, drop, Bool, true, false, ◌||◌, not, refl, ap, ◌∙◌, sym, subst, nat_eq, cond, get_or, None, ◌-◌, length-drop, arith}
 use Rattle.std.specs.List.{prefix_len}
 use Rattle.std.proofs.Math.Seq.{take-append_seam, drop-append_seam}
-use Rattle.std.proofs.lemmas.List.{take_at, take_all, drop_at, append-nil}
+use Rattle.std.proofs.lemmas.List.{take_at, take_all, drop_at}
 use Rattle.std.proofs.lemmas.List.Sums.{prefix_len-le-length}
 use Rattle.std.proofs.lemmas.Bool.Decides.{nat_tests}
 use Rattle.dsr_ir.specs.declared.tokens.Token.{Token}
 use Rattle.dsr_ir.specs.declared.tokens.Lexeme.{Lexeme}
-use Rattle.dsr_meaning.specs.Tokens.{is_second_version, is_letter, is_digit, is_blank, every, keyword_spelling, sign_spelling, Spells, a_keyword, a_name, a_decimal, a_hexadecimal, a_sign, Stands, EndsLine, Begins, a_blank, a_comment, a_token}
+use Rattle.dsr_meaning.specs.Tokens.{is_second_version, is_letter, is_digit, is_blank, is_in_line, every, keyword_spelling, sign_spelling, Spells, a_keyword, a_name, a_decimal, a_hexadecimal, a_sign, Stands, EndsLine, Begins, a_blank, a_comment, a_token}
 use Rattle.dsr_parse.specs.Lexing.{IsGap, FindsGap, Steps}
-use Rattle.dsr_parse.specs.Front.{begins, StandsAt, NoneStands}
+use Rattle.dsr_parse.specs.Front.{begins, StandsAt}
 use Rattle.dsr_parse.proofs.Shapes.{both, is_mark, apart, spelled_once, keyword_begins, sign_begins, every_front}
 use Rattle.dsr_parse.proofs.Reaches.{begins_more}
 
@@ -56,22 +56,22 @@ pub record SameStep (bytes others rest left : List ℕ) (found more : List Lexem
   pub rest_same : rest ≡ left
   pub found_same : found ≡ more
 
-line_once : (bytes others rest left : List ℕ) → every (λ b. not (nat_eq b 10)) bytes ≡ true → every (λ b. not (nat_eq b 10)) others ≡ true → EndsLine rest → EndsLine left → bytes ++ rest ≡ others ++ left → (bytes ≡ others) × (rest ≡ left)
+line_once : (bytes others rest left : List ℕ) → every is_in_line bytes ≡ true → every is_in_line others ≡ true → EndsLine rest → EndsLine left → bytes ++ rest ≡ others ++ left → (bytes ≡ others) × (rest ≡ left)
 line_once [] [] rest left _ _ _ _ q = (refl, q)
 line_once [] (b ∷ others) [] left _ _ _ _ q = absurd cc
 line_once [] (b ∷ others) (c ∷ rest) left _ w ends _ q =
     let same : b ≡ 10 = cc in
-    let clash = (both (not (nat_eq b 10)) (every (λ b. not (nat_eq b 10)) others) w).0 in
+    let clash = (both (not (nat_eq b 10)) (every is_in_line others) w).0 in
     absurd (grind (arith, nat_tests, clash, same))
 line_once (b ∷ bytes) [] rest [] _ _ _ _ q = absurd cc
 line_once (b ∷ bytes) [] rest (c ∷ left) v _ _ ends q =
     let same : b ≡ 10 = cc in
-    let clash = (both (not (nat_eq b 10)) (every (λ b. not (nat_eq b 10)) bytes) v).0 in
+    let clash = (both (not (nat_eq b 10)) (every is_in_line bytes) v).0 in
     absurd (grind (arith, nat_tests, clash, same))
 line_once (b ∷ bytes) (c ∷ others) rest left v w ends stops q =
     let first : b ≡ c = cc in
     let more : bytes ++ rest ≡ others ++ left = cc in
-    let same = line_once bytes others rest left (both (not (nat_eq b 10)) (every (λ b. not (nat_eq b 10)) bytes) v).1 (both (not (nat_eq c 10)) (every (λ b. not (nat_eq b 10)) others) w).1 ends stops more in
+    let same = line_once bytes others rest left (both (not (nat_eq b 10)) (every is_in_line bytes) v).1 (both (not (nat_eq c 10)) (every is_in_line others) w).1 ends stops more in
     (cc, same.1)
 
 stands_once : (second : Bool) (bytes others rest left : List ℕ) (t u : Token) (place at : ℕ) → Stands second bytes t rest → Stands second others u left → place ≡ at → bytes ++ rest ≡ others ++ left → SameStep bytes others rest left (record { token = t; place = place } ∷ []) (record { token = u; place = at } ∷ [])
@@ -105,52 +105,36 @@ no_gap text none second place bytes rest b q = go b q
     go (a_blank b rest h) q = let gap : begins is_gap text ≡ true = subst (λ text. begins is_gap text ≡ true) (sym q) (blank_gap b h) in absurd cc
     go (a_comment bytes rest _ _) q = let gap : begins is_gap text ≡ true = subst (λ text. begins is_gap text ≡ true) (sym q) refl in absurd cc
 
--- neither a blank, nor a comment, nor a token
-pub nothing_begins : (second : Bool) (place : ℕ) (text : List ℕ) → ((second : Bool) (place : ℕ) (bytes rest : List ℕ) → Begins second place bytes rest [] → text ≢ bytes ++ rest) → NoneStands second text → (bytes rest : List ℕ) (found : List Lexeme) → Begins second place bytes rest found → text ≢ bytes ++ rest
-nothing_begins second place text gap none bytes rest found b q = go b q
-  where
-    go : {bytes rest : List ℕ} {found : List Lexeme} → Begins second place bytes rest found → text ≡ bytes ++ rest → ⊥
-    go (a_blank b rest h) q = gap second place (b ∷ []) rest (a_blank b rest h) q
-    go (a_comment bytes rest w ends) q = gap second place (35 ∷ bytes) rest (a_comment bytes rest w ends) q
-    go (a_token bytes rest t stands) q = none t bytes rest stands q
-
 pub blank_found : (text : List ℕ) → 0 < length text → is_blank (get_or text 0 0) ≡ true → IsGap text 1
 blank_found [] some h = absurd (omega arith)
 blank_found (b ∷ rest) some h = record { some = omega arith; fits = omega arith; begins = λ second place. a_blank b rest h }
 
-line_ends : (line : List ℕ) → EndsLine (drop (prefix_len (λ b. not (nat_eq b 10)) line) line)
+line_ends : (line : List ℕ) → EndsLine (drop (prefix_len is_in_line line) line)
 line_ends [] = tt
-line_ends (b ∷ line) = elim (nat_eq b 10) as (λ x. nat_eq b 10 ≡ x → EndsLine (drop (cond (not x) (1 + prefix_len (λ b. not (nat_eq b 10)) line) 0) (b ∷ line))) [
+line_ends (b ∷ line) = elim (nat_eq b 10) as (λ x. nat_eq b 10 ≡ x → EndsLine (drop (cond (not x) (1 + prefix_len is_in_line line) 0) (b ∷ line))) [
   | true ↦ λ e. grind (arith, nat_tests, e)
   | false ↦ λ _. (
-      let more : suc (prefix_len (λ b. not (nat_eq b 10)) line) ≡ 1 + prefix_len (λ b. not (nat_eq b 10)) line = omega arith in
+      let more : suc (prefix_len is_in_line line) ≡ 1 + prefix_len is_in_line line = omega arith in
       subst (λ n. EndsLine (drop n (b ∷ line))) more (line_ends line))
 ] refl
 
-pub comment_found : (text : List ℕ) (n : ℕ) → 0 < length text → get_or text 0 0 ≡ 35 → n ≡ prefix_len (λ b. not (nat_eq b 10)) text → IsGap text n
+pub comment_found : (text : List ℕ) (n : ℕ) → 0 < length text → get_or text 0 0 ≡ 35 → n ≡ prefix_len is_in_line text → IsGap text n
 comment_found [] n some h run = absurd (omega arith)
 comment_found (b ∷ line) n some h run =
-    let len : n ≡ suc (prefix_len (λ b. not (nat_eq b 10)) line) = subst (λ b. n ≡ prefix_len (λ b. not (nat_eq b 10)) (b ∷ line) → n ≡ suc (prefix_len (λ b. not (nat_eq b 10)) line)) (sym h) (λ run. omega (arith, run)) run in
-    let fits : n ≤ length (b ∷ line) = omega (arith, len, prefix_len-le-length (λ b. not (nat_eq b 10)) line) in
+    let len : n ≡ suc (prefix_len is_in_line line) = subst (λ b. n ≡ prefix_len is_in_line (b ∷ line) → n ≡ suc (prefix_len is_in_line line)) (sym h) (λ run. omega (arith, run)) run in
+    let fits : n ≤ length (b ∷ line) = omega (arith, len, prefix_len-le-length is_in_line line) in
     record {
       some = omega arith;
       fits = fits;
       begins = λ second place.
           subst (λ len. Begins second place (take len (b ∷ line)) (drop len (b ∷ line)) []) (sym len)
-          (subst (λ b. Begins second place (b ∷ take (prefix_len (λ b. not (nat_eq b 10)) line) line) (drop (prefix_len (λ b. not (nat_eq b 10)) line) line) []) (sym h)
-          (a_comment (take (prefix_len (λ b. not (nat_eq b 10)) line) line) (drop (prefix_len (λ b. not (nat_eq b 10)) line) line) (every_front (λ b. not (nat_eq b 10)) line) (line_ends line)));
+          (subst (λ b. Begins second place (b ∷ take (prefix_len is_in_line line) line) (drop (prefix_len is_in_line line) line) []) (sym h)
+          (a_comment (take (prefix_len is_in_line line) line) (drop (prefix_len is_in_line line) line) (every_front is_in_line line) (line_ends line)));
     }
 
 pub no_gap_found : (text : List ℕ) → 0 < length text → is_blank (get_or text 0 0) ≡ false → (get_or text 0 0 ≡ 35 → ⊥) → FindsGap text None
 no_gap_found [] some h other = absurd (omega arith)
 no_gap_found (b ∷ rest) some h other = no_gap (b ∷ rest) (grind (arith, nat_tests, h, other))
-
--- a step over a blank or a comment
-pub gap_step : (lexemes : List Lexeme) (text : List ℕ) (place len : ℕ) → IsGap (take (length text - place) (drop place text)) len → place < length text → Steps lexemes lexemes text place (place + len)
-gap_step lexemes text place len gap within =
-    let behind : take (length text - place) (drop place text) ≡ drop place text = take_all (length text - place) (drop place text) (omega (arith, length-drop place text)) in
-    let gap = subst (λ rest. IsGap rest len) behind gap in
-    record { len = len; found = []; begins = gap.begins (is_second_version lexemes) place; added = sym (append-nil lexemes); is = refl; further = omega (arith, gap.some); fits = omega (arith, gap.fits, length-drop place text) }
 
 -- a step over a token
 pub token_step : (lexemes new : List Lexeme) (text : List ℕ) (place len : ℕ) (t : Token) → StandsAt (is_second_version lexemes) (take (length text - place) (drop place text)) t len → place < length text → new ≡ lexemes ++ record { token = t; place = place } ∷ [] → Steps lexemes new text place (place + len)

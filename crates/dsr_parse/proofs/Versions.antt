@@ -1,8 +1,8 @@
 -- A text of version 2 is cut as one of version 1, but that `except` is a keyword there.
-use Rattle.std.proofs.Common.{◌≡◌, ◌≢◌, ◌⊎◌, inl, inr, ℕ, ◌+◌, ◌≤◌, List, [], ◌∷◌, ◌++◌, length, Bool, true, false, cond, refl, ap, ◌∙◌, sym, subst, IsTrue, arith, map, codes}
+use Rattle.std.proofs.Common.{◌≡◌, ◌≢◌, ◌⊎◌, inl, inr, ℕ, List, [], ◌∷◌, ◌++◌, true, false, cond, refl, ap, ◌∙◌, sym, subst, IsTrue, arith, map, codes}
 use Rattle.std.specs.Str.{bytes_eq}
 use Rattle.std.proofs.lemmas.Slice.Eq.{bytes_eq-Decides}
-use Rattle.std.proofs.lemmas.List.{append-nil, map-append}
+use Rattle.std.proofs.lemmas.List.{map-append}
 use Rattle.dsr_ir.specs.declared.tokens.Keyword.{Keyword}
 use Rattle.dsr_ir.specs.declared.tokens.Keyword.TheVariants as keyword
 use Rattle.dsr_ir.specs.declared.tokens.Token.{Token}

@@ -1,7 +1,7 @@
 // The bytes that tokens are made of, and runs of them.
-ghost use Rattle.std.specs.Prelude.{◌≡◌, nat_eq, not, IsTrue};
+ghost use Rattle.std.specs.Prelude.{◌≡◌, IsTrue};
 ghost use Rattle.std.specs.List.{prefix_len};
-ghost use Rattle.dsr_meaning.specs.Tokens.{is_letter, is_digit, is_hexadecimal_digit, is_in_word, is_blank, digit_value};
+ghost use Rattle.dsr_meaning.specs.Tokens.{is_letter, is_digit, is_hexadecimal_digit, is_in_word, is_in_line, is_blank, digit_value};
 
 pub fn is_letter_byte(b: u8) -> bool
     ensures { result ≡ is_letter b }
@@ -74,7 +74,7 @@ pub fn hexadecimal_len(bytes: &[u8]) -> usize
 
 /// How many bytes stand before the first line feed.
 pub fn line_len(bytes: &[u8]) -> usize
-    ensures { result ≡ prefix_len (λ b. not (nat_eq b 10)) bytes.now }
+    ensures { result ≡ prefix_len is_in_line bytes.now }
 {
     bytes.iter().take_while(|b| **b != b'\n').count()
 }

@@ -1,4 +1,4 @@
-use Rattle.std.proofs.Common.{◌≡◌, ◌-◌, take, drop, length, Some, sym, ◌∙◌, subst, ap}
+use Rattle.std.proofs.Common.{◌-◌, take, drop, length, Some, ◌∙◌, subst, ap}
 use Rattle.dsr_meaning.specs.Tokens.{is_second_version}
 use Rattle.dsr_parse.specs.Front.{StandsAt, FindsFront}
 use Rattle.dsr_parse.proofs.Steps.{token_step}

@@ -1,4 +1,4 @@
-use Rattle.std.proofs.Common.{◌≡◌, sym, ◌∙◌, subst}
+use Rattle.std.proofs.Common.{sym, ◌∙◌, subst}
 use Rattle.dsr_parse.specs.declared.spellings.TheConstants.{KEYWORDS}
 use Rattle.dsr_parse.specs.Spelled.{FindsKeyword}
 use Rattle.dsr_parse.proofs.Lookups.{is_keyword_found, no_keyword_found, other_keyword_found}

@@ -1,4 +1,4 @@
-use Rattle.std.proofs.Common.{◌≡◌, sym, ◌∙◌}
+use Rattle.std.proofs.Common.{sym, ◌∙◌}
 use Rattle.dsr_parse.proofs.Lookups.{long_sign_found, short_signs_searched}
 use Rattle.dsr_parse.proofs.spellings.find_sign.Goals as goal
 

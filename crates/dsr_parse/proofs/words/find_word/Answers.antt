@@ -1,4 +1,4 @@
-use Rattle.std.proofs.Common.{◌≡◌, ◌∙◌}
+use Rattle.std.proofs.Common.{◌∙◌}
 use Rattle.dsr_parse.proofs.Found.{keyword_stands, name_stands, name_too_long}
 use Rattle.dsr_parse.proofs.words.find_word.Goals as goal
 

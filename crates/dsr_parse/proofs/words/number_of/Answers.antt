@@ -1,4 +1,4 @@
-use Rattle.std.proofs.Common.{◌≡◌, ◌∙◌, ◌+◌, ◌*◌, ◌<◌, sym, subst, Some, arith}
+use Rattle.std.proofs.Common.{◌≡◌, ◌∙◌, sym, subst, Some, arith}
 use Rattle.dsr_parse.specs.Front.{number_below}
 use Rattle.dsr_meaning.specs.Tokens.{value_after}
 use Rattle.std.proofs.lemmas.Grind.{common_steps}

@@ -1,5 +1,8 @@
 // What a specification declares, with every name resolved to a number.
-use crate::{Constraint, Expr, Name, Rule, Seq};
+ghost use Rattle.std.specs.Prelude.{◌≡◌, IfOk};
+
+use crate::{Constraint, Expr, Name, NoMemory, Rule, Seq, TryClone, TryCloneTree};
+use std::alloc::Global;
 
 /// The order of a number's bytes.
 #[derive(Clone, Copy, Debug, PartialEq, Eq, PartialOrd, Ord, Hash)]
@@ -30,7 +33,7 @@ pub enum Kind {
 }
 
 /// A field of a structure. A gap of n bytes is a `Gap` of `U8` with the length n.
-#[derive(Drop)]
+#[derive(Drop, PartialEq, Eq, PartialOrd, Ord, Hash)]
 pub struct Field {
     pub name: Name,
     pub fixed: bool,
@@ -40,8 +43,26 @@ pub struct Field {
     pub kind: Kind,
 }
 
+impl TryCloneTree for Field {
+    ghost use Rattle.dsr_ir.specs.Shapes.{FieldShape, field_shape};
+
+    ghost Shape = { FieldShape };
+
+    ghost shape = { field_shape };
+
+    fn clone(&self, alloc: Global) -> Result<Field, NoMemory> {
+        Ok(Field {
+            name: self.name.clone(alloc)?,
+            fixed: self.fixed,
+            width: self.width,
+            len: self.len.clone(alloc)?,
+            kind: self.kind,
+        })
+    }
+}
+
 /// A structure with the fields that it declares itself.
-#[derive(Drop)]
+#[derive(Drop, PartialEq, Eq, PartialOrd, Ord, Hash)]
 pub struct Structure {
     pub name: Name,
     /// The structure that this one extends.
@@ -49,8 +70,24 @@ pub struct Structure {
     pub fields: Seq<Field>,
 }
 
+impl TryCloneTree for Structure {
+    ghost use Rattle.dsr_ir.specs.Shapes.{StructureShape, structure_shape};
+
+    ghost Shape = { StructureShape };
+
+    ghost shape = { structure_shape };
+
+    fn clone(&self, alloc: Global) -> Result<Structure, NoMemory> {
+        Ok(Structure {
+            name: self.name.clone(alloc)?,
+            parent: self.parent,
+            fields: self.fields.clone(alloc)?,
+        })
+    }
+}
+
 /// A pool of records of one structure.
-#[derive(Drop)]
+#[derive(Drop, PartialEq, Eq, PartialOrd, Ord, Hash)]
 pub struct Pool {
     pub name: Name,
     pub structure: u32,
@@ -65,8 +102,40 @@ pub struct Pool {
     pub avoid: Option<Seq<u32>>,
 }
 
+impl TryCloneTree for Pool {
+    ghost use Rattle.dsr_ir.specs.Shapes.{PoolShape, pool_shape};
+
+    ghost Shape = { PoolShape };
+
+    ghost shape = { pool_shape };
+
+    fn clone(&self, alloc: Global) -> Result<Pool, NoMemory> {
+        Ok(Pool {
+            name: self.name.clone(alloc)?,
+            structure: self.structure,
+            count: self.count.clone(alloc)?,
+            slot: self.slot.clone(alloc)?,
+            start: self.start.clone(alloc)?,
+            code: self.code.clone(alloc)?,
+            step: self.step.clone(alloc)?,
+            none: self.none.clone(alloc)?,
+            avoid: cloned(alloc, &self.avoid)?,
+        })
+    }
+}
+
+// A copy of a list that may be missing.
+fn cloned(alloc: Global, list: &Option<Seq<u32>>) -> Result<Option<Seq<u32>>, NoMemory>
+    ensures { IfOk result (λ copy. copy ≡ list.now) }
+{
+    match list {
+        Some(list) => Ok(Some(list.clone(alloc)?)),
+        None => Ok(None),
+    }
+}
+
 /// A set of slots of a pool, whose fields are read by a structure.
-#[derive(Drop)]
+#[derive(Drop, PartialEq, Eq, PartialOrd, Ord, Hash)]
 pub struct SetDecl {
     pub name: Name,
     /// The pool, counted from 1.
@@ -76,14 +145,35 @@ pub struct SetDecl {
     pub except: Option<u32>,
 }
 
+impl TryClone for SetDecl {
+    fn clone(&self, alloc: Global) -> Result<SetDecl, NoMemory> {
+        Ok(SetDecl {
+            name: self.name.clone(alloc)?,
+            pool: self.pool,
+            structure: self.structure,
+            except: self.except,
+        })
+    }
+}
+
 /// A relation.
-#[derive(Drop)]
+#[derive(Drop, PartialEq, Eq, PartialOrd, Ord, Hash)]
 pub struct Rel {
     pub name: Name,
     /// The pool of the sources; 0 is the head.
     pub source: u32,
     /// The pool of the targets; none where they are numbers.
     pub target: Option<u32>,
+}
+
+impl TryClone for Rel {
+    fn clone(&self, alloc: Global) -> Result<Rel, NoMemory> {
+        Ok(Rel {
+            name: self.name.clone(alloc)?,
+            source: self.source,
+            target: self.target,
+        })
+    }
 }
 
 /// A field, by the number of the structure that declares it and its place there.
@@ -94,7 +184,7 @@ pub struct FieldRef {
 }
 
 /// Structures, pools, sets and relations in order of declaration.
-#[derive(Drop)]
+#[derive(Drop, PartialEq, Eq, PartialOrd, Ord, Hash)]
 pub struct Structures {
     /// 1 or 2.
     pub version: u8,
@@ -107,10 +197,46 @@ pub struct Structures {
     pub rels: Seq<Rel>,
 }
 
+impl TryCloneTree for Structures {
+    ghost use Rattle.dsr_ir.specs.Shapes.{StructuresShape, structures_shape};
+
+    ghost Shape = { StructuresShape };
+
+    ghost shape = { structures_shape };
+
+    fn clone(&self, alloc: Global) -> Result<Structures, NoMemory> {
+        Ok(Structures {
+            version: self.version,
+            order: self.order,
+            head: self.head,
+            structures: self.structures.clone(alloc)?,
+            pools: self.pools.clone(alloc)?,
+            sets: self.sets.clone(alloc)?,
+            rels: self.rels.clone(alloc)?,
+        })
+    }
+}
+
 /// A typed specification.
-#[derive(Drop)]
+#[derive(Drop, PartialEq, Eq, PartialOrd, Ord, Hash)]
 pub struct Spec {
     pub base: Structures,
     pub rules: Seq<Rule>,
     pub constraints: Seq<Constraint>,
+}
+
+impl TryCloneTree for Spec {
+    ghost use Rattle.dsr_ir.specs.Shapes.{SpecShape, spec_shape};
+
+    ghost Shape = { SpecShape };
+
+    ghost shape = { spec_shape };
+
+    fn clone(&self, alloc: Global) -> Result<Spec, NoMemory> {
+        Ok(Spec {
+            base: self.base.clone(alloc)?,
+            rules: self.rules.clone(alloc)?,
+            constraints: self.constraints.clone(alloc)?,
+        })
+    }
 }

@@ -1,5 +1,6 @@
 // Model definition rules.
-use crate::{FieldRef, Seq};
+use crate::{FieldRef, NoMemory, Seq, TryClone};
+use std::alloc::Global;
 
 /// A comparison of two numbers.
 #[derive(Clone, Copy, Debug, PartialEq, Eq, PartialOrd, Ord, Hash)]
@@ -60,11 +61,22 @@ pub enum Inc {
 }
 
 /// A model definition rule (OOPSLA 2003): from a premise and guards to an inclusion.
-#[derive(Drop)]
+#[derive(Drop, PartialEq, Eq, PartialOrd, Ord, Hash)]
 pub struct Rule {
     /// The set of the premise; none for the head.
     pub premise: Option<u32>,
     pub span: Span,
     pub guards: Seq<Guard>,
     pub inc: Inc,
+}
+
+impl TryClone for Rule {
+    fn clone(&self, alloc: Global) -> Result<Rule, NoMemory> {
+        Ok(Rule {
+            premise: self.premise,
+            span: self.span,
+            guards: self.guards.clone(alloc)?,
+            inc: self.inc,
+        })
+    }
 }

@@ -1,5 +1,6 @@
 // Updates towards a goal.
-use crate::{Measure, Path, Seq, Test, Var};
+use crate::{Measure, NoMemory, Path, Seq, Test, TryClone, Var};
+use std::alloc::Global;
 
 /// A set or a relation, by its number.
 #[derive(Clone, Copy, Debug, PartialEq, Eq, PartialOrd, Ord, Hash)]
@@ -43,7 +44,7 @@ pub enum At {
 }
 
 /// Writes to the cells of one record, and perhaps a fresh record of a pool.
-#[derive(Drop)]
+#[derive(Drop, PartialEq, Eq, PartialOrd, Ord, Hash)]
 pub struct Update {
     pub rule: u32,
     pub place: Place,
@@ -51,6 +52,18 @@ pub struct Update {
     pub writes: Seq<Write>,
     /// The pool of the fresh record.
     pub fresh: Option<u32>,
+}
+
+impl TryClone for Update {
+    fn clone(&self, alloc: Global) -> Result<Update, NoMemory> {
+        Ok(Update {
+            rule: self.rule,
+            place: self.place,
+            at: self.at,
+            writes: self.writes.clone(alloc)?,
+            fresh: self.fresh,
+        })
+    }
 }
 
 /// What an update is for.
@@ -67,8 +80,17 @@ pub enum Goal {
 }
 
 /// A goal with one update, or one update for each rule of a symbol.
-#[derive(Drop)]
+#[derive(Drop, PartialEq, Eq, PartialOrd, Ord, Hash)]
 pub struct Template {
     pub goal: Goal,
     pub updates: Seq<Update>,
+}
+
+impl TryClone for Template {
+    fn clone(&self, alloc: Global) -> Result<Template, NoMemory> {
+        Ok(Template {
+            goal: self.goal,
+            updates: self.updates.clone(alloc)?,
+        })
+    }
 }

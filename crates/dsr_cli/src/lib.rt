@@ -1,5 +1,7 @@
 //! The commands, from their words to their answers.
 #![tactic(auto)]
 
+mod members;
 mod plain_layouts;
+mod values;
 mod views;

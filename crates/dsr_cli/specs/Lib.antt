@@ -1,3 +1,4 @@
 pub mod Plain
 pub mod PlainLayouts
 pub mod Records
+pub mod FormStatements

@@ -2,4 +2,5 @@
 #![tactic(auto)]
 
 mod plain_layouts;
+mod reader;
 mod views;

@@ -1,0 +1,3 @@
+// Texts of the small form that is read so far.
+mod forms;
+mod statements;

@@ -2,3 +2,4 @@ pub mod Plain
 pub mod PlainLayouts
 pub mod Records
 pub mod FormStatements
+pub mod FormNames

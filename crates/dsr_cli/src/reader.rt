@@ -1,3 +1,4 @@
 // Texts of the small form that is read so far.
 mod forms;
+mod names;
 mod statements;

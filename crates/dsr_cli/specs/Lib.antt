@@ -3,3 +3,5 @@ pub mod PlainLayouts
 pub mod Records
 pub mod FormStatements
 pub mod FormNames
+pub mod FormConditions
+pub mod FormTokens

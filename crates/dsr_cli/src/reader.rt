@@ -1,4 +1,5 @@
 // Texts of the small form that is read so far.
+mod conditions;
 mod forms;
 mod names;
 mod statements;

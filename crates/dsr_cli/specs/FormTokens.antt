@@ -1,5 +1,6 @@
 -- How a text of the form is written: its statements, in order.
 use Rattle.std.specs.Prelude.{ℕ, ◌+◌, List, [], ◌∷◌, ◌++◌, Bool, true, false, codes, map, Option, None, Some}
+use Rattle.dsr_ir.specs.declared.tokens.Keyword.{Keyword}
 use Rattle.dsr_ir.specs.declared.tokens.Keyword.TheVariants as keyword
 use Rattle.dsr_ir.specs.declared.tokens.Sign.TheVariants as sign
 use Rattle.dsr_ir.specs.declared.tokens.Token.{Token}
@@ -85,19 +86,14 @@ pool_statement f =
 abbrev pub set_statement : List ℕ → List ℕ → List Token
 set_statement pool name = token.Keyword keyword.Set ∷ token.Name name ∷ token.Keyword keyword.Of ∷ token.Name pool ∷ token.Sign sign.Semicolon ∷ []
 
--- `head` or the pool
-abbrev pub source_token : List ℕ → Bool → Token
-source_token pool false = token.Keyword keyword.Head
-source_token pool true = token.Name pool
+-- the pool, or the keyword for what isn't the pool
+abbrev pub pool_token : List ℕ → Bool → Keyword → Token
+pool_token pool true other = token.Name pool
+pool_token pool false other = token.Keyword other
 
--- `number` or the pool
-abbrev pub target_token : List ℕ → Bool → Token
-target_token pool false = token.Keyword keyword.Number
-target_token pool true = token.Name pool
-
--- `relation NAME : SOURCE -> TARGET ;`
+-- `relation NAME : SOURCE -> TARGET ;`, from `head` or the pool to `number` or the pool
 abbrev pub relation_statement : List ℕ → Link → List Token
-relation_statement pool l = token.Keyword keyword.Relation ∷ token.Name l.name ∷ token.Sign sign.Colon ∷ source_token pool l.from_pool ∷ token.Sign sign.Arrow ∷ target_token pool l.to_pool ∷ token.Sign sign.Semicolon ∷ []
+relation_statement pool l = token.Keyword keyword.Relation ∷ token.Name l.name ∷ token.Sign sign.Colon ∷ pool_token pool l.from_pool keyword.Head ∷ token.Sign sign.Arrow ∷ pool_token pool l.to_pool keyword.Number ∷ token.Sign sign.Semicolon ∷ []
 
 -- the record of a rule's premise: `head`, or the variable
 abbrev pub record_token : Option Premise → Token

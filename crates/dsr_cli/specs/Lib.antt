@@ -5,3 +5,4 @@ pub mod FormStatements
 pub mod FormNames
 pub mod FormConditions
 pub mod FormTokens
+pub mod FormMarks

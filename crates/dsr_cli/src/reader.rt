@@ -3,3 +3,4 @@ mod conditions;
 mod forms;
 mod names;
 mod statements;
+mod written;

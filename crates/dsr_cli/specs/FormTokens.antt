@@ -140,14 +140,15 @@ demand_statement f =
     (token.Keyword keyword.Constraint ∷ token.Name f.demand.name ∷ token.Sign sign.Colon ∷ token.Keyword keyword.Head ∷ token.Sign sign.Dot ∷ token.Name (relation_name f f.demand.relation) ∷ token.Sign sign.Equal ∷ [])
     ++ side_tokens f f.demand.side
 
+-- a structure
+abbrev pub structure_statements : List ℕ → List ℕ → List Entry → List (List Token)
+structure_statements pool name fields = open_statement name ∷ (map (entry_statement pool) fields ++ close_statement ∷ [])
+
 -- the statements behind the pool's
 abbrev pub later_statements : Form → List (List Token)
-later_statements f = map (set_statement f.pool) f.sets ++ (map (relation_statement f.pool) f.relations ++ (map (rule_statement f) f.rules ++ (demand_statement f ∷ [])))
-
--- the statements behind the head's fields
-abbrev pub middle_statements : Form → List (List Token)
-middle_statements f = close_statement ∷ open_statement f.structure ∷ (map (entry_statement f.pool) f.fields ++ (close_statement ∷ pool_statement f ∷ later_statements f))
+later_statements f = map (set_statement f.pool) f.sets ++ (map (relation_statement f.pool) f.relations ++ (map (rule_statement f) f.rules ++ demand_statement f ∷ []))
 
 -- all statements
 abbrev pub form_statements : Form → List (List Token)
-form_statements f = version_statement ∷ order_statement ∷ open_statement head_name ∷ (map (entry_statement f.pool) f.head_fields ++ middle_statements f)
+form_statements f =
+    version_statement ∷ order_statement ∷ (structure_statements f.pool head_name f.head_fields ++ (structure_statements f.pool f.structure f.fields ++ (pool_statement f ∷ later_statements f)))

@@ -144,11 +144,14 @@ demand_statement f =
 abbrev pub structure_statements : List ℕ → List ℕ → List Entry → List (List Token)
 structure_statements pool name fields = open_statement name ∷ (map (entry_statement pool) fields ++ close_statement ∷ [])
 
+-- the head's structure and the one of the pool's records
+abbrev pub both_structures : Form → List (List Token)
+both_structures f = structure_statements f.pool head_name f.head_fields ++ structure_statements f.pool f.structure f.fields
+
 -- the statements behind the pool's
 abbrev pub later_statements : Form → List (List Token)
 later_statements f = map (set_statement f.pool) f.sets ++ (map (relation_statement f.pool) f.relations ++ (map (rule_statement f) f.rules ++ demand_statement f ∷ []))
 
 -- all statements
 abbrev pub form_statements : Form → List (List Token)
-form_statements f =
-    version_statement ∷ order_statement ∷ (structure_statements f.pool head_name f.head_fields ++ (structure_statements f.pool f.structure f.fields ++ (pool_statement f ∷ later_statements f)))
+form_statements f = version_statement ∷ order_statement ∷ (both_structures f ++ pool_statement f ∷ later_statements f)

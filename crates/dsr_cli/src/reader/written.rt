@@ -1,7 +1,7 @@
 // Texts written from what they say.
 ghost use Rattle.std.specs.Prelude.{◌≡◌, ◌++◌, ◌∷◌, ◌≤◌, [], length, map, IfOk};
 ghost use Rattle.dsr_cli.specs.FormMarks.{token_marked};
-ghost use Rattle.dsr_cli.specs.FormTokens.{entry_name, count_name, set_name, relation_name, field_name, open_statement, entry_statement, pool_statement, set_statement, relation_statement, pool_token, record_token, premise_tokens, conclusion_tokens, rule_statement, side_tokens, demand_statement, structure_statements, later_statements, version_statement, order_statement, form_statements};
+ghost use Rattle.dsr_cli.specs.FormTokens.{entry_name, count_name, set_name, relation_name, field_name, open_statement, entry_statement, pool_statement, set_statement, relation_statement, pool_token, record_token, premise_tokens, conclusion_tokens, rule_statement, side_tokens, demand_statement, structure_statements, both_structures, later_statements, version_statement, order_statement, form_statements};
 
 use crate::reader::conditions::{fields_of_premise, size_of_fields};
 use crate::reader::forms::{Clause, Conclusion, Entry, Form, Link, Premise, Side, Sort};
@@ -372,16 +372,22 @@ fn write_start(alloc: Global, out: &mut Vec<Seq<Token>>) -> Result<(), AllocErro
     Ok(())
 }
 
+fn write_structures(alloc: Global, out: &mut Vec<Seq<Token>>, form: &Form) -> Result<(), AllocError>
+    ensures { IfOk result (λ _. out.new.items ≡ out.old.items ++ both_structures form.now) }
+{
+    let pool = form.pool.bytes();
+    write_structure(alloc, out, pool, b"Head", form.head_fields.items())?;
+    write_structure(alloc, out, pool, form.structure.bytes(), form.fields.items())
+}
+
 /// The statements of the text that says this.
 pub fn write_form(alloc: Global, form: &Form) -> Result<Vec<Seq<Token>>, AllocError>
     requires { length form.now.head_fields ≤ 64 }
     ensures { IfOk result (λ statements. statements.items ≡ form_statements form.now) }
 {
-    let pool = form.pool.bytes();
     let mut out = Vec::new(alloc);
     write_start(alloc, &mut out)?;
-    write_structure(alloc, &mut out, pool, b"Head", form.head_fields.items())?;
-    write_structure(alloc, &mut out, pool, form.structure.bytes(), form.fields.items())?;
+    write_structures(alloc, &mut out, form)?;
     out.push(make_pool(alloc, form)?)?;
     write_later(alloc, &mut out, form)?;
     Ok(out)

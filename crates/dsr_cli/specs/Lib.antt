@@ -6,3 +6,4 @@ pub mod FormNames
 pub mod FormConditions
 pub mod FormTokens
 pub mod FormMarks
+pub mod FormSpecs

@@ -3,4 +3,5 @@ mod conditions;
 mod forms;
 mod names;
 mod statements;
+mod typed;
 mod written;

@@ -30,7 +30,7 @@ fn has_small_sizes(form: &Form) -> bool
         && form.rules.items().len() <= 8
 }
 
-fn is_fixed_sort(sort: Sort) -> bool
+pub fn is_fixed_sort(sort: Sort) -> bool
     ensures { result ≡ is_fixed sort }
 {
     match sort {

@@ -7,3 +7,4 @@ pub mod FormConditions
 pub mod FormTokens
 pub mod FormMarks
 pub mod FormSpecs
+pub mod FormParts

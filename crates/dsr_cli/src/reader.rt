@@ -2,6 +2,8 @@
 mod conditions;
 mod forms;
 mod names;
+mod parts;
+mod sameness;
 mod statements;
 mod typed;
 mod written;

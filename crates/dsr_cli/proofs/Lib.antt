@@ -1,2 +1,3 @@
 pub mod Places
 pub mod PlainSizes
+pub mod FormSame

@@ -42,6 +42,11 @@ abbrev pub kept : {A : Type 0} → Option A → List A → List A
 kept None items = items
 kept (Some item) items = item ∷ items
 
+-- the items that statements declare
+abbrev pub collected : {A : Type 0} → (List Token → Option A) → List (List Token) → List A
+collected item [] = []
+collected item (s ∷ ss) = kept (item s) (collected item ss)
+
 -- a field of 32 bits, whose declaration has three tokens, or five with its pool
 abbrev pub long_sort : ℕ → Sort
 long_sort len = if nat_eq len 3 then Long else Reference
@@ -70,8 +75,7 @@ abbrev pub set_in : List Token → Option (List ℕ)
 set_in s = set_with (slice_get s 0) s
 
 abbrev pub sets_in : List (List Token) → List (List ℕ)
-sets_in [] = []
-sets_in (s ∷ ss) = kept (set_in s) (sets_in ss)
+sets_in = collected set_in
 
 abbrev pub is_name : Option Token → Bool
 is_name (Some (token.Name _)) = true
@@ -86,8 +90,7 @@ abbrev pub link_in : List Token → Option Link
 link_in s = link_with (slice_get s 0) s
 
 abbrev pub links_in : List (List Token) → List Link
-links_in [] = []
-links_in (s ∷ ss) = kept (link_in s) (links_in ss)
+links_in = collected link_in
 
 -- the declarations
 abbrev pub declared_in : List (List Token) → Form
@@ -141,8 +144,7 @@ abbrev pub clause_in : Form → List Token → Option Clause
 clause_in f s = clause_with f (slice_get s 0) s
 
 abbrev pub clauses_in : Form → List (List Token) → List Clause
-clauses_in f [] = []
-clauses_in f (s ∷ ss) = kept (clause_in f s) (clauses_in f ss)
+clauses_in f = collected (clause_in f)
 
 -- the side of a constraint, by the number of its tokens
 abbrev pub side_in : Form → List Token → Side

@@ -135,10 +135,13 @@ side_tokens f (Targets relation) =
     ∷ token.Sign sign.Semicolon ∷ []
 
 -- `constraint NAME : head . RELATION = SIDE ;`
+abbrev pub demand_tokens : Form → List ℕ → ℕ → Side → List Token
+demand_tokens f name relation side =
+    (token.Keyword keyword.Constraint ∷ token.Name name ∷ token.Sign sign.Colon ∷ token.Keyword keyword.Head ∷ token.Sign sign.Dot ∷ token.Name (relation_name f relation) ∷ token.Sign sign.Equal ∷ [])
+    ++ side_tokens f side
+
 abbrev pub demand_statement : Form → List Token
-demand_statement f =
-    (token.Keyword keyword.Constraint ∷ token.Name f.demand.name ∷ token.Sign sign.Colon ∷ token.Keyword keyword.Head ∷ token.Sign sign.Dot ∷ token.Name (relation_name f f.demand.relation) ∷ token.Sign sign.Equal ∷ [])
-    ++ side_tokens f f.demand.side
+demand_statement f = demand_tokens f f.demand.name f.demand.relation f.demand.side
 
 -- a structure
 abbrev pub structure_statements : List ℕ → List ℕ → List Entry → List (List Token)

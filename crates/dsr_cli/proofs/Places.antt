@@ -17,7 +17,7 @@ use Rattle.dsr_ir.specs.declared.tuples.Element.{Element}
 use Rattle.dsr_meaning.specs.Cells.{width_bits, bytes_value, record_start, value_at}
 use Rattle.dsr_ir.specs.declared.rules.Path.{Path}
 use Rattle.dsr_cli.specs.Plain.{IsPlain, IsPlainField, IsPlainPath, IsPlainWidth, fields_of}
-use Rattle.dsr_cli.specs.PlainLayouts.{size_bits, size_of, placed, structure_places, plain_layout, IsLaidOut}
+use Rattle.dsr_cli.specs.PlainLayouts.{size_bits, size_of, placed, structure_places, plain_layout, count_in, IsLaidOut}
 use Rattle.dsr_cli.specs.Records.{LiesAt}
 use Rattle.dsr_cli.proofs.PlainSizes.{plain_fields}
 
@@ -89,3 +89,7 @@ module _ (spec : Spec) (layout : Layout) (bytes : List ℕ) (e : Element) (path 
 -- the width that a layout tells of a field
 pub width_told : (spec : Spec) (layout : Layout) (field : FieldRef) (offset : ℕ) (w : Width) → (l : LiesAt spec layout field offset) → IsSomeAnd (field_place layout field) (λ place. w ≡ place.width) → w ≡ l.place.width
 width_told spec layout field offset w l h = rw l.is at h
+
+-- the count that a layout tells of the pool
+pub count_told : (spec : Spec) (bytes : List ℕ) (layout : Layout) → layout ≡ plain_layout spec bytes → (n : ℕ) → IsSomeAnd (slice_get layout.pools 0) (λ k. n ≡ k.count) → n ≡ count_in bytes
+count_told spec bytes layout is n h = let P : Layout → Type 0 = λ y. IsSomeAnd (slice_get y.pools 0) (λ k. n ≡ k.count) in subst P is h

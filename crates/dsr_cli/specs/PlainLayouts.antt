@@ -52,6 +52,7 @@ IsOutside spec bytes = length bytes < size_of spec 0 + count_in bytes * size_of 
 
 -- the image has room for the head and the pool, and this is its layout
 pub record IsLaidOut (spec : Spec) (bytes : List ℕ) (layout : Layout) : Type 0 where
+  pub few_records : count_in bytes < 65536
   pub head_fits : size_of spec 0 ≤ length bytes
   pub pool_fits : size_of spec 0 + count_in bytes * size_of spec 1 ≤ length bytes
   pub layout_is : layout ≡ plain_layout spec bytes

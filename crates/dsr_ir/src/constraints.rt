@@ -1,5 +1,9 @@
 // Consistency constraints.
-use crate::{Name, Op, Seq};
+ghost use Rattle.std.specs.Prelude.{◌≡◌, IfOk, map};
+ghost use Rattle.dsr_ir.specs.Shapes.{formula_shape};
+
+use crate::{Name, NoMemory, Op, Seq, TryClone, TryCloneTree};
+use std::alloc::Global;
 
 /// A variable of a constraint; `First` and `Second` are the ones of its quantifier.
 #[derive(Clone, Copy, Debug, PartialEq, Eq, PartialOrd, Ord, Hash)]
@@ -47,6 +51,14 @@ pub struct Conj {
     pub literals: Seq<Literal>,
 }
 
+impl TryClone for Conj {
+    fn clone(&self, alloc: Global) -> Result<Conj, NoMemory> {
+        Ok(Conj {
+            literals: self.literals.clone(alloc)?,
+        })
+    }
+}
+
 /// A constraint's body before it is brought to disjunctive normal form.
 #[derive(Drop, PartialEq, Eq, PartialOrd, Ord, Hash)]
 pub enum Formula {
@@ -55,6 +67,45 @@ pub enum Formula {
     Not(Box<Formula>),
     Given(Box<Formula>),
     Leaf(Atom),
+}
+
+impl TryCloneTree for Formula {
+    ghost use Rattle.dsr_ir.specs.Shapes.{FormulaShape, formula_shape};
+
+    ghost Shape = { FormulaShape };
+
+    ghost shape = { formula_shape };
+
+    #[cycle(formula)]
+    fn clone(&self, alloc: Global) -> Result<Formula, NoMemory> {
+        match self {
+            Formula::Any(parts) => Ok(Formula::Any(cloned(alloc, parts)?)),
+            Formula::Every(parts) => Ok(Formula::Every(cloned(alloc, parts)?)),
+            Formula::Not(part) => Ok(Formula::Not(boxed(alloc, part)?)),
+            Formula::Given(part) => Ok(Formula::Given(boxed(alloc, part)?)),
+            Formula::Leaf(atom) => Ok(Formula::Leaf(*atom)),
+        }
+    }
+}
+
+// A copy of a formula, in a box of its own.
+#[cycle(formula)]
+fn boxed(alloc: Global, formula: &Formula) -> Result<Box<Formula>, NoMemory>
+    ensures { IfOk result (λ copy. formula_shape copy.value ≡ formula_shape formula.now) }
+{
+    Ok(Box::new(alloc, formula.clone(alloc)?)?)
+}
+
+// Copies of formulas, in order.
+#[cycle(formula)]
+fn cloned(alloc: Global, parts: &[Formula]) -> Result<Vec<Formula>, NoMemory>
+    ensures { IfOk result (λ copies. map formula_shape copies.items ≡ map formula_shape parts.now) }
+{
+    let mut copies = Vec::new(alloc);
+    for part in parts {
+        copies.push(part.clone(alloc)?)?;
+    }
+    Ok(copies)
 }
 
 /// What a constraint's variables run over: nothing, a set's members, or a relation's pairs.
@@ -71,4 +122,14 @@ pub struct Constraint {
     pub name: Name,
     pub quant: Quant,
     pub conjs: Seq<Conj>,
+}
+
+impl TryClone for Constraint {
+    fn clone(&self, alloc: Global) -> Result<Constraint, NoMemory> {
+        Ok(Constraint {
+            name: self.name.clone(alloc)?,
+            quant: self.quant,
+            conjs: self.conjs.clone(alloc)?,
+        })
+    }
 }

@@ -1,5 +1,8 @@
 // What a specification declares, with every name resolved to a number.
-use crate::{Constraint, Expr, Name, Rule, Seq};
+ghost use Rattle.std.specs.Prelude.{◌≡◌, IfOk};
+
+use crate::{Constraint, Expr, Name, NoMemory, Rule, Seq, TryClone, TryCloneTree};
+use std::alloc::Global;
 
 /// The order of a number's bytes.
 #[derive(Clone, Copy, Debug, PartialEq, Eq, PartialOrd, Ord, Hash)]
@@ -40,6 +43,24 @@ pub struct Field {
     pub kind: Kind,
 }
 
+impl TryCloneTree for Field {
+    ghost use Rattle.dsr_ir.specs.Shapes.{FieldShape, field_shape};
+
+    ghost Shape = { FieldShape };
+
+    ghost shape = { field_shape };
+
+    fn clone(&self, alloc: Global) -> Result<Field, NoMemory> {
+        Ok(Field {
+            name: self.name.clone(alloc)?,
+            fixed: self.fixed,
+            width: self.width,
+            len: self.len.clone(alloc)?,
+            kind: self.kind,
+        })
+    }
+}
+
 /// A structure with the fields that it declares itself.
 #[derive(Drop, PartialEq, Eq, PartialOrd, Ord, Hash)]
 pub struct Structure {
@@ -47,6 +68,22 @@ pub struct Structure {
     /// The structure that this one extends.
     pub parent: Option<u32>,
     pub fields: Seq<Field>,
+}
+
+impl TryCloneTree for Structure {
+    ghost use Rattle.dsr_ir.specs.Shapes.{StructureShape, structure_shape};
+
+    ghost Shape = { StructureShape };
+
+    ghost shape = { structure_shape };
+
+    fn clone(&self, alloc: Global) -> Result<Structure, NoMemory> {
+        Ok(Structure {
+            name: self.name.clone(alloc)?,
+            parent: self.parent,
+            fields: self.fields.clone(alloc)?,
+        })
+    }
 }
 
 /// A pool of records of one structure.
@@ -65,6 +102,38 @@ pub struct Pool {
     pub avoid: Option<Seq<u32>>,
 }
 
+impl TryCloneTree for Pool {
+    ghost use Rattle.dsr_ir.specs.Shapes.{PoolShape, pool_shape};
+
+    ghost Shape = { PoolShape };
+
+    ghost shape = { pool_shape };
+
+    fn clone(&self, alloc: Global) -> Result<Pool, NoMemory> {
+        Ok(Pool {
+            name: self.name.clone(alloc)?,
+            structure: self.structure,
+            count: self.count.clone(alloc)?,
+            slot: self.slot.clone(alloc)?,
+            start: self.start.clone(alloc)?,
+            code: self.code.clone(alloc)?,
+            step: self.step.clone(alloc)?,
+            none: self.none.clone(alloc)?,
+            avoid: cloned(alloc, &self.avoid)?,
+        })
+    }
+}
+
+// A copy of a list that may be missing.
+fn cloned(alloc: Global, list: &Option<Seq<u32>>) -> Result<Option<Seq<u32>>, NoMemory>
+    ensures { IfOk result (λ copy. copy ≡ list.now) }
+{
+    match list {
+        Some(list) => Ok(Some(list.clone(alloc)?)),
+        None => Ok(None),
+    }
+}
+
 /// A set of slots of a pool, whose fields are read by a structure.
 #[derive(Drop, PartialEq, Eq, PartialOrd, Ord, Hash)]
 pub struct SetDecl {
@@ -76,6 +145,17 @@ pub struct SetDecl {
     pub except: Option<u32>,
 }
 
+impl TryClone for SetDecl {
+    fn clone(&self, alloc: Global) -> Result<SetDecl, NoMemory> {
+        Ok(SetDecl {
+            name: self.name.clone(alloc)?,
+            pool: self.pool,
+            structure: self.structure,
+            except: self.except,
+        })
+    }
+}
+
 /// A relation.
 #[derive(Drop, PartialEq, Eq, PartialOrd, Ord, Hash)]
 pub struct Rel {
@@ -84,6 +164,16 @@ pub struct Rel {
     pub source: u32,
     /// The pool of the targets; none where they are numbers.
     pub target: Option<u32>,
+}
+
+impl TryClone for Rel {
+    fn clone(&self, alloc: Global) -> Result<Rel, NoMemory> {
+        Ok(Rel {
+            name: self.name.clone(alloc)?,
+            source: self.source,
+            target: self.target,
+        })
+    }
 }
 
 /// A field, by the number of the structure that declares it and its place there.
@@ -107,10 +197,46 @@ pub struct Structures {
     pub rels: Seq<Rel>,
 }
 
+impl TryCloneTree for Structures {
+    ghost use Rattle.dsr_ir.specs.Shapes.{StructuresShape, structures_shape};
+
+    ghost Shape = { StructuresShape };
+
+    ghost shape = { structures_shape };
+
+    fn clone(&self, alloc: Global) -> Result<Structures, NoMemory> {
+        Ok(Structures {
+            version: self.version,
+            order: self.order,
+            head: self.head,
+            structures: self.structures.clone(alloc)?,
+            pools: self.pools.clone(alloc)?,
+            sets: self.sets.clone(alloc)?,
+            rels: self.rels.clone(alloc)?,
+        })
+    }
+}
+
 /// A typed specification.
 #[derive(Drop, PartialEq, Eq, PartialOrd, Ord, Hash)]
 pub struct Spec {
     pub base: Structures,
     pub rules: Seq<Rule>,
     pub constraints: Seq<Constraint>,
+}
+
+impl TryCloneTree for Spec {
+    ghost use Rattle.dsr_ir.specs.Shapes.{SpecShape, spec_shape};
+
+    ghost Shape = { SpecShape };
+
+    ghost shape = { spec_shape };
+
+    fn clone(&self, alloc: Global) -> Result<Spec, NoMemory> {
+        Ok(Spec {
+            base: self.base.clone(alloc)?,
+            rules: self.rules.clone(alloc)?,
+            constraints: self.constraints.clone(alloc)?,
+        })
+    }
 }

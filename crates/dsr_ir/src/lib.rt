@@ -19,7 +19,7 @@ pub use declarations::{
 };
 pub use expressions::Expr;
 pub use layouts::{Cell, FieldPlace, Layout, PoolNumbers};
-pub use memory::{NoMemory, TryClone};
+pub use memory::{NoMemory, TryClone, TryCloneTree};
 pub use names::Name;
 pub use rules::{Guard, Inc, Op, Path, Rule, Span, Test};
 pub use sequences::Seq;

@@ -1,5 +1,6 @@
 // Model definition rules.
-use crate::{FieldRef, Seq};
+use crate::{FieldRef, NoMemory, Seq, TryClone};
+use std::alloc::Global;
 
 /// A comparison of two numbers.
 #[derive(Clone, Copy, Debug, PartialEq, Eq, PartialOrd, Ord, Hash)]
@@ -67,4 +68,15 @@ pub struct Rule {
     pub span: Span,
     pub guards: Seq<Guard>,
     pub inc: Inc,
+}
+
+impl TryClone for Rule {
+    fn clone(&self, alloc: Global) -> Result<Rule, NoMemory> {
+        Ok(Rule {
+            premise: self.premise,
+            span: self.span,
+            guards: self.guards.clone(alloc)?,
+            inc: self.inc,
+        })
+    }
 }

@@ -1,5 +1,6 @@
 // The tokens of a specification's text.
-use crate::Name;
+use crate::{Name, NoMemory, TryClone};
+use std::alloc::Global;
 
 /// A word that is no name.
 #[derive(Clone, Copy, Debug, PartialEq, Eq, PartialOrd, Ord, Hash)]
@@ -89,9 +90,29 @@ pub enum Token {
     Sign(Sign),
 }
 
+impl TryClone for Token {
+    fn clone(&self, alloc: Global) -> Result<Token, NoMemory> {
+        Ok(match self {
+            Token::Keyword(keyword) => Token::Keyword(*keyword),
+            Token::Name(name) => Token::Name(name.clone(alloc)?),
+            Token::Number(number) => Token::Number(*number),
+            Token::Sign(sign) => Token::Sign(*sign),
+        })
+    }
+}
+
 /// A token with the place of its first byte in the text, counted from 0.
 #[derive(Drop, PartialEq, Eq, PartialOrd, Ord, Hash)]
 pub struct Lexeme {
     pub token: Token,
     pub place: u64,
+}
+
+impl TryClone for Lexeme {
+    fn clone(&self, alloc: Global) -> Result<Lexeme, NoMemory> {
+        Ok(Lexeme {
+            token: self.token.clone(alloc)?,
+            place: self.place,
+        })
+    }
 }

@@ -1,5 +1,6 @@
 // Updates towards a goal.
-use crate::{Measure, Path, Seq, Test, Var};
+use crate::{Measure, NoMemory, Path, Seq, Test, TryClone, Var};
+use std::alloc::Global;
 
 /// A set or a relation, by its number.
 #[derive(Clone, Copy, Debug, PartialEq, Eq, PartialOrd, Ord, Hash)]
@@ -53,6 +54,18 @@ pub struct Update {
     pub fresh: Option<u32>,
 }
 
+impl TryClone for Update {
+    fn clone(&self, alloc: Global) -> Result<Update, NoMemory> {
+        Ok(Update {
+            rule: self.rule,
+            place: self.place,
+            at: self.at,
+            writes: self.writes.clone(alloc)?,
+            fresh: self.fresh,
+        })
+    }
+}
+
 /// What an update is for.
 #[derive(Clone, Copy, Debug, PartialEq, Eq, PartialOrd, Ord, Hash)]
 pub enum Goal {
@@ -71,4 +84,13 @@ pub enum Goal {
 pub struct Template {
     pub goal: Goal,
     pub updates: Seq<Update>,
+}
+
+impl TryClone for Template {
+    fn clone(&self, alloc: Global) -> Result<Template, NoMemory> {
+        Ok(Template {
+            goal: self.goal,
+            updates: self.updates.clone(alloc)?,
+        })
+    }
 }

@@ -1,3 +1,4 @@
+pub mod FormCuts
 pub mod FormNumbers
 pub mod FormPlaces
 pub mod FormRoundTrip

@@ -4,6 +4,7 @@ pub mod FormNames
 pub mod FormParts
 pub mod FormSpecs
 pub mod FormStatements
+pub mod FormTexts
 pub mod FormTokens
 pub mod Plain
 pub mod PlainLayouts

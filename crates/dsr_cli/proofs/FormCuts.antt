@@ -48,7 +48,6 @@ cut_single before (t ∷ ts) rest e =
     ] e
   where
     only : (us : List Token) → is_empty us ≡ true → (before ++ t ∷ []) ∷ cut [] (us ++ rest) ≡ (before ++ t ∷ us) ∷ cut [] rest
-    unfolding is_empty
     only [] h = refl
     only (u ∷ us) h = absurd cc
 
@@ -110,6 +109,7 @@ unfolding all_single single is_empty
 structure_single pool name es = all_append (map (entry_statement pool) es) (close_statement ∷ []) (all_map (entry_statement pool) (λ e. entry_single pool e.name e.sort) es) refl
 
 later_single : (f : Form) → all_single (later_statements f) ≡ true
+unfolding all_single
 later_single f =
     let last : all_single (demand_statement f ∷ []) ≡ true = one (demand_statement f) (demand_single f f.demand.name f.demand.relation f.demand.side) in
     let rules = all_append (map (rule_statement f) f.rules) _ (all_map (rule_statement f) (λ r. rule_single f r.premise r.conclusion) f.rules) last in
@@ -117,7 +117,6 @@ later_single f =
     all_append (map (set_statement f.pool) f.sets) _ (all_map (set_statement f.pool) (λ n. set_single f.pool n) f.sets) relations
   where
     one : (s : List Token) → single s ≡ true → all_single (s ∷ []) ≡ true
-    unfolding all_single
     one s e = rw e refl
 
 form_single : (f : Form) → all_single (form_statements f) ≡ true

@@ -1,6 +1,8 @@
 pub mod FormCuts
 pub mod FormNumbers
 pub mod FormPlaces
+pub mod FormPlain
+pub mod FormReads
 pub mod FormRoundTrip
 pub mod FormSame
 pub mod FormSections

@@ -1,6 +1,6 @@
 // Texts of the small form that is read so far.
-ghost use Rattle.std.specs.Prelude.{◌≡◌, IfOk, drop, map};
-ghost use Rattle.dsr_meaning.specs.Tokens.{is_hexadecimal_digit, every};
+ghost use Rattle.std.specs.Prelude.{◌≡◌, IfOk, IsTrue, drop, map};
+ghost use Rattle.dsr_meaning.specs.Tokens.{is_hexadecimal_digit, every, IsLexed};
 ghost use Rattle.dsr_cli.specs.FormStatements.{token_of};
 ghost use Rattle.dsr_cli.specs.FormTexts.{is_no_mark, begins_hexadecimal, is_decimal, are_decimal, FindsForm, FindsSpec, FindsLexemes, ReadsSpec};
 
@@ -110,6 +110,21 @@ fn are_decimal_lexemes(text: &[u8], lexemes: &[Lexeme]) -> bool
     true
 }
 
+fn find_plain_spec(
+    alloc: Global,
+    text: &[u8],
+    lexemes: Vec<Lexeme>,
+) -> Result<Option<Spec>, AllocError>
+    requires no_comment { IsTrue (every is_no_mark text.now) }
+    requires lexed { IsLexed text.now lexemes.items }
+    ensures { IfOk result (ReadsSpec text.now) }
+{
+    if !are_decimal_lexemes(text, &lexemes) {
+        return Ok(None);
+    }
+    find_spec(alloc, lexemes)
+}
+
 /// The typed specification of a text of the form; none where the text isn't of the form.
 pub fn read_spec(alloc: Global, text: &[u8]) -> Result<Option<Spec>, AllocError>
     ensures { IfOk result (ReadsSpec text.now) }
@@ -118,7 +133,7 @@ pub fn read_spec(alloc: Global, text: &[u8]) -> Result<Option<Spec>, AllocError>
         return Ok(None);
     }
     match find_lexemes(alloc, text)? {
-        Some(lexemes) if are_decimal_lexemes(text, &lexemes) => find_spec(alloc, lexemes),
-        _ => Ok(None),
+        None => Ok(None),
+        Some(lexemes) => find_plain_spec(alloc, text, lexemes),
     }
 }

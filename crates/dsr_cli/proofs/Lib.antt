@@ -1,5 +1,13 @@
 pub mod AnswerLaws
 pub mod Findings
+pub mod FormCuts
+pub mod FormNumbers
+pub mod FormPlaces
+pub mod FormPlain
+pub mod FormReads
+pub mod FormRoundTrip
+pub mod FormSame
+pub mod FormSections
 pub mod Given
 pub mod Marking
 pub mod Pairs

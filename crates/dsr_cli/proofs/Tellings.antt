@@ -8,7 +8,7 @@ use Rattle.dsr_store.specs.Files.{Files, IsFrontOf, Lacks}
 use Rattle.dsr_store.specs.declared.outside.Missed.{Missed}
 use Rattle.dsr_ir.specs.declared.declarations.Spec.{Spec}
 use Rattle.dsr_cli.specs.Answers.{Answer, IsAnswer, IsFilesAnswer, IsImage, IsImageAnswer, IsLoadAnswer, IsMissing, IsText, NoneFailed, Shelved, accepted, no_image, long_image, on_files, on_image}
-use Rattle.dsr_cli.specs.Forms.{HasForm}
+use Rattle.dsr_cli.specs.FormTexts.{HasForm}
 use Rattle.dsr_cli.specs.Loads.{shelved_by, shown}
 use Rattle.dsr_cli.specs.Words.{is_usage, second, third}
 use Rattle.dsr_cli.specs.declared.answers.Told.{Told}

@@ -51,8 +51,7 @@ module _ (spec : Spec) (plain : IsPlain spec) (layout : Layout) (bytes : List �
       let quant : h.constraint.quant ≡ quants.Once = ap (λ (c : Constraint). c.quant) at.1 ∙ plain.constraint_fits.no_quantifier in
       let once = one_binding spec layout bytes v.binding (subst (λ q. IsBinding spec layout bytes q v.binding) quant h.is_binding) in
       let conjs : h.constraint.conjs ≡ the_conj ∷ [] = ap (λ (c : Constraint). c.conjs) at.1 ∙ plain.constraint_fits.body in
-      let none : All (λ conj. ConjHolds spec layout bytes v.binding conj → ⊥) (the_conj ∷ []) = subst (λ cs. All (λ conj. ConjHolds spec layout bytes v.binding conj → ⊥) cs) conjs h.no_conjunction in
-      (
+      let none : All (λ conj. ConjHolds spec layout bytes v.binding conj → ⊥) (the_conj ∷ []) = subst (λ cs. All (λ conj. ConjHolds spec layout bytes v.binding conj → ⊥) cs) conjs h.no_conjunction in (
         λ i. record { constraint = at.0 i; binding = once i },
         λ holds. none 0 the_conj (omega arith) (all_one (LiteralHolds spec layout bytes v.binding) the_literal (subst (λ b. AtomHolds spec layout bytes b the_literal.atom) (sym once) holds)),
       )
@@ -63,7 +62,7 @@ module _ (spec : Spec) (plain : IsPlain spec) (layout : Layout) (bytes : List �
     declared = rw plain.one_constraint refl;
     is_binding = rw plain.constraint_fits.no_quantifier tt;
     no_conjunction = subst (λ cs. All (λ conj. ConjHolds spec layout bytes Once conj → ⊥) cs) (sym plain.constraint_fits.body)
-    (all_one (λ conj. ConjHolds spec layout bytes Once conj → ⊥) the_conj (λ all. fails (all 0 the_literal (omega arith))));
+        (all_one (λ conj. ConjHolds spec layout bytes Once conj → ⊥) the_conj (λ all. fails (all 0 the_literal (omega arith))));
   }
 
   pub verdict : (met : Bool) → (IsTrue met ↔ Holds) → AreViolations spec layout bytes (violations_where met)

@@ -11,7 +11,7 @@ use Rattle.dsr_meaning.specs.Consistency.{AreViolations, Instanced}
 use Rattle.dsr_store.specs.Causes.{Rose}
 use Rattle.dsr_store.specs.Files.{Files, IsFrontOf, Lacks}
 use Rattle.dsr_store.specs.declared.outside.Missed.{Missed}
-use Rattle.dsr_cli.specs.Forms.{HasForm}
+use Rattle.dsr_cli.specs.FormTexts.{HasForm}
 use Rattle.dsr_cli.specs.PlainLayouts.{IsLaidOut, IsOutside, IsShort, size_of}
 use Rattle.dsr_cli.specs.Words.{is_usage, second, third}
 use Rattle.dsr_cli.specs.declared.status.Status.{Status}

@@ -1,6 +1,13 @@
 pub mod Answers
 pub mod Ends
-pub mod Forms
+pub mod FormConditions
+pub mod FormMarks
+pub mod FormNames
+pub mod FormParts
+pub mod FormSpecs
+pub mod FormStatements
+pub mod FormTexts
+pub mod FormTokens
 pub mod Loads
 pub mod Plain
 pub mod PlainLayouts

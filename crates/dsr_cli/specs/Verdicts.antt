@@ -5,7 +5,7 @@ use Rattle.dsr_ir.specs.declared.declarations.Spec.{Spec}
 use Rattle.dsr_ir.specs.declared.layouts.Layout.{Layout}
 use Rattle.dsr_meaning.specs.Consistency.{IsConsistent}
 use Rattle.dsr_store.specs.Files.{Files}
-use Rattle.dsr_cli.specs.Forms.{HasForm}
+use Rattle.dsr_cli.specs.FormTexts.{HasForm}
 use Rattle.dsr_cli.specs.PlainLayouts.{IsLaidOut}
 use Rattle.dsr_cli.specs.Words.{second, third}
 

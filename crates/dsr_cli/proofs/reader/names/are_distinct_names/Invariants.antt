@@ -1,0 +1,6 @@
+use Rattle.std.proofs.Common.{◌≡◌, map, drop, ◌+◌}
+use Rattle.dsr_cli.specs.FormNames.{has, are_distinct, are_apart, place_of}
+use Rattle.dsr_cli.proofs.reader.names.are_distinct_names.Given as goal
+
+abbrev pub invariant-loop-i : goal.invariant-loop-i
+invariant-loop-i g l = are_distinct (map g.T.Named.name (drop l.i l.items)) ≡ are_distinct (map g.T.Named.name l.items)

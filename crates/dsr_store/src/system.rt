@@ -1,0 +1,120 @@
+// The system's files and its standard output.
+ghost use Rattle.std.specs.Prelude.{◌≡◌, ◌≤◌, vec_len, take, IfOk, IfSome, None};
+
+use crate::outside::{Missed, Shelf, ShelfFault, Sink, SinkFault};
+use std::alloc::Global;
+use std::fs;
+use std::io::{self, Read, Write};
+use std::rt::Files;
+
+// How many bytes one read asks for at most.
+const CHUNK: usize = 4096;
+
+// The first bytes that a reader gives, at most `cap`. A read that gives nothing is its end.
+fn read_front<F: Read>(alloc: Global, file: &mut F, cap: u64) -> Result<Vec<u8>, ShelfFault>
+    ensures capped { IfOk result (λ bytes. vec_len bytes ≤ cap) }
+    ensures front { IfOk result (λ bytes. IfSome (F.remaining file.old) (λ whole. bytes.items ≡ take cap whole)) }
+{
+    let mut bytes = Vec::new(alloc);
+    let mut chunk = [0u8; CHUNK];
+    for _turn in 0..u64::MAX {
+        let left = cap - bytes.len() as u64;
+        if left == 0 {
+            return Ok(bytes);
+        }
+        let want = left.min(CHUNK as u64) as usize;
+        match file.read(&mut chunk[..want]) {
+            Ok(0) => return Ok(bytes),
+            Ok(count) => bytes.extend_from_slice(&chunk[..count])?,
+            Err(_) => return Err(ShelfFault::Failed),
+        }
+    }
+    // Each turn gave a byte at least, so these are as many as the cap.
+    Ok(bytes)
+}
+
+// The first bytes of a file, at most `cap`.
+fn load_front<R: Files>(alloc: Global, rt: &R, name: &str, cap: u64) -> Result<Vec<u8>, ShelfFault>
+    ensures { IfOk result (λ bytes. vec_len bytes ≤ cap) }
+{
+    match fs::open(rt, name) {
+        Ok(mut file) => read_front(alloc, &mut file, cap),
+        Err(_) => Err(ShelfFault::Failed),
+    }
+}
+
+// Makes these the file's only bytes. `write_all` gives an error for a write that takes nothing of
+// what is left.
+fn write_whole<R: Files>(rt: &R, name: &str, bytes: &[u8]) -> io::Result<()> {
+    let mut file = fs::create(rt, name)?;
+    file.write_all(bytes)
+}
+
+/// The system's files, by their paths. What they hold isn't told, since others may write them too.
+#[derive(Drop)]
+pub struct FileShelf<'a, R: Files> {
+    /// The runtime that the files are reached through.
+    pub rt: &'a R,
+    /// How many calls failed; it stays at its last value.
+    pub faults: u64,
+    /// The last call that failed, if one did.
+    pub last: Option<Missed>,
+}
+
+impl<'a, R: Files> Shelf for FileShelf<'a, R> {
+    ghost held = { λ _. None };
+
+    ghost faults = { λ shelf. shelf.faults };
+
+    ghost last = { λ shelf. shelf.last };
+
+    fn load(&mut self, alloc: Global, name: &str, cap: u64) -> Result<Vec<u8>, ShelfFault> {
+        let missed = Missed::new(alloc, false, name)?;
+        match load_front(alloc, self.rt, name, cap) {
+            Ok(bytes) => Ok(bytes),
+            Err(ShelfFault::NoMemory) => Err(ShelfFault::NoMemory),
+            Err(ShelfFault::Failed) => {
+                self.faults = self.faults.saturating_add(1);
+                self.last = Some(missed);
+                Err(ShelfFault::Failed)
+            }
+        }
+    }
+
+    fn save(&mut self, alloc: Global, name: &str, bytes: &[u8]) -> Result<(), ShelfFault> {
+        let missed = Missed::new(alloc, true, name)?;
+        match write_whole(self.rt, name, bytes) {
+            Ok(()) => Ok(()),
+            Err(_) => {
+                self.faults = self.faults.saturating_add(1);
+                self.last = Some(missed);
+                Err(ShelfFault::Failed)
+            }
+        }
+    }
+}
+
+/// The standard output. What was written isn't told.
+#[derive(Drop)]
+pub struct StdSink<'a, R: Print> {
+    /// The runtime that the output is reached through.
+    pub rt: &'a R,
+    /// How many calls failed; it stays at its last value.
+    pub faults: u64,
+}
+
+impl<'a, R: Print> Sink for StdSink<'a, R> {
+    ghost written = { λ _. None };
+
+    ghost faults = { λ sink. sink.faults };
+
+    fn put(&mut self, _alloc: Global, piece: &[u8]) -> Result<(), SinkFault> {
+        match io::writer(self.rt).write_all(piece) {
+            Ok(()) => Ok(()),
+            Err(_) => {
+                self.faults = self.faults.saturating_add(1);
+                Err(SinkFault::Failed)
+            }
+        }
+    }
+}

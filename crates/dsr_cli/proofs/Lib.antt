@@ -1,5 +1,13 @@
+pub mod AnswerLaws
+pub mod Findings
 pub mod Given
 pub mod Marking
+pub mod Pairs
 pub mod Places
 pub mod PlainSizes
+pub mod RowMembers
 pub mod Searching
+pub mod Targets
+pub mod Tellings
+pub mod Texts
+pub mod Verdict

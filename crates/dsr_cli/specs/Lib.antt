@@ -1,4 +1,13 @@
+pub mod Answers
+pub mod Ends
+pub mod Forms
+pub mod Loads
 pub mod Plain
 pub mod PlainLayouts
 pub mod Records
+pub mod Rows
 pub mod Search
+pub mod Statuses
+pub mod Values
+pub mod Verdicts
+pub mod Words

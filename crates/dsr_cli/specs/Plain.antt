@@ -87,12 +87,16 @@ pub record IsPlainRule (spec : Spec) (rule : Rule) : Type 0 where
   pub premise_fits : IsPlainPremise spec rule.premise
   pub inclusion_fits : IsPlainInc spec rule.premise rule.inc
 
--- what the value is compared with: a number, or a size whose members are records
+-- a size whose members are records: that of a set, or of the head's targets
+abbrev pub IsPlainMeasure : Spec → Measure → Type 0
+IsPlainMeasure spec (Whole set) = set < length spec.base.sets
+IsPlainMeasure spec (Out Head rel) = Relates spec rel 0 (Some 1)
+IsPlainMeasure spec _ = ⊥
+
+-- what the value is compared with: a number, or such a size
 abbrev pub IsPlainBound : Spec → Bound → Type 0
 IsPlainBound spec (Num k) = Unit {0}
-IsPlainBound spec (Size (Whole set)) = set < length spec.base.sets
-IsPlainBound spec (Size (Out Head rel)) = Relates spec rel 0 (Some 1)
-IsPlainBound spec _ = ⊥
+IsPlainBound spec (Size measure) = IsPlainMeasure spec measure
 
 -- a constraint without quantifier whose body is one equation on a value of the head
 pub record IsPlainConstraint (spec : Spec) (constraint : Constraint) : Type 0 where
@@ -110,6 +114,7 @@ pub record IsPlain (spec : Spec) : Type 0 where
   pub head_begins : 0 < length (fields_of spec 0)
   pub few_head_fields : length (fields_of spec 0) ≤ 64
   pub few_fields : length (fields_of spec 1) ≤ 64
+  pub one_pool : length spec.base.pools ≡ 1
   pub few_sets : length spec.base.sets ≤ 64
   pub sets : All IsPlainSet spec.base.sets
   pub rules : All (IsPlainRule spec) spec.rules

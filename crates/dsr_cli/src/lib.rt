@@ -1,6 +1,18 @@
 //! The commands, from their words to their answers.
 #![tactic(auto)]
 
+mod answers;
 mod members;
 mod plain_layouts;
+mod program;
+mod reader;
+mod status;
+mod values;
 mod views;
+mod words;
+
+pub use program::run;
+pub use status::Status;
+
+#[cfg(test)]
+mod tests;

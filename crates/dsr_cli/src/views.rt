@@ -9,6 +9,7 @@ use byteorder::{ByteOrder, LittleEndian};
 use dsr_ir::{Element, Layout, Order, Path, Spec, Width};
 
 /// What a check reads.
+#[derive(Clone, Copy)]
 pub struct View<'a> {
     pub spec: &'a Spec,
     pub layout: &'a Layout,

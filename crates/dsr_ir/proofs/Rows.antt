@@ -1,5 +1,5 @@
 -- The shapes in a formula's row are those of its list of parts.
-use Rattle.std.proofs.Common.{◌≡◌, List, map, Vec, refl, ap, ◌∙◌}
+use Rattle.std.proofs.Common.{◌≡◌, map, Vec, refl, ap, ◌∙◌}
 use Rattle.std.specs.declared.alloc.Global.{Global}
 use Rattle.dsr_ir.specs.declared.constraints.Formula.{Formula, Row_of-Formula, end_of-Formula, more_of-Formula, items-the_row-Formula, items_hidden-the_row-Formula-0}
 use Rattle.dsr_ir.specs.declared.constraints.Formula.TheBlock.{hidden-the_row-Formula-0}

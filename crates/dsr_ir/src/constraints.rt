@@ -5,7 +5,7 @@ ghost use Rattle.dsr_ir.specs.Shapes.{formula_shape};
 use crate::{Name, NoMemory, Op, Seq, TryClone, TryCloneTree};
 use std::alloc::Global;
 
-/// A variable of a constraint; `First` and `Second` are the ones of its quantifier.
+/// A variable of a constraint: `head`, or the first or second one of its quantifier.
 #[derive(Clone, Copy, Debug, PartialEq, Eq, PartialOrd, Ord, Hash)]
 pub enum Var {
     Head,
@@ -13,11 +13,14 @@ pub enum Var {
     Second,
 }
 
-/// What is counted: a set's members, a variable's targets, or a variable's sources.
+/// What is counted, in a set or a relation by its number.
 #[derive(Clone, Copy, Debug, PartialEq, Eq, PartialOrd, Ord, Hash)]
 pub enum Measure {
+    /// The members of a set.
     Whole(u32),
+    /// The targets of a variable under a relation.
     Out(Var, u32),
+    /// The sources of a variable under a relation.
     Into(u32, Var),
 }
 
@@ -25,15 +28,20 @@ pub enum Measure {
 #[derive(Clone, Copy, Debug, PartialEq, Eq, PartialOrd, Ord, Hash)]
 pub enum Bound {
     Num(u64),
+    /// The number of what is counted.
     Size(Measure),
 }
 
-/// A statement about the model.
+/// A statement about the model, with a set or a relation by its number.
 #[derive(Clone, Copy, Debug, PartialEq, Eq, PartialOrd, Ord, Hash)]
 pub enum Atom {
+    /// The variable is in the set.
     Member(Var, u32),
+    /// The pair of the variables is in the relation.
     Pair(Var, Var, u32),
+    /// The number of what is counted meets the comparison, one of `Le`, `Ge` and `Eq`.
     Count(Measure, Op, u64),
+    /// Every number that the relation gives to the variable meets the comparison.
     Value(Var, u32, Op, Bound),
 }
 
@@ -59,12 +67,14 @@ impl TryClone for Conj {
     }
 }
 
-/// A constraint's body before it is brought to disjunctive normal form.
+/// A constraint's body before it is brought to disjunctive normal form. Each part of `Any` and
+/// `Every` is a formula of its own, and `Any` of no parts is false.
 #[derive(Drop, PartialEq, Eq, PartialOrd, Ord, Hash)]
 pub enum Formula {
     Any(Vec<Formula>),
     Every(Vec<Formula>),
     Not(Box<Formula>),
+    /// A formula whose atoms are tested and never repaired.
     Given(Box<Formula>),
     Leaf(Atom),
 }
@@ -108,15 +118,19 @@ fn cloned(alloc: Global, parts: &[Formula]) -> Result<Vec<Formula>, NoMemory>
     Ok(copies)
 }
 
-/// What a constraint's variables run over: nothing, a set's members, or a relation's pairs.
+/// What a constraint's variables run over.
 #[derive(Clone, Copy, Debug, PartialEq, Eq, PartialOrd, Ord, Hash)]
 pub enum Quant {
+    /// Nothing: the constraint is tested once.
     Once,
+    /// The members of the set of this number.
     Each(u32),
+    /// The pairs of the relation of this number.
     Pairs(u32),
 }
 
-/// A consistency constraint (OOPSLA 2003) in disjunctive normal form.
+/// A consistency constraint (OOPSLA 2003) in disjunctive normal form: at each binding of its
+/// variables, every literal of one conjunction is to be true.
 #[derive(Drop, PartialEq, Eq, PartialOrd, Ord, Hash)]
 pub struct Constraint {
     pub name: Name,

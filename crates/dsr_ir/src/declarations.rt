@@ -7,7 +7,9 @@ use std::alloc::Global;
 /// The order of a number's bytes.
 #[derive(Clone, Copy, Debug, PartialEq, Eq, PartialOrd, Ord, Hash)]
 pub enum Order {
+    /// The least byte first.
     Little,
+    /// The greatest byte first.
     Big,
 }
 
@@ -32,7 +34,7 @@ pub enum Kind {
     Gap,
 }
 
-/// A field of a structure. A gap of n bytes is a `Gap` of `U8` with the length n.
+/// A field of a structure; a `fixed` one is never written. A gap of n bytes is a `Gap` of `U8` with the length n.
 #[derive(Drop, PartialEq, Eq, PartialOrd, Ord, Hash)]
 pub struct Field {
     pub name: Name,
@@ -65,7 +67,7 @@ impl TryCloneTree for Field {
 #[derive(Drop, PartialEq, Eq, PartialOrd, Ord, Hash)]
 pub struct Structure {
     pub name: Name,
-    /// The structure that this one extends.
+    /// The number of the structure that this one extends.
     pub parent: Option<u32>,
     pub fields: Seq<Field>,
 }
@@ -90,15 +92,21 @@ impl TryCloneTree for Structure {
 #[derive(Drop, PartialEq, Eq, PartialOrd, Ord, Hash)]
 pub struct Pool {
     pub name: Name,
+    /// The number of the structure of its slots.
     pub structure: u32,
+    /// The number of slots.
     pub count: Expr,
     /// The bytes of a slot; without it a slot has the structure's size.
     pub slot: Option<Expr>,
+    /// The first byte, counted from the start of the image.
     pub start: Expr,
+    /// The code of slot 0.
     pub code: Expr,
+    /// The step from one slot's code to the next.
     pub step: Expr,
+    /// The code of no slot.
     pub none: Expr,
-    /// The sets that a fresh record avoids; none where the pool has no supply.
+    /// The numbers of the sets that a fresh record avoids; none where the pool has no supply.
     pub avoid: Option<Seq<u32>>,
 }
 
@@ -134,14 +142,15 @@ fn cloned(alloc: Global, list: &Option<Seq<u32>>) -> Result<Option<Seq<u32>>, No
     }
 }
 
-/// A set of slots of a pool, whose fields are read by a structure.
+/// A set of slots of a pool.
 #[derive(Drop, PartialEq, Eq, PartialOrd, Ord, Hash)]
 pub struct SetDecl {
     pub name: Name,
     /// The pool, counted from 1.
     pub pool: u32,
+    /// The number of the structure by which the slots' fields are read.
     pub structure: u32,
-    /// The set of which this one is the complement.
+    /// The number of the set of which this one is the complement.
     pub except: Option<u32>,
 }
 
@@ -156,7 +165,7 @@ impl TryClone for SetDecl {
     }
 }
 
-/// A relation.
+/// A relation between the records of a pool or the head and those of a pool, or numbers.
 #[derive(Drop, PartialEq, Eq, PartialOrd, Ord, Hash)]
 pub struct Rel {
     pub name: Name,
@@ -183,13 +192,14 @@ pub struct FieldRef {
     pub field: u32,
 }
 
-/// Structures, pools, sets and relations in order of declaration.
+/// Structures, pools, sets and relations in order of declaration. The number of one is its place
+/// here, counted from 0; only pools are counted from 1, since 0 is the head.
 #[derive(Drop, PartialEq, Eq, PartialOrd, Ord, Hash)]
 pub struct Structures {
     /// 1 or 2.
     pub version: u8,
     pub order: Order,
-    /// The structure `Head`.
+    /// The number of the structure `Head`.
     pub head: u32,
     pub structures: Seq<Structure>,
     pub pools: Seq<Pool>,
@@ -217,7 +227,7 @@ impl TryCloneTree for Structures {
     }
 }
 
-/// A typed specification.
+/// A typed specification, with rules and constraints in order of declaration.
 #[derive(Drop, PartialEq, Eq, PartialOrd, Ord, Hash)]
 pub struct Spec {
     pub base: Structures,

@@ -26,3 +26,6 @@ pub use sequences::Seq;
 pub use tokens::{Keyword, Lexeme, Sign, Token};
 pub use tuples::{Binding, Element, Fact, Instance, Target};
 pub use updates::{At, Goal, Pick, Place, Symbol, Template, Update, Write};
+
+#[cfg(test)]
+mod tests;

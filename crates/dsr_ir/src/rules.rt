@@ -5,11 +5,17 @@ use std::alloc::Global;
 /// A comparison of two numbers.
 #[derive(Clone, Copy, Debug, PartialEq, Eq, PartialOrd, Ord, Hash)]
 pub enum Op {
+    /// `=`
     Eq,
+    /// `!=`
     Ne,
+    /// `<`
     Lt,
+    /// `<=`
     Le,
+    /// `>`
     Gt,
+    /// `>=`
     Ge,
 }
 
@@ -23,10 +29,15 @@ pub struct Path {
 /// A test of a field's value.
 #[derive(Clone, Copy, Debug, PartialEq, Eq, PartialOrd, Ord, Hash)]
 pub enum Test {
+    /// The number meets the comparison.
     Cmp(Op, u64),
+    /// The reference is the code of a slot.
     Legal,
+    /// The reference is neither the code of a slot nor that of no slot.
     Illegal,
+    /// The reference is the code of no slot.
     IsNone,
+    /// The reference is not the code of no slot, be it legal or not.
     IsSome,
 }
 
@@ -37,11 +48,14 @@ pub struct Guard {
     pub test: Test,
 }
 
-/// What a rule's index runs over: nothing, the entries of an array, or the slots of a pool.
+/// What a rule's index runs over.
 #[derive(Clone, Copy, Debug, PartialEq, Eq, PartialOrd, Ord, Hash)]
 pub enum Span {
+    /// Nothing: the rule has no index.
     Single,
+    /// The entries of an array of the premise's record.
     Array(FieldRef),
+    /// The slots of a pool, counted from 1.
     Slots(u32),
 }
 
@@ -63,7 +77,7 @@ pub enum Inc {
 /// A model definition rule (OOPSLA 2003): from a premise and guards to an inclusion.
 #[derive(Drop, PartialEq, Eq, PartialOrd, Ord, Hash)]
 pub struct Rule {
-    /// The set of the premise; none for the head.
+    /// The number of the premise's set; none where the premise is `head`.
     pub premise: Option<u32>,
     pub span: Span,
     pub guards: Seq<Guard>,

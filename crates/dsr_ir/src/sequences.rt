@@ -56,8 +56,8 @@ impl<T: TryCloneTree + Drop> TryCloneTree for Seq<T> {
 
     fn clone(&self, alloc: Global) -> Result<Seq<T>, NoMemory> {
         let mut copy = Vec::new(alloc);
-        for item in &self.items {
-            copy.push(item.clone(alloc)?)?;
+        for tree in &self.items {
+            copy.push(tree.clone(alloc)?)?;
         }
         Ok(Seq { items: copy })
     }

@@ -11,8 +11,11 @@ pub struct Element {
 /// What a constraint's variables are bound to, as its quantifier asks.
 #[derive(Clone, Copy, Debug, PartialEq, Eq, PartialOrd, Ord, Hash)]
 pub enum Binding {
+    /// No variable.
     Once,
+    /// The member of a set.
     Each(Element),
+    /// The source and the target of a pair of a relation.
     Pair(Element, Element),
 }
 
@@ -23,14 +26,17 @@ pub enum Target {
     Num(u64),
 }
 
-/// A fact of the model: a member of a set, or a pair of a relation, each with the symbol's number.
+/// A fact of the model, with the number of its set or relation.
 #[derive(Clone, Copy, Debug, PartialEq, Eq, PartialOrd, Ord, Hash)]
 pub enum Fact {
+    /// The record is in the set.
     Member(u32, Element),
+    /// The record and the target are in the relation.
     Pair(u32, Element, Target),
 }
 
-/// A rule, a record of its premise's pool and an entry of its index (0 without one).
+/// A rule by its number, a record of its premise's pool, and an entry of its index (0 without
+/// one).
 #[derive(Clone, Copy, Debug, PartialEq, Eq, PartialOrd, Ord, Hash)]
 pub struct Instance {
     pub rule: u32,

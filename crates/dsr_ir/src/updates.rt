@@ -13,9 +13,13 @@ pub enum Symbol {
 #[derive(Clone, Copy, Debug, PartialEq, Eq, PartialOrd, Ord, Hash)]
 pub enum Pick {
     Num(u64),
+    /// The code of no slot of the field's pool.
     NoneCode,
+    /// The code of the slot that the variable is bound to.
     CodeOf(Var),
+    /// The code of the fresh record.
     Fresh,
+    /// The number of what is counted.
     SizeOf(Measure),
 }
 
@@ -24,6 +28,7 @@ pub enum Pick {
 pub struct Write {
     pub path: Path,
     pub pick: Pick,
+    /// A test of the field, with the outcome that is wanted.
     pub wants: Option<(Test, bool)>,
 }
 
@@ -31,26 +36,32 @@ pub struct Write {
 #[derive(Clone, Copy, Debug, PartialEq, Eq, PartialOrd, Ord, Hash)]
 pub enum Place {
     Head,
+    /// The record that the variable is bound to; the variable is not `Var::Head`.
     Of(Var),
+    /// The record of the instance that gives the tuple to be removed.
     Deriver,
 }
 
 /// The array entry that an update writes.
 #[derive(Clone, Copy, Debug, PartialEq, Eq, PartialOrd, Ord, Hash)]
 pub enum At {
+    /// None: the fields are scalars.
     Scalar,
+    /// The entry at the slot that the variable is bound to.
     SlotOf(Var),
+    /// The entry of the instance that gives the tuple to be removed.
     Deriver,
 }
 
 /// Writes to the cells of one record, and perhaps a fresh record of a pool.
 #[derive(Drop, PartialEq, Eq, PartialOrd, Ord, Hash)]
 pub struct Update {
+    /// The number of the rule whose tuples are added, removed or set.
     pub rule: u32,
     pub place: Place,
     pub at: At,
     pub writes: Seq<Write>,
-    /// The pool of the fresh record.
+    /// The pool of the fresh record, counted from 1.
     pub fresh: Option<u32>,
 }
 
@@ -69,17 +80,26 @@ impl TryClone for Update {
 /// What an update is for.
 #[derive(Clone, Copy, Debug, PartialEq, Eq, PartialOrd, Ord, Hash)]
 pub enum Goal {
+    /// A member joins a set.
     AddSet,
+    /// A member leaves a set.
     RemoveSet,
+    /// A pair joins a relation.
     AddTuple,
+    /// A pair leaves a relation.
     RemoveTuple,
+    /// A record's number under a relation becomes the wanted one.
     SetValue,
+    /// The greatest of what is counted goes.
     Trim,
+    /// A fresh record joins what is counted.
     Supply,
+    /// `Supply` where nothing is counted, and `Trim` where more than one is.
     ExactlyOne,
 }
 
-/// A goal with one update, or one update for each rule of a symbol.
+/// A goal with one update, or one update for each rule of a symbol; in `ExactlyOne` the update
+/// that supplies stands first and those that trim follow.
 #[derive(Drop, PartialEq, Eq, PartialOrd, Ord, Hash)]
 pub struct Template {
     pub goal: Goal,

@@ -4,4 +4,5 @@ pub mod Counting
 pub mod Instances
 pub mod Models
 pub mod References
+pub mod Tokens
 pub mod Truth

@@ -10,11 +10,9 @@ ghost use Rattle.dsr_meaning.specs.Truth.{HasSize};
 /// A set, or a variable under a relation, has one size.
 pub fn sizes_are_unique()
     ensures { (spec : Spec) (layout : Layout) (bytes : List ℕ) (b : Binding) (measure : Measure) (n m : ℕ) → HasSize spec layout bytes b measure n → HasSize spec layout bytes b measure m → n ≡ m }
-{
-}
+{}
 
 /// An image is consistent exactly where no binding stands in its list of violated ones.
 pub fn violations_tell_consistency()
     ensures { (spec : Spec) (layout : Layout) (bytes : List ℕ) → AreViolations spec layout bytes [] ↔ IsConsistent spec layout bytes }
-{
-}
+{}

@@ -1,0 +1,118 @@
+-- What an answer of `consistent`, or of violated bindings, finds in the files.
+use Rattle.std.proofs.Common.{◌≡◌, ◌<◌, ◌≤◌, ◌+◌, ℕ, List, [], ◌∷◌, length, take, min, Option, None, Some, ◌⊎◌, inl, inr, refl, sym, ap, subst, ◌∙◌, arith}
+use Rattle.std.specs.Prelude.{IfSome, IsSomeAnd}
+use Rattle.std.specs.FinMap.{get}
+use Rattle.std.proofs.Math.Seq.{take-length}
+use Rattle.std.proofs.lemmas.List.{length-take, take_all}
+use Rattle.dsr_ir.specs.declared.declarations.Spec.{Spec}
+use Rattle.dsr_ir.specs.declared.layouts.Layout.{Layout}
+use Rattle.dsr_meaning.specs.Consistency.{AreViolations, Instanced, IsConsistent}
+use Rattle.dsr_store.specs.Files.{Files, IsFrontOf}
+use Rattle.dsr_cli.specs.Answers.{Answer, IsAnswer, IsFilesAnswer, IsImageAnswer, IsLoadAnswer, Shelved, accepted, checked, long_image, long_spec, no_command, no_image, no_spec, on_files, on_image, outside, refused, short, verdict_answer}
+use Rattle.dsr_cli.specs.PlainLayouts.{IsLaidOut}
+use Rattle.dsr_cli.specs.Verdicts.{FindsConsistent, FindsInconsistent, IsChecked}
+use Rattle.dsr_cli.specs.Words.{second, third}
+use Rattle.dsr_cli.specs.declared.status.Status.{Status}
+use Rattle.dsr_cli.specs.declared.status.Status.TheVariants as statuses
+
+-- fewer bytes than the cap are the whole file
+whole_file : (whole bytes : List ℕ) (cap : ℕ) → bytes ≡ take cap whole → length bytes < cap → whole ≡ bytes
+whole_file whole bytes cap e lt =
+    let short : length whole ≤ cap = omega (arith, ap length e, length-take cap whole) in
+    sym (e ∙ take_all cap whole short)
+
+whole_front : (files : Files) (name bytes : List ℕ) (cap : ℕ) → IsSomeAnd (get files name) (λ whole. bytes ≡ take cap whole) → length bytes < cap → get files name ≡ Some bytes
+whole_front files name bytes cap h lt =
+    elim (get files name) as (λ o. IsSomeAnd o (λ whole. bytes ≡ take cap whole) → o ≡ Some bytes) [
+      | None ↦ λ h. absurd h
+      | Some whole ↦ λ h. ap Some (whole_file whole bytes cap h lt)
+    ] h
+
+-- the rest of a finding, once the files are told
+module _ (s : Shelved) (words : List (List ℕ)) (files : Files) (told : s.held ≡ Some files) where
+  front_told : (name bytes : List ℕ) (cap : ℕ) → IsFrontOf s.held name cap bytes → length bytes < cap → get files name ≡ Some bytes
+  front_told name bytes cap f lt =
+      let h = subst (λ o. IfSome o (λ files. IsSomeAnd (get files name) (λ whole. bytes ≡ take cap whole))) told f in
+      whole_front files name bytes cap h lt
+
+  consistent_verdict : (spec : Spec) (layout : Layout) (image : List ℕ) (vs : List Instanced) → AreViolations spec layout image vs → (verdict_answer spec vs).status ≡ statuses.Ok → IsConsistent spec layout image
+  consistent_verdict spec layout image [] v e = v.all
+  consistent_verdict spec layout image (w ∷ ws) v e = absurd cc
+
+  inconsistent_verdict : (spec : Spec) (layout : Layout) (image : List ℕ) (vs : List Instanced) → AreViolations spec layout image vs → (verdict_answer spec vs).status ≡ statuses.Inconsistent → IsConsistent spec layout image → ⊥
+  inconsistent_verdict spec layout image [] v e = absurd cc
+  inconsistent_verdict spec layout image (w ∷ ws) v e = λ consistent. consistent w (v.only w (inl refl))
+
+  -- a verdict comes of an image that was loaded whole
+  pub record IsJudged (spec : Spec) (a : Answer) : Type 0 where
+    pub layout : Layout
+    pub image : List ℕ
+    pub vs : List Instanced
+    pub file : get files (third words) ≡ Some image
+    pub laid_out : IsLaidOut spec image layout
+    pub violations : AreViolations spec layout image vs
+    pub answer_is : a ≡ verdict_answer spec vs
+
+  module _ (status : Status) (is_verdict : (status ≡ statuses.Ok) ⊎ (status ≡ statuses.Inconsistent)) where
+    not_failed : statuses.StoreFailed ≡ status → ⊥
+    not_failed e = elim is_verdict as (λ _. ⊥) [ inl v ↦ cc | inr v ↦ cc ]
+
+    not_long : statuses.TooLong ≡ status → ⊥
+    not_long e = elim is_verdict as (λ _. ⊥) [ inl v ↦ cc | inr v ↦ cc ]
+
+    not_refused : statuses.SpecRefused ≡ status → ⊥
+    not_refused e = elim is_verdict as (λ _. ⊥) [ inl v ↦ cc | inr v ↦ cc ]
+
+    not_outside : statuses.LayoutRefused ≡ status → ⊥
+    not_outside e = elim is_verdict as (λ _. ⊥) [ inl v ↦ cc | inr v ↦ cc ]
+
+    not_usage : statuses.Usage ≡ status → ⊥
+    not_usage e = elim is_verdict as (λ _. ⊥) [ inl v ↦ cc | inr v ↦ cc ]
+
+    image_judged : {spec : Spec} {image : List ℕ} {a : Answer} → IsImageAnswer spec image a → a.status ≡ status → get files (third words) ≡ Some image → IsJudged spec a
+    image_judged (short h) e f = absurd (not_outside e)
+    image_judged (outside le h) e f = absurd (not_outside e)
+    image_judged {image = image} (checked layout vs l v) e f = record { layout = layout; image = image; vs = vs; file = f; laid_out = l; violations = v; answer_is = refl }
+
+    load_judged : {spec : Spec} {a : Answer} → IsLoadAnswer s spec (third words) a → a.status ≡ status → IsJudged spec a
+    load_judged (no_image m) e = absurd (not_failed e)
+    load_judged (long_image image f long none) e = absurd (not_long e)
+    load_judged (on_image image answer i h none) e = image_judged h e (front_told (third words) image 4194305 i.loaded (omega (arith, i.whole)))
+
+    -- and the specification too
+    pub record IsWhole (a : Answer) : Type 0 where
+      pub spec : Spec
+      pub judged : IsJudged spec a
+      pub checks : IsChecked files words spec judged.layout judged.image
+
+    files_judged : {a : Answer} → IsFilesAnswer s (second words) (third words) a → a.status ≡ status → IsWhole a
+    files_judged (no_spec m) e = absurd (not_failed e)
+    files_judged (long_spec text f long none) e = absurd (not_long e)
+    files_judged (refused text t n none) e = absurd (not_refused e)
+    files_judged (accepted text spec answer t f h) e =
+        let j = load_judged h e in
+        record { spec = spec; judged = j; checks = record { text = text; spec_file = front_told (second words) text 65537 t.loaded (omega (arith, t.whole)); image_file = j.file; form = f; laid_out = j.laid_out } }
+
+    answer_judged : {a : Answer} → IsAnswer s words a → a.status ≡ status → IsWhole a
+    answer_judged (no_command u none) e = absurd (not_usage e)
+    answer_judged (on_files answer u h) e = files_judged h e
+
+-- the answer of status 0 finds a consistent image
+pub finds_consistent : (s : Shelved) (words : List (List ℕ)) (a : Answer) → IsAnswer s words a → a.status ≡ statuses.Ok → FindsConsistent s.held words
+finds_consistent s words a h e =
+    elim s.held as (λ o. s.held ≡ o → FindsConsistent o words) [
+      | None ↦ λ _. tt
+      | Some files ↦ λ told.
+          let w = answer_judged s words files told statuses.Ok (inl refl) h e in
+          (w.spec, w.judged.layout, w.judged.image, w.checks, consistent_verdict s words files told w.spec w.judged.layout w.judged.image w.judged.vs w.judged.violations (ap (λ (a : Answer). a.status) (sym w.judged.answer_is) ∙ e))
+    ] refl
+
+-- the answer of status 1 finds one that isn't
+pub finds_inconsistent : (s : Shelved) (words : List (List ℕ)) (a : Answer) → IsAnswer s words a → a.status ≡ statuses.Inconsistent → FindsInconsistent s.held words
+finds_inconsistent s words a h e =
+    elim s.held as (λ o. s.held ≡ o → FindsInconsistent o words) [
+      | None ↦ λ _. tt
+      | Some files ↦ λ told.
+          let w = answer_judged s words files told statuses.Inconsistent (inr refl) h e in
+          (w.spec, w.judged.layout, w.judged.image, w.checks, inconsistent_verdict s words files told w.spec w.judged.layout w.judged.image w.judged.vs w.judged.violations (ap (λ (a : Answer). a.status) (sym w.judged.answer_is) ∙ e))
+    ] refl

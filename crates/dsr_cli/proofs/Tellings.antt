@@ -1,0 +1,54 @@
+-- What is told is an answer.
+use Rattle.std.proofs.Common.{◌≡◌, ◌≤◌, ◌+◌, ◌^◌, ℕ, List, min, false, Option, Result, ◌⊎◌, inl, inr, sym, subst, ◌∙◌, ap, arith}
+use Rattle.std.specs.Prelude.{IfOk}
+use Rattle.std.proofs.lemmas.Result.{IfOk-weaker}
+use Rattle.std.specs.declared.alloc.AllocError.{AllocError}
+use Rattle.dsr_store.specs.Causes.{Rose}
+use Rattle.dsr_store.specs.Files.{Files, IsFrontOf, Lacks}
+use Rattle.dsr_store.specs.declared.outside.Missed.{Missed}
+use Rattle.dsr_ir.specs.declared.declarations.Spec.{Spec}
+use Rattle.dsr_cli.specs.Answers.{Answer, IsAnswer, IsFilesAnswer, IsImage, IsImageAnswer, IsLoadAnswer, IsMissing, IsText, NoneFailed, Shelved, accepted, no_image, long_image, on_files, on_image}
+use Rattle.dsr_cli.specs.Forms.{HasForm}
+use Rattle.dsr_cli.specs.Loads.{shelved_by, shown}
+use Rattle.dsr_cli.specs.Words.{is_usage, second, third}
+use Rattle.dsr_cli.specs.declared.answers.Told.{Told}
+
+pub told_is : (P : Answer → Type 0) (r : Result Told AllocError) (a : Answer) → IfOk r (λ t. shown t ≡ a) → P a → IfOk r (λ t. P (shown t))
+told_is P r a e h = IfOk-weaker r _ _ (λ t q. subst P (sym q) h) e
+
+-- a count that rises after a while has risen
+rose_later : (before mid after : ℕ) → before ≤ mid → Rose mid after → Rose before after
+rose_later before mid after le r = omega arith
+
+-- what was told after a load that didn't fail is told of the whole time
+pub missing_later : (held held' : Option Files) (before mid after : ℕ) (last last' last'' : Option Missed) (name : List ℕ) → held' ≡ held → before ≤ mid → IsMissing (shelved_by held' mid after last' last'') name → IsMissing (shelved_by held before after last last'') name
+missing_later held held' before mid after last last' last'' name e le m = record {
+  last = m.last;
+  cause = elim m.cause as (λ _. Rose before after ⊎ Lacks held name) [ inl r ↦ inl (rose_later before mid after le r) | inr l ↦ inr (subst (λ h. Lacks h name) e l) ];
+}
+
+pub load_later : (held held' : Option Files) (before mid after : ℕ) (last last' last'' : Option Missed) (spec : Spec) (name : List ℕ) (a : Answer) → held' ≡ held → before ≤ mid → last' ≡ last → IsLoadAnswer (shelved_by held' mid after last' last'') spec name a → IsLoadAnswer (shelved_by held before after last last'') spec name a
+load_later held held' before mid after last last' last'' spec name a e le l (no_image m) = no_image (missing_later held held' before mid after last last' last'' name e le m)
+load_later held held' before mid after last last' last'' spec name a e le l (long_image image f long none) = long_image image (subst (λ h. IsFrontOf h name 4194305 image) e f) long (none ∙ l)
+load_later held held' before mid after last last' last'' spec name a e le l (on_image image answer i h none) =
+    on_image image answer (record { loaded = subst (λ h. IsFrontOf h name 4194305 image) e i.loaded; whole = i.whole }) h (none ∙ l)
+
+pub told_load : (shelved : Shelved) (spec : Spec) (name : List ℕ) (r : Result Told AllocError) (a : Answer) → IfOk r (λ t. shown t ≡ a) → IsLoadAnswer shelved spec name a → IfOk r (λ t. IsLoadAnswer shelved spec name (shown t))
+told_load shelved spec name r a e h = told_is (λ a. IsLoadAnswer shelved spec name a) r a e h
+
+pub told_image : (shelved : Shelved) (spec : Spec) (name image : List ℕ) (r : Result Told AllocError) → IsImage shelved name image → NoneFailed shelved → IfOk r (λ t. IsImageAnswer spec image (shown t)) → IfOk r (λ t. IsLoadAnswer shelved spec name (shown t))
+told_image shelved spec name image r i none h = IfOk-weaker r _ _ (λ t a. on_image image (shown t) i a none) h
+
+pub told_files : (shelved : Shelved) (spec_name image_name : List ℕ) (r : Result Told AllocError) (a : Answer) → IfOk r (λ t. shown t ≡ a) → IsFilesAnswer shelved spec_name image_name a → IfOk r (λ t. IsFilesAnswer shelved spec_name image_name (shown t))
+told_files shelved spec_name image_name r a e h = told_is (λ a. IsFilesAnswer shelved spec_name image_name a) r a e h
+
+pub told_accepted : (held held' : Option Files) (before mid after : ℕ) (last last' last'' : Option Missed) (spec_name image_name text : List ℕ) (spec : Spec) (r : Result Told AllocError) → held' ≡ held → before ≤ mid → last' ≡ last
+    → IsText (shelved_by held before after last last'') spec_name text → HasForm text spec → IfOk r (λ t. IsLoadAnswer (shelved_by held' mid after last' last'') spec image_name (shown t)) → IfOk r (λ t. IsFilesAnswer (shelved_by held before after last last'') spec_name image_name (shown t))
+told_accepted held held' before mid after last last' last'' spec_name image_name text spec r e le l is form h =
+    IfOk-weaker r _ _ (λ t a. accepted text spec (shown t) is form (load_later held held' before mid after last last' last'' spec image_name (shown t) e le l a)) h
+
+pub told_words : (shelved : Shelved) (words : List (List ℕ)) (r : Result Told AllocError) (a : Answer) → IfOk r (λ t. shown t ≡ a) → IsAnswer shelved words a → IfOk r (λ t. IsAnswer shelved words (shown t))
+told_words shelved words r a e h = told_is (λ a. IsAnswer shelved words a) r a e h
+
+pub told_on_files : (shelved : Shelved) (words : List (List ℕ)) (r : Result Told AllocError) → is_usage words ≡ false → IfOk r (λ t. IsFilesAnswer shelved (second words) (third words) (shown t)) → IfOk r (λ t. IsAnswer shelved words (shown t))
+told_on_files shelved words r e h = IfOk-weaker r _ _ (λ t a. on_files (shown t) e a) h

@@ -1,0 +1,26 @@
+-- What a verdict says of the files that a shelf tells.
+use Rattle.std.specs.Prelude.{◌≡◌, ℕ, List, Option, Some, IfSome}
+use Rattle.std.specs.FinMap.{get}
+use Rattle.dsr_ir.specs.declared.declarations.Spec.{Spec}
+use Rattle.dsr_ir.specs.declared.layouts.Layout.{Layout}
+use Rattle.dsr_meaning.specs.Consistency.{IsConsistent}
+use Rattle.dsr_store.specs.Files.{Files}
+use Rattle.dsr_cli.specs.Forms.{HasForm}
+use Rattle.dsr_cli.specs.PlainLayouts.{IsLaidOut}
+use Rattle.dsr_cli.specs.Words.{second, third}
+
+-- the second word names the text of a specification, and the third the bytes of an image, which have a layout
+pub record IsChecked (files : Files) (words : List (List ℕ)) (spec : Spec) (layout : Layout) (image : List ℕ) : Type 0 where
+  pub text : List ℕ
+  pub spec_file : get files (second words) ≡ Some text
+  pub image_file : get files (third words) ≡ Some image
+  pub form : HasForm text spec
+  pub laid_out : IsLaidOut spec image layout
+
+-- where the shelf tells its files: the image that the words name is consistent
+abbrev pub FindsConsistent : Option Files → List (List ℕ) → Type 0
+FindsConsistent held words = IfSome held (λ files. (spec : Spec) × (layout : Layout) × (image : List ℕ) × IsChecked files words spec layout image × IsConsistent spec layout image)
+
+-- it isn't consistent
+abbrev pub FindsInconsistent : Option Files → List (List ℕ) → Type 0
+FindsInconsistent held words = IfSome held (λ files. (spec : Spec) × (layout : Layout) × (image : List ℕ) × IsChecked files words spec layout image × (IsConsistent spec layout image → ⊥))

@@ -1,0 +1,20 @@
+-- When the words of the command line are no command.
+use Rattle.std.specs.Prelude.{ℕ, List, [], ◌∷◌, length, Bool, true, false, not, ◌||◌, nat_eq, codes}
+use Rattle.std.specs.List.{list_any, slice_index_or}
+use Rattle.std.specs.Str.{bytes_eq}
+
+-- an empty word, or one that begins with a dash
+abbrev pub is_odd : List ℕ → Bool
+is_odd [] = true
+is_odd (b ∷ bs) = nat_eq b 45
+
+-- no word, an odd word, a first word that is no command, or a number of words that isn't the command's
+abbrev pub is_usage : List (List ℕ) → Bool
+is_usage [] = true
+is_usage (command ∷ names) = list_any is_odd (command ∷ names) || not (bytes_eq command (codes "check")) || not (nat_eq (length names) 2)
+
+abbrev pub second : List (List ℕ) → List ℕ
+second words = slice_index_or words 1 []
+
+abbrev pub third : List (List ℕ) → List ℕ
+third words = slice_index_or words 2 []

@@ -1,0 +1,10 @@
+pub mod Cuts
+pub mod Found
+pub mod Laws
+pub mod Lookups
+pub mod Numbers
+pub mod Reaches
+pub mod Readings
+pub mod Shapes
+pub mod Steps
+pub mod Versions

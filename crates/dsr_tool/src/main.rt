@@ -1,0 +1,48 @@
+//! The program: hands its words to `dsr_cli::run` over the system's files and the standard output,
+//! and ends with the number of the status.
+#![tactic(auto)]
+
+ghost use Rattle.std.specs.Prelude.{◌≡◌, [], drop, IfOk, IfErr, IsOkAnd};
+ghost use Rattle.std.specs.Vec.Iter.{into_iter_items};
+
+use dsr_cli::run;
+use dsr_store::{FileShelf, StdSink};
+use std::alloc::{AllocError, Global};
+use std::env::{self, Args};
+use std::io;
+use std::process::ExitCode;
+
+// The words behind the first, which is the program's name.
+fn behind_name(alloc: Global, mut given: Args) -> Result<Vec<String>, AllocError>
+    ensures { IfOk result (λ words. words.items ≡ drop 1 (into_iter_items given)) }
+{
+    let mut words = Vec::new(alloc);
+    let _name = given.next();
+    while let Some(word) = given.next() {
+        words.push(word)?;
+    }
+    Ok(words)
+}
+
+// The program's words. They are none where the system's can't be had, as where one isn't text.
+fn words_of(alloc: Global, given: io::Result<Args>) -> Result<Vec<String>, AllocError>
+    ensures given { IfOk given (λ all. IfOk result (λ words. words.items ≡ drop 1 (into_iter_items all))) }
+    ensures refused { IfErr given (λ _. IsOkAnd result (λ words. words.items ≡ [])) }
+{
+    match given {
+        Ok(all) => behind_name(alloc, all),
+        Err(_) => Ok(Vec::new(alloc)),
+    }
+}
+
+fn main(rt: HostRuntime) -> ExitCode {
+    let alloc = rt.alloc();
+    let words = words_of(alloc, env::args(&rt)).unwrap_or(Vec::new(alloc));
+    let mut shelf = FileShelf {
+        rt: &rt,
+        faults: 0,
+        last: None,
+    };
+    let mut out = StdSink { rt: &rt, faults: 0 };
+    ExitCode::from(run(alloc, &words, &mut shelf, &mut out).number())
+}

@@ -254,6 +254,7 @@ fn are_held(files: &[Held], spec: &[u8], image: &[u8]) -> bool {
     }
 }
 
+#[derive(Clone, Copy)]
 struct Failing {
     // The call of the shelf and the put that fail; 0 for none.
     call: u64,

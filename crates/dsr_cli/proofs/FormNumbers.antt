@@ -54,9 +54,19 @@ sound_parts f e =
     let s3 = and_parts (nat_le (length f.fields) 64) _ s2.1 in
     let s4 = and_parts (nat_le (length f.sets + length f.relations) 64) _ s3.1 in
     record {
-      head_distinct = n2.0; distinct = n3.0; sets_distinct = n4.0; relations_distinct = n5.0;
-      few_head_fields = at_most _ _ s1.0; some_fields = at_most _ _ s2.0; few_fields = at_most _ _ s3.0; few_symbols = at_most _ _ s4.0;
-      counted = p3.0; free = p4.0; rules = p5.0; value = p6.0; side = p6.1
+      head_distinct = n2.0;
+      distinct = n3.0;
+      sets_distinct = n4.0;
+      relations_distinct = n5.0;
+      few_head_fields = at_most _ _ s1.0;
+      some_fields = at_most _ _ s2.0;
+      few_fields = at_most _ _ s3.0;
+      few_symbols = at_most _ _ s4.0;
+      counted = p3.0;
+      free = p4.0;
+      rules = p5.0;
+      value = p6.0;
+      side = p6.1;
     }
 
 -- a place at which a test passes that fails for nothing

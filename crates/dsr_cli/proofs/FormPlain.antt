@@ -115,13 +115,15 @@ module _ (f : Form) where
   inc_plain None (Own set) e = absurd cc
   inc_plain (Some p) (Own set) e = (λ h. absurd cc, sets_length set (below set (length f.sets) e))
   inc_plain premise (Target field set) e =
-      let p = and_parts (refers (slice_get (fields_under f premise) field)) (nat_lt set (length f.sets)) e in
-      (path_plain premise field (found_below (fields_under f premise) field refers refl p.0),
+      let p = and_parts (refers (slice_get (fields_under f premise) field)) (nat_lt set (length f.sets)) e in (
+        path_plain premise field (found_below (fields_under f premise) field refers refl p.0),
         path_pool premise field ∙ refers_pool (slice_get (fields_under f premise) field) p.0,
-        sets_length set (below set (length f.sets) p.1))
-  inc_plain premise (Pair field relation) e =
-      (path_plain premise field (found_below (fields_under f premise) field (pair_fits f premise relation) refl e),
-        rw (path_pool premise field) (pair_linked premise relation (slice_get (fields_under f premise) field) e))
+        sets_length set (below set (length f.sets) p.1),
+      )
+  inc_plain premise (Pair field relation) e = (
+    path_plain premise field (found_below (fields_under f premise) field (pair_fits f premise relation) refl e),
+    rw (path_pool premise field) (pair_linked premise relation (slice_get (fields_under f premise) field) e),
+  )
 
   rule_plain : (r : Clause) → rule_fits f r ≡ true → IsPlainRule (form_spec f) (clause_rule r)
   rule_plain r e =
@@ -143,16 +145,23 @@ pub plain : (f : Form) → is_sound f ≡ true → IsPlain (form_spec f)
 plain f e =
     let sound = sound_parts f e in
     record {
-      order_is = refl; two_structures = refl; structures = plain_structures f;
+      order_is = refl;
+      two_structures = refl;
+      structures = plain_structures f;
       head_begins = omega (arith, length-map f.head_fields entry_field, some_begin f.head_fields sound.counted);
       few_head_fields = omega (arith, length-map f.head_fields entry_field, sound.few_head_fields);
       few_fields = omega (arith, length-map f.fields entry_field, sound.few_fields);
       few_sets = omega (arith, length-map f.sets set_declared, sound.few_symbols);
       sets = All-map IsPlainSet set_declared f.sets (λ k d lt. record { pool_is = refl; no_complement = refl });
       rules = rules_plain f f.rules sound.rules;
-      constraint = form_constraint f; one_constraint = refl;
+      constraint = form_constraint f;
+      one_constraint = refl;
       constraint_fits = record {
-          rel = f.demand.relation; bound = side_bound f.demand.side; no_quantifier = refl; body = refl;
-          relates = linked f.relations f.demand.relation false false sound.value; bound_fits = bound_plain f f.demand.side sound.side
-        }
+        rel = f.demand.relation;
+        bound = side_bound f.demand.side;
+        no_quantifier = refl;
+        body = refl;
+        relates = linked f.relations f.demand.relation false false sound.value;
+        bound_fits = bound_plain f f.demand.side sound.side;
+      };
     }

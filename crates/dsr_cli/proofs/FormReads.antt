@@ -52,7 +52,8 @@ module _ (text : List ℕ) (lexemes : List Lexeme) (lexed : IsLexed text lexemes
       absurd cc
 
   pub reads : IsTrue (every is_no_mark text) → IsTrue (are_decimal text lexemes) → (found : Option Spec) → FindsSpec (map token_of lexemes) found → ReadsSpec text found
-  reads no_comment decimal (Some spec) written =
-      (record { no_comment = no_comment; lexemes = lexemes; lexed = lexed; no_hexadecimal = decimal; written = written },
-        subst IsPlain (sym written.spec_is) (plain written.form written.sound))
+  reads no_comment decimal (Some spec) written = (
+    record { no_comment = no_comment; lexemes = lexemes; lexed = lexed; no_hexadecimal = decimal; written = written },
+    subst IsPlain (sym written.spec_is) (plain written.form written.sound),
+  )
   reads no_comment decimal None none = λ spec h. none spec (subst (λ ls. IsWritten (map token_of ls) spec) (lexed_once text h.lexemes lexemes h.lexed lexed) h.written)

@@ -39,8 +39,11 @@ set_passes f = record { version = refl; order = refl; opens = λ name. refl; clo
 sets_read : (f : Form) → collected set_in (form_statements f) ≡ f.sets
 sets_read f =
     later_collected set_in f (set_passes f) ∙ parts_collected set_in f
-    ∙ rw (collected_each set_in (set_statement f.pool) (λ x. refl) f.sets, collected_none set_in (relation_statement f.pool) (λ l. refl) f.relations,
-        collected_none set_in (rule_statement f) (λ r. no_set_rule f r.premise (conclusion_tokens f r.premise r.conclusion)) f.rules) (append-nil f.sets)
+    ∙ rw (
+      collected_each set_in (set_statement f.pool) (λ x. refl) f.sets,
+      collected_none set_in (relation_statement f.pool) (λ l. refl) f.relations,
+      collected_none set_in (rule_statement f) (λ r. no_set_rule f r.premise (conclusion_tokens f r.premise r.conclusion)) f.rules,
+    ) (append-nil f.sets)
 
 -- relations
 no_link : (pool name : List ℕ) (sort : Sort) → link_in (entry_tokens pool name sort) ≡ None
@@ -65,8 +68,11 @@ link_passes f = record { version = refl; order = refl; opens = λ name. refl; cl
 links_read : (f : Form) → collected link_in (form_statements f) ≡ f.relations
 links_read f =
     later_collected link_in f (link_passes f) ∙ parts_collected link_in f
-    ∙ rw (collected_none link_in (set_statement f.pool) (λ x. refl) f.sets, collected_each link_in (relation_statement f.pool) (λ l. link_read f.pool l.name l.from_pool l.to_pool) f.relations,
-        collected_none link_in (rule_statement f) (λ r. no_link_rule f r.premise (conclusion_tokens f r.premise r.conclusion)) f.rules) (append-nil f.relations)
+    ∙ rw (
+      collected_none link_in (set_statement f.pool) (λ x. refl) f.sets,
+      collected_each link_in (relation_statement f.pool) (λ l. link_read f.pool l.name l.from_pool l.to_pool) f.relations,
+      collected_none link_in (rule_statement f) (λ r. no_link_rule f r.premise (conclusion_tokens f r.premise r.conclusion)) f.rules,
+    ) (append-nil f.relations)
 
 -- rules
 about_head : (g : ℕ → ℕ → Conclusion) (a a' b b' : ℕ) → a ≡ a' → b ≡ b' → ◌≡◌ {A = Option Clause} (Some (record { premise = None; conclusion = g a b })) (Some (record { premise = None; conclusion = g a' b' }))
@@ -130,8 +136,11 @@ module _ (f : Form) (sound : Sound f) where
   rules_read : collected (clause_in f) (form_statements f) ≡ f.rules
   rules_read =
       later_collected (clause_in f) f (rule_passes f) ∙ parts_collected (clause_in f) f
-      ∙ rw (collected_none (clause_in f) (set_statement f.pool) (λ x. refl) f.sets, collected_none (clause_in f) (relation_statement f.pool) (λ l. refl) f.relations,
-          each_rule f.rules sound.rules) (append-nil f.rules)
+      ∙ rw (
+        collected_none (clause_in f) (set_statement f.pool) (λ x. refl) f.sets,
+        collected_none (clause_in f) (relation_statement f.pool) (λ l. refl) f.relations,
+        each_rule f.rules sound.rules,
+      ) (append-nil f.rules)
 
   -- the constraint
   side_back : (name : List ℕ) (relation : ℕ) (side : Side) → relation_number f (relation_name f relation) ≡ relation → side_fits f side ≡ true →

@@ -43,16 +43,24 @@ structure_passed p f h pool name es =
 
 pub later_collected : {A : Type 0} (p : List Token → Option A) (f : Form) → Passes p f → collected p (form_statements f) ≡ collected p (later_statements f)
 later_collected p f h =
-    rw (h.version, h.order, collected_append p (both_structures f) (pool_statement f ∷ later_statements f),
+    rw (
+      h.version,
+      h.order,
+      collected_append p (both_structures f) (pool_statement f ∷ later_statements f),
       collected_append p (structure_statements f.pool head_name f.head_fields) (structure_statements f.pool f.structure f.fields),
-      structure_passed p f h f.pool head_name f.head_fields, structure_passed p f h f.pool f.structure f.fields, h.pool) refl
+      structure_passed p f h f.pool head_name f.head_fields,
+      structure_passed p f h f.pool f.structure f.fields,
+      h.pool,
+    ) refl
 
 pub parts_collected : {A : Type 0} (p : List Token → Option A) (f : Form) →
     collected p (later_statements f) ≡ collected p (map (set_statement f.pool) f.sets) ++ (collected p (map (relation_statement f.pool) f.relations) ++ (collected p (map (rule_statement f) f.rules) ++ collected p (demand_statement f ∷ [])))
 parts_collected p f =
-    rw (collected_append p (map (set_statement f.pool) f.sets) (map (relation_statement f.pool) f.relations ++ (map (rule_statement f) f.rules ++ demand_statement f ∷ [])),
+    rw (
+      collected_append p (map (set_statement f.pool) f.sets) (map (relation_statement f.pool) f.relations ++ (map (rule_statement f) f.rules ++ demand_statement f ∷ [])),
       collected_append p (map (relation_statement f.pool) f.relations) (map (rule_statement f) f.rules ++ demand_statement f ∷ []),
-      collected_append p (map (rule_statement f) f.rules) (demand_statement f ∷ [])) refl
+      collected_append p (map (rule_statement f) f.rules) (demand_statement f ∷ []),
+    ) refl
 
 -- the fields of a structure, and what follows it
 entry_read : (pool name : List ℕ) (sort : Sort) → entry_in (entry_tokens pool name sort) ≡ Some (record { name = name; sort = sort })

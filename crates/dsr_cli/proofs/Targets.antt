@@ -163,12 +163,12 @@ many_targets spec plain bytes layout laid rel relates slots t = record {
               let here : IsIn e.slot slots = t.all e.slot (subst (λ x. IsPair spec layout bytes rel head (Elem x)) elem_is p) in
               subst (λ x. IsIn (Elem x) (pair_elems slots)) (sym elem_is) (in_elems e.slot slots here)
           | Num n ↦ λ p. absurd (
-            let h = of_pair spec plain bytes layout laid rel (Num n) p in
-            let r = head_rule spec plain bytes layout laid h.rule rel h.path (fits spec plain bytes layout laid h.number h.rule h.rule_is) h.path_is in
-            let refers : referred_pool spec h.path.field ≡ Some 1 = target_once spec rel 0 (referred_pool spec h.path.field) (Some 1) r.relates relates in
-            let number : referred_pool spec h.path.field ≡ None = h.target.number in
-            let q : None ≡ Some 1 = sym number ∙ refers in cc
-          )
+              let h = of_pair spec plain bytes layout laid rel (Num n) p in
+              let r = head_rule spec plain bytes layout laid h.rule rel h.path (fits spec plain bytes layout laid h.number h.rule h.rule_is) h.path_is in
+              let refers : referred_pool spec h.path.field ≡ Some 1 = target_once spec rel 0 (referred_pool spec h.path.field) (Some 1) r.relates relates in
+              let number : referred_pool spec h.path.field ≡ None = h.target.number in
+              let q : None ≡ Some 1 = sym number ∙ refers in cc
+              )
         ] p;
     only = λ x i. let r = elems_in x slots i in subst (λ y. IsPair spec layout bytes rel head y) (sym r.1) (t.only r.0 r.2);
   };

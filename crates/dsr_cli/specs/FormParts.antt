@@ -95,15 +95,15 @@ links_in = collected link_in
 -- the declarations
 abbrev pub declared_in : List (List Token) → Form
 declared_in ss = record {
-    head_fields = entries_in ss;
-    structure = name_at (statement_at (after_close ss) 0) 1;
-    fields = entries_in (after_close ss);
-    pool = name_at (statement_at (after_close (after_close ss)) 0) 1;
-    sets = sets_in ss;
-    relations = links_in ss;
-    rules = [];
-    demand = record { name = []; relation = 0; side = Number 0 }
-  }
+  head_fields = entries_in ss;
+  structure = name_at (statement_at (after_close ss) 0) 1;
+  fields = entries_in (after_close ss);
+  pool = name_at (statement_at (after_close (after_close ss)) 0) 1;
+  sets = sets_in ss;
+  relations = links_in ss;
+  rules = [];
+  demand = record { name = []; relation = 0; side = Number 0 };
+}
 
 abbrev pub set_number : Form → List ℕ → ℕ
 set_number f name = number_of_name f.sets name

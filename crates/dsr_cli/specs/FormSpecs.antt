@@ -59,8 +59,16 @@ structure_with name fields = record { name = name; parent = None; fields = map e
 -- the pool begins behind the head, and the head's first field counts its slots
 abbrev pub form_pool : Form → Pool
 form_pool f = record {
-    name = f.pool; structure = 1; count = Fixed 0; slot = None; start = Num (fields_size f.head_fields); code = Num 1; step = Num 1; none = Num 0; avoid = None
-  }
+  name = f.pool;
+  structure = 1;
+  count = Fixed 0;
+  slot = None;
+  start = Num (fields_size f.head_fields);
+  code = Num 1;
+  step = Num 1;
+  none = Num 0;
+  avoid = None;
+}
 
 abbrev pub set_declared : List ℕ → SetDecl
 set_declared name = record { name = name; pool = 1; structure = 1; except = None }
@@ -100,17 +108,22 @@ side_bound (side.Targets relation) = bound.Size (measure.Out variable.Head relat
 
 abbrev pub form_constraint : Form → Constraint
 form_constraint f = record {
-    name = f.demand.name; quant = quant.Once;
-    conjs = record { literals = record { atom = atom.Value variable.Head f.demand.relation op.Eq (side_bound f.demand.side); negated = false; given = false } ∷ [] } ∷ []
-  }
+  name = f.demand.name;
+  quant = quant.Once;
+  conjs = record { literals = record { atom = atom.Value variable.Head f.demand.relation op.Eq (side_bound f.demand.side); negated = false; given = false } ∷ [] } ∷ [];
+}
 
 abbrev pub form_spec : Form → Spec
 form_spec f = record {
-    base = record {
-        version = 1; order = Little; head = 0;
-        structures = structure_with head_name f.head_fields ∷ structure_with f.structure f.fields ∷ [];
-        pools = form_pool f ∷ []; sets = map set_declared f.sets; rels = map link_relation f.relations
-      };
-    rules = map clause_rule f.rules;
-    constraints = form_constraint f ∷ []
-  }
+  base = record {
+    version = 1;
+    order = Little;
+    head = 0;
+    structures = structure_with head_name f.head_fields ∷ structure_with f.structure f.fields ∷ [];
+    pools = form_pool f ∷ [];
+    sets = map set_declared f.sets;
+    rels = map link_relation f.relations;
+  };
+  rules = map clause_rule f.rules;
+  constraints = form_constraint f ∷ [];
+}

@@ -94,9 +94,7 @@ fn is_decimal_lexeme(text: &[u8], lexeme: &Lexeme) -> bool
     ensures { result ≡ is_decimal lexeme.now.token (drop lexeme.now.place text.now) }
 {
     match &lexeme.token {
-        Token::Number(_) => {
-            !is_hexadecimal(text.get(lexeme.place as usize..).unwrap_or(&[]))
-        }
+        Token::Number(_) => { !is_hexadecimal(text.get(lexeme.place as usize..).unwrap_or(&[])) }
         _ => true,
     }
 }

@@ -15,10 +15,7 @@ fn is_end_token(token: &Token) -> bool
 }
 
 /// The statements; each ends with `;`, `{` or `}`, only the last may lack its end.
-pub fn statements_of(
-    alloc: Global,
-    lexemes: Vec<Lexeme>,
-) -> Result<Vec<Seq<Token>>, AllocError>
+pub fn statements_of(alloc: Global, lexemes: Vec<Lexeme>) -> Result<Vec<Seq<Token>>, AllocError>
     ensures { IfOk result (λ statements. statements.items ≡ cut [] (map token_of lexemes.items)) }
 {
     let mut statements = Vec::new(alloc);

@@ -141,7 +141,11 @@ fn mark_of_pool(pool: &[u8], is_pool: bool, other: Keyword) -> Mark<'_>
     }
 }
 
-fn make_relation<'a>(alloc: Global, pool: &'a [u8], link: &'a Link) -> Result<Seq<Token>, AllocError>
+fn make_relation<'a>(
+    alloc: Global,
+    pool: &'a [u8],
+    link: &'a Link,
+) -> Result<Seq<Token>, AllocError>
     ensures { IfOk result (λ statement. statement ≡ relation_statement pool.now link.now) }
 {
     make_statement(
@@ -167,7 +171,12 @@ fn mark_of_record(premise: &Option<Premise>) -> Mark<'_>
     }
 }
 
-fn write_premise<'a>(alloc: Global, out: &mut Vec<Token>, form: &'a Form, rule: &'a Clause) -> Result<(), AllocError>
+fn write_premise<'a>(
+    alloc: Global,
+    out: &mut Vec<Token>,
+    form: &'a Form,
+    rule: &'a Clause,
+) -> Result<(), AllocError>
     ensures { IfOk result (λ _. out.new.items ≡ out.old.items ++ premise_tokens form.now rule.now.premise) }
 {
     match &rule.premise {
@@ -194,7 +203,12 @@ fn write_premise<'a>(alloc: Global, out: &mut Vec<Token>, form: &'a Form, rule: 
     }
 }
 
-fn write_conclusion<'a>(alloc: Global, out: &mut Vec<Token>, form: &'a Form, rule: &'a Clause) -> Result<(), AllocError>
+fn write_conclusion<'a>(
+    alloc: Global,
+    out: &mut Vec<Token>,
+    form: &'a Form,
+    rule: &'a Clause,
+) -> Result<(), AllocError>
     ensures { IfOk result (λ _. out.new.items ≡ out.old.items ++ conclusion_tokens form.now rule.now.premise rule.now.conclusion) }
 {
     let record = mark_of_record(&rule.premise);
@@ -204,7 +218,11 @@ fn write_conclusion<'a>(alloc: Global, out: &mut Vec<Token>, form: &'a Form, rul
     let end = Mark::Sign(Sign::Semicolon);
     match rule.conclusion {
         Conclusion::Own { set } => {
-            write_tokens(alloc, out, &[record, within, Mark::Name(name_of(sets, set)), end])
+            write_tokens(
+                alloc,
+                out,
+                &[record, within, Mark::Name(name_of(sets, set)), end],
+            )
         }
         Conclusion::Target { field, set } => write_tokens(
             alloc,
@@ -250,7 +268,11 @@ fn write_side(alloc: Global, out: &mut Vec<Token>, form: &Form) -> Result<(), Al
     ensures { IfOk result (λ _. out.new.items ≡ out.old.items ++ side_tokens form.now form.now.demand.side) }
 {
     match form.demand.side {
-        Side::Number(number) => write_tokens(alloc, out, &[Mark::Number(number), Mark::Sign(Sign::Semicolon)]),
+        Side::Number(number) => write_tokens(
+            alloc,
+            out,
+            &[Mark::Number(number), Mark::Sign(Sign::Semicolon)],
+        ),
         Side::Members(set) => write_tokens(
             alloc,
             out,
@@ -300,7 +322,12 @@ fn make_demand(alloc: Global, form: &Form) -> Result<Seq<Token>, AllocError>
     Ok(Seq::new(tokens))
 }
 
-fn write_entries(alloc: Global, out: &mut Vec<Seq<Token>>, pool: &[u8], entries: &[Entry]) -> Result<(), AllocError>
+fn write_entries(
+    alloc: Global,
+    out: &mut Vec<Seq<Token>>,
+    pool: &[u8],
+    entries: &[Entry],
+) -> Result<(), AllocError>
     ensures { IfOk result (λ _. out.new.items ≡ out.old.items ++ map (entry_statement pool.now) entries.now) }
 {
     for entry in entries {
@@ -377,7 +404,13 @@ fn write_structures(alloc: Global, out: &mut Vec<Seq<Token>>, form: &Form) -> Re
 {
     let pool = form.pool.bytes();
     write_structure(alloc, out, pool, b"Head", form.head_fields.items())?;
-    write_structure(alloc, out, pool, form.structure.bytes(), form.fields.items())
+    write_structure(
+        alloc,
+        out,
+        pool,
+        form.structure.bytes(),
+        form.fields.items(),
+    )
 }
 
 /// The statements of the text that says this.

@@ -13,5 +13,5 @@ pub returns : goal.returns
 returns c =
     IfOk-weaker c.find_spec.result _ _
     (reads c.args.text.now c.args.lexemes.items c.requires.lexed c.requires.no_comment
-      (ap (are_decimal c.args.text.now) (sym c.deref.ensures.value) ∙ sym c.are_decimal_lexemes.ensures ∙ c.if-not-are_decimal_lexemes.false))
+    (ap (are_decimal c.args.text.now) (sym c.deref.ensures.value) ∙ sym c.are_decimal_lexemes.ensures ∙ c.if-not-are_decimal_lexemes.false))
     c.find_spec.ensures

@@ -15,7 +15,7 @@ returns c =
     let below : c.value_of-value.result ≤ count_in c.args.view.now.image.now = subst (λ n. c.value_of-value.result ≤ n) count c.if-count-value.false in
     let leads = leads_here c.args.view.now.layout.now c.args.view.now.image.now c.args.rel c.args.rule.now c.in-Some.path c.value_of-value.result path c.value_of-value.ensures c.if-value-eq0.false below in
     let fresh : IsIn (c.value_of-value.result - 1) c.args.slots.now.items → ⊥ = λ h.
-        let there = c.has_slot.ensures.1 (subst (IsIn (c.value_of-value.result - 1)) (sym c.deref.ensures.value) h) in
-        let none = c.if-has_slot.false in
-        cc in
+    let there = c.has_slot.ensures.1 (subst (IsIn (c.value_of-value.result - 1)) (sym c.deref.ensures.value) h) in
+    let none = c.if-has_slot.false in
+    cc in
     inr (c.value_of-value.result - 1, leads, fresh, c.in_ok-push.ensures.items)

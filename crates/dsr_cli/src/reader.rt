@@ -10,6 +10,8 @@ mod names;
 mod parts;
 mod sameness;
 mod statements;
+#[cfg(test)]
+mod texts;
 mod typed;
 mod written;
 

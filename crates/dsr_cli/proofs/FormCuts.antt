@@ -5,7 +5,6 @@ use Rattle.dsr_ir.specs.declared.tokens.Token.{Token}
 use Rattle.dsr_cli.specs.FormStatements.{is_end, rest_of, cut}
 use Rattle.dsr_cli.specs.FormTexts.{joined}
 use Rattle.dsr_cli.specs.FormTokens.{entry_tokens, entry_statement, structure_statements, both_structures, set_statement, relation_statement, rule_statement, premise_tokens, conclusion_tokens, demand_tokens, demand_statement, later_statements, form_statements, pool_statement, close_statement, head_name}
-use Rattle.dsr_cli.specs.declared.reader.forms.Clause.{Clause}
 use Rattle.dsr_cli.specs.declared.reader.forms.Conclusion.{Conclusion}
 use Rattle.dsr_cli.specs.declared.reader.forms.Conclusion.TheVariants.{Own, Target, Pair}
 use Rattle.dsr_cli.specs.declared.reader.forms.Entry.{Entry}

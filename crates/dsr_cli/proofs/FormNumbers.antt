@@ -1,15 +1,14 @@
 -- Numbers of sets, relations and fields are read back from their names.
-use Rattle.std.proofs.Common.{◌≡◌, ◌<◌, ◌≤◌, ◌+◌, ℕ, zero, suc, List, [], ◌∷◌, length, map, Option, None, Some, Bool, true, false, ◌&&◌, not, refl, sym, ap, ◌∙◌, arith}
+use Rattle.std.proofs.Common.{◌≡◌, ◌<◌, ◌≤◌, ◌+◌, ℕ, zero, suc, List, [], ◌∷◌, length, map, Option, None, Some, Bool, true, false, not, arith}
 use Rattle.std.proofs.lemmas.List.{length-map}
 use Rattle.std.specs.Prelude.{slice_get, nat_lt, nat_le}
 use Rattle.std.specs.Str.{bytes_eq}
 use Rattle.std.proofs.lemmas.Bool.{and_parts}
 use Rattle.std.proofs.lemmas.Bool.Decides.{nat_tests}
 use Rattle.dsr_cli.specs.FormConditions.{is_sound, are_names_clear, are_sizes_small, begins_fixed, are_free, rules_fit, relates, side_fits}
-use Rattle.dsr_cli.specs.FormNames.{are_distinct, are_apart}
+use Rattle.dsr_cli.specs.FormNames.{are_distinct}
 use Rattle.dsr_cli.specs.FormParts.{set_number, relation_number, field_number}
 use Rattle.dsr_cli.specs.FormTokens.{head_name, entry_name, link_name, set_name, relation_name, field_name, fields_under}
-use Rattle.dsr_cli.specs.declared.reader.forms.Entry.{Entry}
 use Rattle.dsr_cli.specs.declared.reader.forms.Form.{Form}
 use Rattle.dsr_cli.specs.declared.reader.forms.Premise.{Premise}
 use Rattle.dsr_cli.proofs.FormPlaces.{number_back}

@@ -1,14 +1,13 @@
 -- The typed specification of a text of the form is plain.
-use Rattle.std.proofs.Common.{◌≡◌, ◌≢◌, ◌<◌, ◌≤◌, ◌+◌, ℕ, zero, suc, List, [], ◌∷◌, length, map, Option, None, Some, Bool, true, false, ◌&&◌, refl, sym, ap, subst, ◌∙◌, arith}
+use Rattle.std.proofs.Common.{◌≡◌, ◌<◌, ℕ, zero, suc, List, [], ◌∷◌, length, map, Option, None, Some, Bool, true, false, refl, ap, ◌∙◌, arith}
 use Rattle.std.specs.Prelude.{All, IsSomeAnd, slice_get, is_some, nat_lt}
 use Rattle.std.specs.Option.{option_and_then}
 use Rattle.std.proofs.lemmas.Bool.{and_parts}
 use Rattle.std.proofs.lemmas.List.{length-map}
 use Rattle.std.proofs.lemmas.List.Elements.{All-map}
 use Rattle.dsr_meaning.specs.Instances.{kind_pool, referred_pool}
-use Rattle.dsr_ir.specs.declared.declarations.Structure.{Structure}
-use Rattle.dsr_cli.specs.Plain.{IsPlain, IsPlainWidth, IsPlainField, IsPlainStructure, IsPlainRule, IsPlainInc, IsPathUnder, IsPlainBound, IsPlainPremise, IsPlainSet, Relates, fields_of, structure_of}
-use Rattle.dsr_cli.specs.FormConditions.{is_sound, rule_fits, rules_fit, premise_fits, conclusion_fits, refers, pair_fits, is_link, are_both, relates, side_fits, is_reference, begins_fixed}
+use Rattle.dsr_cli.specs.Plain.{IsPlain, IsPlainWidth, IsPlainField, IsPlainStructure, IsPlainRule, IsPlainInc, IsPathUnder, IsPlainBound, IsPlainPremise, IsPlainSet, Relates, structure_of}
+use Rattle.dsr_cli.specs.FormConditions.{is_sound, rule_fits, rules_fit, premise_fits, conclusion_fits, refers, pair_fits, are_both, relates, side_fits, is_reference, begins_fixed}
 use Rattle.dsr_cli.specs.FormSpecs.{sort_width, sort_kind, entry_field, structure_with, set_declared, link_source, link_target, link_relation, premise_set, path_under, conclusion_inc, clause_rule, side_bound, form_constraint, form_spec}
 use Rattle.dsr_cli.specs.FormTokens.{head_name, fields_under}
 use Rattle.dsr_cli.specs.declared.reader.forms.Clause.{Clause}
@@ -22,7 +21,7 @@ use Rattle.dsr_cli.specs.declared.reader.forms.Side.{Side}
 use Rattle.dsr_cli.specs.declared.reader.forms.Side.TheVariants.{Number, Members, Targets}
 use Rattle.dsr_cli.specs.declared.reader.forms.Sort.{Sort}
 use Rattle.dsr_cli.specs.declared.reader.forms.Sort.TheVariants.{Fixed, Short, Long, Reference}
-use Rattle.dsr_cli.proofs.FormNumbers.{Sound, sound_parts, below, found_below}
+use Rattle.dsr_cli.proofs.FormNumbers.{sound_parts, below, found_below}
 
 -- fields
 plain_width : (sort : Sort) → IsPlainWidth (sort_width sort)

@@ -1,26 +1,23 @@
 -- What a text of the form says is read back from its statements.
-use Rattle.std.proofs.Common.{◌≡◌, ◌<◌, ◌≤◌, ◌+◌, ◌-◌, ℕ, zero, suc, List, [], ◌∷◌, ◌++◌, length, map, Option, None, Some, Bool, true, false, ◌&&◌, refl, sym, ap, subst, ◌∙◌, arith, append-nil}
+use Rattle.std.proofs.Common.{◌≡◌, ◌-◌, ℕ, List, [], ◌∷◌, ◌++◌, length, map, Option, None, Some, Bool, true, false, refl, ap, ◌∙◌, append-nil}
 use Rattle.std.specs.Prelude.{slice_get, nat_lt, is_some}
 use Rattle.std.proofs.lemmas.Bool.{and_parts}
 use Rattle.dsr_ir.specs.declared.tokens.Token.{Token}
 use Rattle.dsr_cli.specs.FormConditions.{is_sound, rule_fits, rules_fit, premise_fits, conclusion_fits, refers, pair_fits, is_link, relates, side_fits, is_reference}
-use Rattle.dsr_cli.specs.FormParts.{collected, set_in, link_in, clause_in, clauses_in, side_in, demand_in, statement_at, declared_in, form_with, form_in, set_number, relation_number, field_number, entries_in, after_close, sets_in, links_in}
-use Rattle.dsr_cli.specs.FormStatements.{name_at}
-use Rattle.dsr_cli.specs.FormTokens.{entry_tokens, set_statement, relation_statement, rule_statement, premise_tokens, conclusion_tokens, demand_tokens, demand_statement, open_statement, pool_statement, side_tokens, form_statements, later_statements, fields_under, set_name, relation_name, field_name}
+use Rattle.dsr_cli.specs.FormParts.{collected, set_in, link_in, clause_in, demand_in, statement_at, declared_in, form_with, form_in, set_number, relation_number, field_number, entries_in, after_close}
+use Rattle.dsr_cli.specs.FormTokens.{entry_tokens, set_statement, relation_statement, rule_statement, premise_tokens, conclusion_tokens, demand_tokens, demand_statement, open_statement, pool_statement, form_statements, fields_under, set_name, relation_name, field_name}
 use Rattle.dsr_cli.specs.declared.reader.forms.Clause.{Clause}
 use Rattle.dsr_cli.specs.declared.reader.forms.Conclusion.{Conclusion}
 use Rattle.dsr_cli.specs.declared.reader.forms.Conclusion.TheVariants.{Own, Target, Pair}
-use Rattle.dsr_cli.specs.declared.reader.forms.Demand.{Demand}
 use Rattle.dsr_cli.specs.declared.reader.forms.Entry.{Entry}
 use Rattle.dsr_cli.specs.declared.reader.forms.Form.{Form}
-use Rattle.dsr_cli.specs.declared.reader.forms.Link.{Link}
 use Rattle.dsr_cli.specs.declared.reader.forms.Premise.{Premise}
 use Rattle.dsr_cli.specs.declared.reader.forms.Side.{Side}
 use Rattle.dsr_cli.specs.declared.reader.forms.Side.TheVariants.{Number, Members, Targets}
 use Rattle.dsr_cli.specs.declared.reader.forms.Sort.{Sort}
 use Rattle.dsr_cli.specs.declared.reader.forms.Sort.TheVariants.{Fixed, Short, Long, Reference}
 use Rattle.dsr_cli.proofs.FormNumbers.{Sound, sound_parts, below, found_below, set_back, relation_back, field_back}
-use Rattle.dsr_cli.proofs.FormSections.{Passes, collected_append, collected_each, collected_none, later_collected, parts_collected, second_part, head_fields_read, second_read, fields_read, third_read, last_read}
+use Rattle.dsr_cli.proofs.FormSections.{Passes, collected_each, collected_none, later_collected, parts_collected, head_fields_read, second_read, fields_read, third_read, last_read}
 
 -- sets
 no_set : (pool name : List ℕ) (sort : Sort) → set_in (entry_tokens pool name sort) ≡ None

@@ -1,14 +1,12 @@
 -- What the statements of a text of the form declare.
-use Rattle.std.proofs.Common.{◌≡◌, ◌<◌, ◌≤◌, ◌+◌, ◌-◌, ℕ, zero, suc, List, [], ◌∷◌, ◌++◌, length, map, Option, None, Some, Bool, true, false, cond, refl, sym, ap, ◌∙◌, arith, append_assoc, append-nil, length-append}
+use Rattle.std.proofs.Common.{◌≡◌, ◌-◌, ℕ, List, [], ◌∷◌, ◌++◌, length, map, Option, None, Some, false, refl, sym, ap, ◌∙◌, arith, append_assoc, length-append}
 use Rattle.std.proofs.Math.Seq.{get_or-append_seam}
 use Rattle.std.specs.Prelude.{slice_index_or}
 use Rattle.dsr_ir.specs.declared.tokens.Token.{Token}
 use Rattle.dsr_cli.specs.FormTokens.{version_statement, order_statement, open_statement, close_statement, entry_tokens, entry_statement, structure_statements, both_structures, pool_statement, set_statement, relation_statement, rule_statement, demand_statement, later_statements, form_statements, head_name}
-use Rattle.dsr_cli.specs.FormParts.{kept, collected, is_close, after_close, entry_in, entries_in, set_in, link_in, clause_in, statement_at, declared_in}
+use Rattle.dsr_cli.specs.FormParts.{kept, collected, is_close, after_close, entry_in, entries_in, statement_at}
 use Rattle.dsr_cli.specs.declared.reader.forms.Entry.{Entry}
 use Rattle.dsr_cli.specs.declared.reader.forms.Form.{Form}
-use Rattle.dsr_cli.specs.declared.reader.forms.Link.{Link}
-use Rattle.dsr_cli.specs.declared.reader.forms.Clause.{Clause}
 use Rattle.dsr_cli.specs.declared.reader.forms.Sort.{Sort}
 use Rattle.dsr_cli.specs.declared.reader.forms.Sort.TheVariants.{Fixed, Short, Long, Reference}
 

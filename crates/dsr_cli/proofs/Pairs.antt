@@ -1,10 +1,8 @@
 -- The pairs of the head that a plain specification's rules give.
-use Rattle.std.proofs.Common.{◌≡◌, ◌<◌, ◌+◌, ◌*◌, ℕ, zero, suc, Bool, true, false, cond, eqb, List, [], ◌∷◌, length, ◌⊎◌, inl, inr, Option, None, Some, refl, sym, ap, subst, ◌∙◌, arith}
+use Rattle.std.proofs.Common.{◌≡◌, ℕ, false, cond, eqb, List, [], ◌∷◌, inl, inr, Option, None, Some, refl, sym, ap, subst, ◌∙◌, arith}
 use Rattle.std.specs.Prelude.{All, slice_get, IsSome, IsSomeAnd}
-use Rattle.std.specs.Option.{option_map}
 use Rattle.std.proofs.lemmas.Bool.Decides.{eqb_tells}
 use Rattle.dsr_ir.specs.declared.declarations.Spec.{Spec}
-use Rattle.dsr_ir.specs.declared.declarations.Rel.{Rel}
 use Rattle.dsr_ir.specs.declared.layouts.Layout.{Layout}
 use Rattle.dsr_ir.specs.declared.rules.Inc.{Inc}
 use Rattle.dsr_ir.specs.declared.rules.Inc.TheVariants.{Own, Target, Slot, OwnPair, SlotPair}
@@ -12,17 +10,16 @@ use Rattle.dsr_ir.specs.declared.rules.Path.{Path}
 use Rattle.dsr_ir.specs.declared.rules.Rule.{Rule}
 use Rattle.dsr_ir.specs.declared.tuples.Element.{Element}
 use Rattle.dsr_ir.specs.declared.tuples.Fact.{Fact}
-use Rattle.dsr_ir.specs.declared.tuples.Fact.TheVariants.{Member, Pair}
+use Rattle.dsr_ir.specs.declared.tuples.Fact.TheVariants.{Pair}
 use Rattle.dsr_ir.specs.declared.tuples.Instance.{Instance}
 use Rattle.dsr_ir.specs.declared.tuples.Target.{Target as TargetOf}
 use Rattle.dsr_ir.specs.declared.tuples.Target.TheVariants.{Elem, Num}
 use Rattle.dsr_meaning.specs.Cells.{value_at}
-use Rattle.dsr_meaning.specs.Instances.{Gives, GuardHolds, HasNumber, HasTarget, Includes, LeadsTo, referred_pool}
+use Rattle.dsr_meaning.specs.Instances.{Gives, GuardHolds, HasTarget, Includes, referred_pool}
 use Rattle.dsr_meaning.specs.Models.{Chain, begin, follow, IsPair}
 use Rattle.dsr_meaning.specs.Truth.{head}
-use Rattle.dsr_cli.specs.Plain.{IsPathUnder, IsPlain, IsPlainInc, IsPlainPath, IsPlainRule, Relates, structure_of}
-use Rattle.dsr_cli.specs.PlainLayouts.{count_in, plain_layout, IsLaidOut}
-use Rattle.dsr_cli.specs.Records.{record_at}
+use Rattle.dsr_cli.specs.Plain.{IsPlain, IsPlainInc, IsPlainPath, IsPlainRule, Relates}
+use Rattle.dsr_cli.specs.PlainLayouts.{IsLaidOut}
 use Rattle.dsr_cli.specs.Search.{source_elem, source_set}
 use Rattle.dsr_cli.specs.Values.{GivesValue, ValuesAre, head_path, path_under}
 use Rattle.dsr_cli.proofs.Given.{found_fits, index_free, instance_source, source_is_instance}

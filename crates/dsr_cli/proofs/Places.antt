@@ -1,5 +1,5 @@
 -- Where the fields of a plain specification lie in their records.
-use Rattle.std.proofs.Common.{◌≡◌, ◌<◌, ◌≤◌, ◌+◌, ◌*◌, ◌/◌, ℕ, zero, suc, List, [], ◌∷◌, Bool, true, false, length, map, Option, None, Some, refl, sym, ap, subst, ◌∙◌, arith}
+use Rattle.std.proofs.Common.{◌≡◌, ◌<◌, ◌≤◌, ◌+◌, ◌*◌, ◌/◌, ℕ, zero, suc, List, [], ◌∷◌, false, length, Option, None, Some, refl, sym, ap, subst, ◌∙◌, arith}
 use Rattle.std.specs.Prelude.{All, slice_get, IsSome, IsSomeAnd}
 use Rattle.std.specs.Option.{option_map, option_map_or, option_and_then}
 use Rattle.std.proofs.lemmas.Option.{slice_get-map}
@@ -7,7 +7,6 @@ use Rattle.dsr_ir.specs.Layouts.{field_place}
 use Rattle.dsr_ir.specs.declared.declarations.Field.{Field}
 use Rattle.dsr_ir.specs.declared.declarations.FieldRef.{FieldRef}
 use Rattle.dsr_ir.specs.declared.declarations.Spec.{Spec}
-use Rattle.dsr_ir.specs.declared.declarations.Structure.{Structure}
 use Rattle.dsr_ir.specs.declared.declarations.Width.{Width}
 use Rattle.dsr_ir.specs.declared.declarations.Width.TheVariants.{U8, U16, U32, U64, Bits}
 use Rattle.dsr_ir.specs.declared.layouts.FieldPlace.{FieldPlace}
@@ -17,7 +16,7 @@ use Rattle.dsr_ir.specs.declared.tuples.Element.{Element}
 use Rattle.dsr_meaning.specs.Cells.{width_bits, bytes_value, record_start, value_at}
 use Rattle.dsr_ir.specs.declared.rules.Path.{Path}
 use Rattle.dsr_cli.specs.Plain.{IsPlain, IsPlainField, IsPlainPath, IsPlainWidth, fields_of}
-use Rattle.dsr_cli.specs.PlainLayouts.{size_bits, size_of, placed, structure_places, plain_layout, count_in, IsLaidOut}
+use Rattle.dsr_cli.specs.PlainLayouts.{size_bits, placed, structure_places, plain_layout, count_in, IsLaidOut}
 use Rattle.dsr_cli.specs.Records.{LiesAt}
 use Rattle.dsr_cli.proofs.PlainSizes.{plain_fields}
 

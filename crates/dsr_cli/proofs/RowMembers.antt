@@ -1,22 +1,21 @@
 -- The size of a set by its row of marks.
-use Rattle.std.proofs.Common.{◌≡◌, ◌<◌, ◌≤◌, ◌+◌, ◌-◌, ◌*◌, ℕ, zero, suc, Bool, true, false, List, [], ◌∷◌, length, get_or, take, drop, ◌⊎◌, inl, inr, Option, None, Some, refl, sym, ap, subst, ◌∙◌, arith}
+use Rattle.std.proofs.Common.{◌≡◌, ◌<◌, ◌+◌, ◌-◌, ◌*◌, ℕ, zero, suc, Bool, true, false, List, [], ◌∷◌, length, get_or, take, drop, inl, inr, None, refl, sym, ap, subst, ◌∙◌, arith}
 use Rattle.std.specs.Prelude.{All, slice_get}
 use Rattle.std.specs.Option.{option_and_then}
 use Rattle.std.proofs.lemmas.List.{get_or-take, get_or-drop}
-use Rattle.std.proofs.lemmas.List.{length-take, length-drop}
+use Rattle.std.proofs.lemmas.List.{length-take}
 use Rattle.dsr_ir.specs.declared.declarations.SetDecl.{SetDecl}
 use Rattle.dsr_ir.specs.declared.declarations.Spec.{Spec}
 use Rattle.dsr_ir.specs.declared.layouts.Layout.{Layout}
 use Rattle.dsr_ir.specs.declared.tuples.Element.{Element}
 use Rattle.dsr_ir.specs.declared.tuples.Fact.TheVariants.{Member}
 use Rattle.dsr_meaning.specs.Counting.{AreMany, IsDistinct, IsIn}
-use Rattle.dsr_meaning.specs.Models.{IsDerived, IsMember, IsMemberBy, base_of}
+use Rattle.dsr_meaning.specs.Models.{IsDerived, IsMember, IsMemberBy}
 use Rattle.dsr_cli.specs.Plain.{IsPlain, IsPlainSet}
 use Rattle.dsr_cli.specs.PlainLayouts.{count_in}
 use Rattle.dsr_cli.specs.Records.{record_at}
 use Rattle.dsr_cli.specs.Rows.{marked_count}
-use Rattle.dsr_cli.specs.Search.{AreMembers, IsNode, is_marked}
-use Rattle.dsr_cli.specs.declared.members.Node.{Node}
+use Rattle.dsr_cli.specs.Search.{AreMembers, is_marked}
 
 -- the records at the marks of a row that begins at a slot
 row_elems : ℕ → List Bool → List Element

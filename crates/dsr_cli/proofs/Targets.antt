@@ -1,5 +1,5 @@
 -- The slots to which the head leads under a relation.
-use Rattle.std.proofs.Common.{◌≡◌, ◌≢◌, ◌<◌, ◌≤◌, ◌+◌, ◌-◌, ◌*◌, ℕ, zero, suc, Bool, true, false, cond, eqb, List, [], ◌∷◌, ◌++◌, length, map, ◌⊎◌, inl, inr, Option, None, Some, refl, sym, ap, subst, ◌∙◌, arith}
+use Rattle.std.proofs.Common.{◌≡◌, ◌≢◌, ◌<◌, ◌≤◌, ◌+◌, ◌-◌, ℕ, suc, true, eqb, List, [], ◌∷◌, ◌++◌, length, ◌⊎◌, inl, inr, None, Some, refl, sym, ap, subst, ◌∙◌, arith}
 use Rattle.std.specs.Prelude.{slice_get}
 use Rattle.std.specs.List.{list_any}
 use Rattle.std.proofs.lemmas.Bool.Decides.{eqb_tells}
@@ -12,10 +12,9 @@ use Rattle.dsr_ir.specs.declared.tuples.Element.{Element}
 use Rattle.dsr_ir.specs.declared.tuples.Target.{Target}
 use Rattle.dsr_ir.specs.declared.tuples.Target.TheVariants.{Elem, Num}
 use Rattle.dsr_meaning.specs.Cells.{value_at}
-use Rattle.dsr_meaning.specs.Counting.{AreMany, Enumerates, IsDistinct, IsIn}
+use Rattle.dsr_meaning.specs.Counting.{AreMany, IsDistinct, IsIn}
 use Rattle.dsr_meaning.specs.Instances.{referred_pool}
 use Rattle.dsr_meaning.specs.Models.{IsPair}
-use Rattle.dsr_meaning.specs.References.{IsCodeOf}
 use Rattle.dsr_meaning.specs.Truth.{head, HasSize}
 use Rattle.dsr_ir.specs.declared.constraints.Measure.TheVariants.{Out}
 use Rattle.dsr_ir.specs.declared.constraints.Var.{Var}

@@ -1,10 +1,10 @@
 -- The text of a verdict.
-use Rattle.std.proofs.Common.{◌≡◌, ℕ, List, [], ◌∷◌, ◌++◌, length, false, refl, sym, ap, ◌∙◌, append_assoc}
+use Rattle.std.proofs.Common.{◌≡◌, ℕ, List, [], ◌∷◌, ◌++◌, false, refl, append_assoc}
 use Rattle.std.specs.Prelude.{codes}
 use Rattle.std.specs.Fmt.{decimal, digits}
 use Rattle.dsr_ir.specs.declared.constraints.Constraint.{Constraint}
 use Rattle.dsr_ir.specs.declared.declarations.Spec.{Spec}
-use Rattle.dsr_cli.specs.Answers.{Answer, constraint_name, verdict_answer}
+use Rattle.dsr_cli.specs.Answers.{constraint_name, verdict_answer}
 use Rattle.dsr_cli.specs.Values.{violations_where}
 
 named : (spec : Spec) (c : Constraint) → spec.constraints ≡ c ∷ [] → constraint_name spec 0 ≡ c.name

@@ -1,5 +1,4 @@
 -- Tokens with their names elsewhere.
-use Rattle.std.specs.Prelude.{ℕ, List}
 use Rattle.dsr_ir.specs.declared.tokens.Token.{Token}
 use Rattle.dsr_ir.specs.declared.tokens.Token.TheVariants as token
 use Rattle.dsr_cli.specs.declared.reader.written.Mark.{Mark}

@@ -1,5 +1,5 @@
 -- What the statements of a text say, provided that they are those of a text of the form.
-use Rattle.std.specs.Prelude.{ℕ, ◌+◌, ◌-◌, List, [], ◌∷◌, length, drop, map, nat_eq, Bool, true, false, Option, None, Some, slice_get, slice_index_or, if◌then◌else◌}
+use Rattle.std.specs.Prelude.{ℕ, ◌-◌, List, [], ◌∷◌, length, drop, map, nat_eq, Bool, true, false, Option, None, Some, slice_get, slice_index_or, if◌then◌else◌}
 use Rattle.dsr_ir.specs.declared.tokens.Keyword.TheVariants as keyword
 use Rattle.dsr_ir.specs.declared.tokens.Sign.TheVariants as sign
 use Rattle.dsr_ir.specs.declared.tokens.Token.{Token}

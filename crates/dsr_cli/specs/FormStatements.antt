@@ -1,6 +1,5 @@
 -- Statements, and the tokens at their places.
-use Rattle.std.specs.Prelude.{ℕ, List, [], ◌∷◌, ◌++◌, Bool, true, false, Option, None, Some, slice_get, if◌then◌else◌}
-use Rattle.dsr_ir.specs.declared.tokens.Keyword.{Keyword}
+use Rattle.std.specs.Prelude.{ℕ, List, [], ◌∷◌, ◌++◌, Bool, true, false, Option, Some, slice_get, if◌then◌else◌}
 use Rattle.dsr_ir.specs.declared.tokens.Sign.TheVariants as sign
 use Rattle.dsr_ir.specs.declared.tokens.Token.{Token}
 use Rattle.dsr_ir.specs.declared.tokens.Token.TheVariants as token

@@ -1,5 +1,5 @@
 -- What a load gave, and what is told.
-use Rattle.std.specs.Prelude.{◌≡◌, ℕ, List, Option, None, Some, Vec}
+use Rattle.std.specs.Prelude.{ℕ, List, Option, None, Some, Vec}
 use Rattle.std.specs.declared.alloc.Global.{Global}
 use Rattle.dsr_store.specs.Files.{Files, IsFrontOf}
 use Rattle.dsr_store.specs.declared.outside.Missed.{Missed}

@@ -1,8 +1,7 @@
 -- The typed specifications that the command checks so far: a head, one pool of records behind it, rules without
 -- guard and index, and one constraint on a value of the head.
-use Rattle.std.specs.Prelude.{◌≡◌, ◌≢◌, ◌<◌, ◌≤◌, ◌^◌, ◌⊎◌, ℕ, List, [], ◌∷◌, length, Option, None, Some, All, IsSomeAnd, slice_get, true, false}
+use Rattle.std.specs.Prelude.{◌≡◌, ◌≢◌, ◌<◌, ◌≤◌, ℕ, List, [], ◌∷◌, length, Option, None, Some, All, IsSomeAnd, slice_get, false}
 use Rattle.std.specs.Option.{option_map_or}
-use Rattle.dsr_ir.specs.declared.constraints.Atom.{Atom}
 use Rattle.dsr_ir.specs.declared.constraints.Atom.TheVariants.{Value}
 use Rattle.dsr_ir.specs.declared.constraints.Bound.{Bound}
 use Rattle.dsr_ir.specs.declared.constraints.Bound.TheVariants.{Num, Size}
@@ -12,7 +11,6 @@ use Rattle.dsr_ir.specs.declared.constraints.Measure.TheVariants.{Whole, Out}
 use Rattle.dsr_ir.specs.declared.constraints.Quant.TheVariants.{Once}
 use Rattle.dsr_ir.specs.declared.constraints.Var.TheVariants.{Head}
 use Rattle.dsr_ir.specs.declared.declarations.Field.{Field}
-use Rattle.dsr_ir.specs.declared.declarations.Kind.{Kind}
 use Rattle.dsr_ir.specs.declared.declarations.Order.TheVariants.{Little}
 use Rattle.dsr_ir.specs.declared.declarations.SetDecl.{SetDecl}
 use Rattle.dsr_ir.specs.declared.declarations.Spec.{Spec}
@@ -25,8 +23,7 @@ use Rattle.dsr_ir.specs.declared.rules.Op.TheVariants.{Eq}
 use Rattle.dsr_ir.specs.declared.rules.Path.{Path}
 use Rattle.dsr_ir.specs.declared.rules.Rule.{Rule}
 use Rattle.dsr_ir.specs.declared.rules.Span.TheVariants.{Single}
-use Rattle.dsr_meaning.specs.Cells.{width_bits}
-use Rattle.dsr_meaning.specs.Instances.{field_at, referred_pool}
+use Rattle.dsr_meaning.specs.Instances.{referred_pool}
 
 -- the fields of a structure; none where there is no such structure
 abbrev pub fields_of : Spec → ℕ → List Field

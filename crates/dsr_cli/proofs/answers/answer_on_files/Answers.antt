@@ -1,4 +1,4 @@
-use Rattle.std.proofs.Common.{◌≡◌, ◌<◌, ◌≤◌, length, sym, subst, arith}
+use Rattle.std.proofs.Common.{◌<◌, ◌≤◌, length, arith}
 use Rattle.std.proofs.lemmas.Grind.{common_steps}
 use Rattle.dsr_cli.specs.Answers.{no_spec, long_spec, refused, store_failed, too_long_spec, spec_refused}
 use Rattle.dsr_cli.proofs.Tellings.{told_files, told_accepted}

@@ -1,4 +1,4 @@
-use Rattle.std.proofs.Common.{◌≡◌, ◌<◌, ◌≤◌, length, sym, subst, arith}
+use Rattle.std.proofs.Common.{◌<◌, ◌≤◌, length, arith}
 use Rattle.std.proofs.lemmas.Grind.{common_steps}
 use Rattle.dsr_cli.specs.Answers.{no_image, long_image, store_failed, too_long_image}
 use Rattle.dsr_cli.proofs.Tellings.{told_load, told_image}

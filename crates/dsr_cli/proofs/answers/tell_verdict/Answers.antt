@@ -1,9 +1,7 @@
-use Rattle.std.proofs.Common.{◌≡◌, ◌++◌, List, ℕ, sym, ap, ◌∙◌, arith}
+use Rattle.std.proofs.Common.{◌≡◌, ◌++◌, sym, ap, ◌∙◌, arith}
 use Rattle.std.specs.Prelude.{codes}
 use Rattle.std.proofs.lemmas.Grind.{common_steps}
 use Rattle.dsr_cli.specs.declared.status.Status.TheVariants.{Inconsistent}
-use Rattle.dsr_cli.specs.Answers.{Answer, verdict_answer}
-use Rattle.dsr_cli.specs.Values.{violations_where}
 use Rattle.dsr_cli.proofs.Texts.{violated_text}
 use Rattle.dsr_cli.proofs.answers.tell_verdict.Goals as goal
 

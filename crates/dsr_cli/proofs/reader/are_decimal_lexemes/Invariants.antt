@@ -1,6 +1,5 @@
 use Rattle.std.proofs.Common.{◌≡◌, drop}
-use Rattle.dsr_meaning.specs.Tokens.{every}
-use Rattle.dsr_cli.specs.FormTexts.{is_no_mark, are_decimal}
+use Rattle.dsr_cli.specs.FormTexts.{are_decimal}
 use Rattle.dsr_cli.proofs.reader.are_decimal_lexemes.Given as goal
 
 abbrev pub invariant-loop-lexeme : goal.invariant-loop-lexeme

@@ -1,4 +1,4 @@
-use Rattle.std.proofs.Common.{None, subst}
+use Rattle.std.proofs.Common.{subst}
 use Rattle.dsr_cli.specs.FormTexts.{FindsLexemes}
 use Rattle.dsr_cli.proofs.FormReads.{no_lexemes}
 use Rattle.dsr_cli.proofs.reader.read_spec.Goals as goal

@@ -1,7 +1,5 @@
-use Rattle.std.proofs.Common.{◌≡◌, ◌≢◌, ◌<◌, ◌≤◌, ◌-◌, ℕ, Some, inl, inr, sym, ◌∙◌, subst, arith}
+use Rattle.std.proofs.Common.{◌≡◌, ◌≤◌, ◌-◌, Some, inr, sym, ◌∙◌, subst}
 use Rattle.dsr_meaning.specs.Counting.{IsIn}
-use Rattle.dsr_meaning.specs.Cells.{value_at}
-use Rattle.dsr_meaning.specs.Truth.{head}
 use Rattle.dsr_cli.specs.PlainLayouts.{count_in}
 use Rattle.dsr_cli.specs.Values.{head_path}
 use Rattle.dsr_cli.proofs.Places.{count_told}

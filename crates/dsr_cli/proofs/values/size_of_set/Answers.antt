@@ -1,4 +1,4 @@
-use Rattle.std.proofs.Common.{◌≡◌, ◌*◌, ℕ, take, drop, sym, ap, subst, ◌∙◌}
+use Rattle.std.proofs.Common.{◌≡◌, ◌*◌, take, drop, sym, ap, subst, ◌∙◌}
 use Rattle.dsr_meaning.specs.Counting.{AreMany}
 use Rattle.dsr_meaning.specs.Models.{IsMember}
 use Rattle.dsr_cli.specs.PlainLayouts.{count_in}

@@ -1,6 +1,5 @@
 use Rattle.std.proofs.Common.{◌≡◌, ◌≤◌, drop, ◌+◌, ◌*◌}
 use Rattle.dsr_cli.specs.FormTokens.{fields_size}
-use Rattle.dsr_cli.specs.FormConditions.{are_free, rules_fit, number_fits_all}
 use Rattle.dsr_cli.proofs.reader.conditions.size_of_fields.Given as goal
 
 abbrev pub invariant-loop-field : goal.invariant-loop-field

@@ -1,5 +1,5 @@
-use Rattle.std.proofs.Common.{◌≡◌, map, drop, ◌+◌}
-use Rattle.dsr_cli.specs.FormNames.{has, are_distinct, are_apart, place_of}
+use Rattle.std.proofs.Common.{◌≡◌, map, drop}
+use Rattle.dsr_cli.specs.FormNames.{are_apart}
 use Rattle.dsr_cli.proofs.reader.names.are_apart_names.Given as goal
 
 abbrev pub invariant-loop-item : goal.invariant-loop-item

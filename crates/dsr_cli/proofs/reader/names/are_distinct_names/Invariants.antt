@@ -1,5 +1,5 @@
-use Rattle.std.proofs.Common.{◌≡◌, map, drop, ◌+◌}
-use Rattle.dsr_cli.specs.FormNames.{has, are_distinct, are_apart, place_of}
+use Rattle.std.proofs.Common.{◌≡◌, map, drop}
+use Rattle.dsr_cli.specs.FormNames.{are_distinct}
 use Rattle.dsr_cli.proofs.reader.names.are_distinct_names.Given as goal
 
 abbrev pub invariant-loop-i : goal.invariant-loop-i

@@ -1,5 +1,5 @@
-use Rattle.std.proofs.Common.{◌≡◌, map, drop, ◌+◌}
-use Rattle.dsr_cli.specs.FormNames.{has, are_distinct, are_apart, place_of}
+use Rattle.std.proofs.Common.{◌≡◌, map, drop}
+use Rattle.dsr_cli.specs.FormNames.{has}
 use Rattle.dsr_cli.proofs.reader.names.has_name.Given as goal
 
 abbrev pub invariant-loop-item : goal.invariant-loop-item

@@ -1,5 +1,5 @@
 use Rattle.std.proofs.Common.{◌≡◌, ◌++◌, drop}
-use Rattle.dsr_cli.specs.FormParts.{after_close, entries_in, sets_in, links_in, clauses_in}
+use Rattle.dsr_cli.specs.FormParts.{clauses_in}
 use Rattle.dsr_cli.proofs.reader.parts.read_clauses.Given as goal
 
 abbrev pub invariant-loop-statement : goal.invariant-loop-statement

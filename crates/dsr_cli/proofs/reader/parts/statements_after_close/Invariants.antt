@@ -1,5 +1,5 @@
-use Rattle.std.proofs.Common.{◌≡◌, ◌++◌, drop}
-use Rattle.dsr_cli.specs.FormParts.{after_close, entries_in, sets_in, links_in, clauses_in}
+use Rattle.std.proofs.Common.{◌≡◌, drop}
+use Rattle.dsr_cli.specs.FormParts.{after_close}
 use Rattle.dsr_cli.proofs.reader.parts.statements_after_close.Given as goal
 
 abbrev pub invariant-loop-i : goal.invariant-loop-i

@@ -1,5 +1,5 @@
 use Rattle.std.proofs.Common.{◌≡◌, map, take}
-use Rattle.dsr_cli.specs.FormSpecs.{entry_field, set_declared, link_relation, clause_rule}
+use Rattle.dsr_cli.specs.FormSpecs.{link_relation}
 use Rattle.dsr_cli.proofs.reader.typed.make_relations.Given as goal
 
 abbrev pub invariant-loop-link : goal.invariant-loop-link

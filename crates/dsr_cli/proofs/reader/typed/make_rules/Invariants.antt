@@ -1,5 +1,5 @@
 use Rattle.std.proofs.Common.{◌≡◌, map, take}
-use Rattle.dsr_cli.specs.FormSpecs.{entry_field, set_declared, link_relation, clause_rule}
+use Rattle.dsr_cli.specs.FormSpecs.{clause_rule}
 use Rattle.dsr_cli.proofs.reader.typed.make_rules.Given as goal
 
 abbrev pub invariant-loop-clause : goal.invariant-loop-clause

@@ -1,5 +1,5 @@
 use Rattle.std.proofs.Common.{◌≡◌, map, take}
-use Rattle.dsr_cli.specs.FormSpecs.{entry_field, set_declared, link_relation, clause_rule}
+use Rattle.dsr_cli.specs.FormSpecs.{entry_field}
 use Rattle.dsr_cli.proofs.reader.typed.make_structure.Given as goal
 
 abbrev pub invariant-loop-entry : goal.invariant-loop-entry

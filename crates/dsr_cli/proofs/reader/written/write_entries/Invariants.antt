@@ -1,5 +1,5 @@
 use Rattle.std.proofs.Common.{◌≡◌, ◌++◌, map, take}
-use Rattle.dsr_cli.specs.FormTokens.{entry_statement, set_statement, relation_statement, rule_statement}
+use Rattle.dsr_cli.specs.FormTokens.{entry_statement}
 use Rattle.dsr_cli.proofs.reader.written.write_entries.Given as goal
 
 abbrev pub invariant-loop-entry : goal.invariant-loop-entry

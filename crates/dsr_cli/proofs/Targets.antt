@@ -188,6 +188,3 @@ pub size_of_targets : (spec : Spec) → IsPlain spec → (bytes : List ℕ) (lay
 size_of_targets spec plain bytes layout laid v rel h slots t =
     let f = of_head spec v rel h in
     subst (λ w. HasSize spec layout bytes Once (Out w rel) (length slots)) (sym f.0) (many_targets spec plain bytes layout laid rel f.1 slots t)
-
-pub head_relates : (spec : Spec) (v : Var) (rel : ℕ) → IsPlainMeasure spec (Out v rel) → Relates spec rel 0 (Some 1)
-head_relates spec v rel h = (of_head spec v rel h).1

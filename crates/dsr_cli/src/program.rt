@@ -1,7 +1,8 @@
 // The whole program, over any shelf and any output.
 ghost use Rattle.std.specs.Prelude.{◌≡◌, ◌⊎◌, map, string_bytes, true};
 ghost use Rattle.dsr_cli.specs.Answers.{Answer, IsAnswer};
-ghost use Rattle.dsr_cli.specs.Ends.{Puts};
+ghost use Rattle.dsr_store.specs.Causes.{Rose};
+ghost use Rattle.dsr_cli.specs.Ends.{LacksOne, Puts};
 ghost use Rattle.dsr_cli.specs.Loads.{shelved_by};
 ghost use Rattle.dsr_cli.specs.Verdicts.{FindsConsistent, FindsInconsistent};
 ghost use Rattle.dsr_cli.specs.Words.{is_usage};
@@ -24,9 +25,12 @@ pub fn run<F: Shelf, O: Sink>(
         × Puts answer (O.written out.old) (O.written out.new) (O.faults out.old) (O.faults out.new) result) }
     ensures consistent { result ≡ Status.Ok → FindsConsistent (F.held shelf.old) (map string_bytes words.now.items) }
     ensures inconsistent { result ≡ Status.Inconsistent → FindsInconsistent (F.held shelf.old) (map string_bytes words.now.items) }
+    ensures usage { result ≡ Status.Usage → is_usage (map string_bytes words.now.items) ≡ true }
+    ensures uncalled { is_usage (map string_bytes words.now.items) ≡ true → shelf.new ≡ shelf.old }
+    ensures store { result ≡ Status.StoreFailed → Rose (F.faults shelf.old) (F.faults shelf.new) ⊎ LacksOne (F.held shelf.old) (map string_bytes words.now.items) }
+    ensures output { result ≡ Status.OutputFailed → Rose (O.faults out.old) (O.faults out.new) }
     ensures no_memory { result ≡ Status.NoMemory → O.written out.new ≡ O.written out.old }
     ensures held { F.held shelf.new ≡ F.held shelf.old }
-    ensures usage { is_usage (map string_bytes words.now.items) ≡ true → shelf.new ≡ shelf.old }
 {
     match answer_to(alloc, words, shelf) {
         Err(_) => Status::NoMemory,

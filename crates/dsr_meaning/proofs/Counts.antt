@@ -1,6 +1,6 @@
 -- A count of different things is one number.
-use Rattle.std.proofs.Common.{◌≡◌, ◌≢◌, ◌<◌, ◌≤◌, ◌+◌, ℕ, zero, suc, List, [], ◌∷◌, ◌++◌, length, ◌⊎◌, inl, inr, refl, sym, ap, subst, ◌∙◌, arith}
-use Rattle.dsr_meaning.specs.Counting.{IsIn, IsDistinct, Enumerates, AreMany}
+use Rattle.std.proofs.Common.{◌≡◌, ◌≤◌, ℕ, suc, List, [], ◌∷◌, length, ◌⊎◌, inl, inr, refl, sym, ap, subst, ◌∙◌, arith}
+use Rattle.dsr_meaning.specs.Counting.{IsIn, IsDistinct, AreMany}
 
 -- the list without one place at which the thing stands
 pub record Without {A : Type 0} (x : A) (xs : List A) : Type 0 where

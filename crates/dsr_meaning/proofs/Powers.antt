@@ -1,5 +1,5 @@
 -- Powers of 2 and of 256, by one step and within 64 bits.
-use Rattle.std.proofs.Common.{◌≡◌, ◌≤◌, ◌<◌, ◌+◌, ◌-◌, ◌*◌, ◌^◌, ℕ, List, zero, suc, refl, sym, ap, subst, ◌∙◌, arith}
+use Rattle.std.proofs.Common.{◌≡◌, ◌≤◌, ◌<◌, ◌+◌, ◌-◌, ◌*◌, ◌^◌, ℕ, List, zero, suc, refl, sym, ap, ◌∙◌, arith}
 use Rattle.std.proofs.Math.Pow.{pow_mono}
 use Rattle.std.proofs.Math.Nat.{add-mul, le-mul_of_pos_right, mul-le-mul_left, mul_assoc, mul_comm, one-le-pow, pow-succ'}
 use Rattle.std.specs.Prelude.{slice_index}

@@ -1,5 +1,5 @@
 -- What the value of a reference to a pool means.
-use Rattle.std.specs.Prelude.{◌≡◌, ◌≢◌, ◌<◌, ℕ, ◌+◌, ◌*◌, Some, IsSomeAnd}
+use Rattle.std.specs.Prelude.{◌≡◌, ◌<◌, ℕ, ◌+◌, ◌*◌, Some, IsSomeAnd}
 use Rattle.dsr_ir.specs.Layouts.{pool_numbers}
 use Rattle.dsr_ir.specs.declared.layouts.Layout.{Layout}
 use Rattle.dsr_ir.specs.declared.layouts.PoolNumbers.{PoolNumbers}

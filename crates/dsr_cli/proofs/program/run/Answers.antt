@@ -1,9 +1,18 @@
-use Rattle.dsr_cli.proofs.AnswerLaws.{not_no_memory}
+use Rattle.dsr_cli.proofs.AnswerLaws.{not_no_memory, not_output_failed, store_cause, usage_cause}
 use Rattle.dsr_cli.proofs.Findings.{finds_consistent, finds_inconsistent}
 use Rattle.dsr_cli.proofs.program.run.Goals as goal
 
 pub returns-in-Ok-put-clause-no_memory : goal.returns-in-Ok-put-clause-no_memory
 returns-in-Ok-put-clause-no_memory g c e = absurd (not_no_memory c.in-Ok.ensures.answer e)
+
+pub returns-in-Ok-put-clause-output : goal.returns-in-Ok-put-clause-output
+returns-in-Ok-put-clause-output g c e = absurd (not_output_failed c.in-Ok.ensures.answer e)
+
+pub returns-in-Ok-put-clause-store : goal.returns-in-Ok-put-clause-store
+returns-in-Ok-put-clause-store g c e = rw (← c.deref.ensures.value) (store_cause _ _ c.in-Ok.ensures.answer e)
+
+pub returns-in-Ok-put-clause-usage : goal.returns-in-Ok-put-clause-usage
+returns-in-Ok-put-clause-usage g c e = rw (← c.deref.ensures.value) (usage_cause c.in-Ok.ensures.answer e)
 
 pub returns-in-Ok-put-clause-consistent : goal.returns-in-Ok-put-clause-consistent
 returns-in-Ok-put-clause-consistent g c e = rw (← c.deref.ensures.value) (finds_consistent _ _ _ c.in-Ok.ensures.answer e)

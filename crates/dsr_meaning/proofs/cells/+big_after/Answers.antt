@@ -1,5 +1,4 @@
-use Rattle.std.proofs.Common.{◌≡◌, ◌<◌, ◌+◌, ◌-◌, ◌*◌, ◌^◌, sym, ap, ◌∙◌, arith}
-use Rattle.std.specs.Prelude.{slice_index}
+use Rattle.std.proofs.Common.{◌<◌, ◌-◌, ◌*◌, ◌^◌, ap, arith}
 use Rattle.dsr_meaning.proofs.Powers.{big_value, next_part, next_small, room}
 use Rattle.dsr_meaning.proofs.cells.+big_after.Goals as goal
 

@@ -2,6 +2,7 @@ pub mod AnswerLaws
 pub mod Findings
 pub mod FormCuts
 pub mod FormNumbers
+pub mod FormOnce
 pub mod FormPlaces
 pub mod FormPlain
 pub mod FormReads

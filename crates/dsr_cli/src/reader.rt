@@ -2,7 +2,8 @@
 ghost use Rattle.std.specs.Prelude.{◌≡◌, IfOk, IsTrue, drop, map};
 ghost use Rattle.dsr_meaning.specs.Tokens.{is_hexadecimal_digit, every, IsLexed};
 ghost use Rattle.dsr_cli.specs.FormStatements.{token_of};
-ghost use Rattle.dsr_cli.specs.FormTexts.{is_no_mark, begins_hexadecimal, is_decimal, are_decimal, FindsForm, FindsSpec, FindsLexemes, ReadsSpec};
+ghost use Rattle.dsr_ir.specs.declared.declarations.Spec.{Spec as TypedSpec};
+ghost use Rattle.dsr_cli.specs.FormTexts.{HasForm, is_no_mark, begins_hexadecimal, is_decimal, are_decimal, FindsForm, FindsSpec, FindsLexemes, ReadsSpec};
 
 mod conditions;
 mod forms;
@@ -126,8 +127,10 @@ fn find_plain_spec(
 }
 
 /// The typed specification of a text of the form; none where the text isn't of the form.
+#[tactic(auto, using(crate::proofs::FormOnce::form_once))]
 pub fn read_spec(alloc: Global, text: &[u8]) -> Result<Option<Spec>, AllocError>
-    ensures { IfOk result (ReadsSpec text.now) }
+    ensures read { IfOk result (ReadsSpec text.now) }
+    ensures one { (a b : TypedSpec) → HasForm text.now a → HasForm text.now b → a ≡ b }
 {
     if !has_no_comment(text) {
         return Ok(None);

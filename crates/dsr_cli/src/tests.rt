@@ -72,28 +72,70 @@ fn words_of(alloc: Global, words: &[&str]) -> Result<Vec<String>, AllocError> {
     Ok(all)
 }
 
-// Whether the words over these two files are answered by the status and the text.
-fn is_answered(
-    alloc: Global,
-    spec: &[u8],
-    image: &[u8],
-    words: &[&str],
+const CHECK: [&str; 3] = ["check", "s", "i"];
+
+const CONSISTENT: &str = "consistent\n";
+
+const VIOLATED: &str = "violated total -\ninconsistent 1\n";
+
+const SHORT: &str = "layout 1 short\n";
+
+const OUTSIDE: &str = "layout 3 outside nodes\n";
+
+const FAILED: &str = "store failed\n";
+
+// Words over two files, and what they are answered.
+#[derive(Clone, Copy)]
+struct Case<'a> {
+    spec: &'a [u8],
+    image: &'a [u8],
+    words: &'a [&'a str],
     status: Status,
-    text: &str,
-) -> Result<bool, AllocError> {
+    text: &'a str,
+}
+
+fn check<'a>(spec: &'a [u8], image: &'a [u8], status: Status, text: &'a str) -> Case<'a> {
+    Case {
+        spec,
+        image,
+        words: &CHECK,
+        status,
+        text,
+    }
+}
+
+fn told<'a>(words: &'a [&'a str], status: Status, text: &'a str) -> Case<'a> {
+    Case {
+        spec: LIST,
+        image: &SOUND,
+        words,
+        status,
+        text,
+    }
+}
+
+fn is_answered(alloc: Global, case: &Case) -> Result<bool, AllocError> {
     let mut shelf = SureShelf {
-        files: two_files(alloc, spec, image)?,
+        files: two_files(alloc, case.spec, case.image)?,
         last: None,
     };
     let mut out = SureSink {
         bytes: Vec::new(alloc),
     };
-    let words = words_of(alloc, words)?;
+    let words = words_of(alloc, case.words)?;
     let ended = run(alloc, &words, &mut shelf, &mut out);
-    Ok(ended == status && out.bytes.as_slice() == text.as_bytes())
+    Ok(ended == case.status && out.bytes.as_slice() == case.text.as_bytes())
 }
 
-const CHECK: [&str; 3] = ["check", "s", "i"];
+// Whether each of these texts under `s` and images under `i` is answered as told; the first that isn't.
+fn first_wrong(alloc: Global, cases: &[Case]) -> Result<Option<usize>, AllocError> {
+    for (i, case) in cases.iter().enumerate() {
+        if !is_answered(alloc, case)? {
+            return Ok(Some(i));
+        }
+    }
+    Ok(None)
+}
 
 #[test]
 fn images_are_judged(rt: HostRuntime) -> Result<(), Fail> {
@@ -109,50 +151,31 @@ fn images_are_judged(rt: HostRuntime) -> Result<(), Fail> {
     // The second node leads back to the first.
     let mut cycle = SOUND;
     cycle[20] = 1;
-    let violated = "violated total -\ninconsistent 1\n";
     let cases = [
-        (SOUND.as_slice(), Status::Ok, "consistent\n"),
-        (miscounted.as_slice(), Status::Inconsistent, violated),
-        ([0u8; 8].as_slice(), Status::Ok, "consistent\n"),
-        (
-            [2u8, 0, 0, 0, 0, 0, 0].as_slice(),
-            Status::LayoutRefused,
-            "layout 1 short\n",
-        ),
-        (
-            outside.as_slice(),
-            Status::LayoutRefused,
-            "layout 3 outside nodes\n",
-        ),
-        (cut.as_slice(), Status::Inconsistent, violated),
-        (cycle.as_slice(), Status::Ok, "consistent\n"),
+        check(LIST, &SOUND, Status::Ok, CONSISTENT),
+        check(LIST, &miscounted, Status::Inconsistent, VIOLATED),
+        check(LIST, &[0; 8], Status::Ok, CONSISTENT),
+        check(LIST, &[2, 0, 0, 0, 0, 0, 0], Status::LayoutRefused, SHORT),
+        check(LIST, &outside, Status::LayoutRefused, OUTSIDE),
+        check(LIST, &cut, Status::Inconsistent, VIOLATED),
+        check(LIST, &cycle, Status::Ok, CONSISTENT),
     ];
-    for (i, (image, status, text)) in cases.iter().enumerate() {
-        assert!(rt;
-            is_answered(alloc, LIST, image, &CHECK, *status, text)?,
-            "image {i}"
-        );
-    }
+    assert_eq!(rt; first_wrong(alloc, &cases)?, None);
     for length in 0..25usize {
-        let (status, text) = if length < 8 {
-            (Status::LayoutRefused, "layout 1 short\n")
-        } else if length < 24 {
-            (Status::LayoutRefused, "layout 3 outside nodes\n")
-        } else {
-            (Status::Ok, "consistent\n")
+        let (status, text) = match length {
+            0..8 => (Status::LayoutRefused, SHORT),
+            8..24 => (Status::LayoutRefused, OUTSIDE),
+            _ => (Status::Ok, CONSISTENT),
         };
-        assert!(rt;
-            is_answered(alloc, LIST, &SOUND[..length], &CHECK, status, text)?,
-            "prefix {length}"
-        );
+        let case = check(LIST, &SOUND[..length], status, text);
+        assert!(rt; is_answered(alloc, &case)?, "prefix {length}");
     }
     Ok(())
 }
 
 #[test]
-fn words_and_inputs_are_refused(rt: HostRuntime) -> Result<(), Fail> {
-    let alloc = rt.alloc();
-    let words: [&[&str]; 8] = [
+fn words_are_refused(rt: HostRuntime) -> Result<(), Fail> {
+    let wrong: [&[&str]; 8] = [
         &[],
         &["check", "", "i"],
         &["check", "s", "-i"],
@@ -162,75 +185,39 @@ fn words_and_inputs_are_refused(rt: HostRuntime) -> Result<(), Fail> {
         &["check", "s"],
         &["check", "s", "i", "i"],
     ];
-    for (i, words) in words.iter().enumerate() {
-        assert!(rt;
-            is_answered(alloc, LIST, &SOUND, words, Status::Usage, "usage\n")?,
-            "words {i}"
-        );
+    for (i, words) in wrong.iter().enumerate() {
+        let case = told(words, Status::Usage, "usage\n");
+        assert!(rt; is_answered(rt.alloc(), &case)?, "words {i}");
     }
-    let failed = "store failed\n";
-    assert!(rt;
-        is_answered(
-            alloc,
-            LIST,
-            &SOUND,
-            &["check", "x", "i"],
-            Status::StoreFailed,
-            failed
-        )?
-    );
-    assert!(rt;
-        is_answered(
-            alloc,
-            LIST,
-            &SOUND,
-            &["check", "s", "x"],
-            Status::StoreFailed,
-            failed
-        )?
-    );
-    assert!(rt;
-        is_answered(
-            alloc,
-            GUARDED,
-            &SOUND,
-            &CHECK,
-            Status::SpecRefused,
-            "spec 0 0\n"
-        )?
-    );
+    let cases = [
+        told(&["check", "x", "i"], Status::StoreFailed, FAILED),
+        told(&["check", "s", "x"], Status::StoreFailed, FAILED),
+    ];
+    assert_eq!(rt; first_wrong(rt.alloc(), &cases)?, None);
+    Ok(())
+}
 
+#[test]
+fn inputs_are_refused(rt: HostRuntime) -> Result<(), Fail> {
+    let alloc = rt.alloc();
     // Blanks behind the text, up to the most bytes of a specification and one more.
     let mut spec = Vec::from_slice(alloc, LIST)?;
     spec.resize(65_536, b' ')?;
-    assert!(rt; is_answered(alloc, &spec, &SOUND, &CHECK, Status::Ok, "consistent\n")?);
-    spec.push(b' ')?;
-    assert!(rt;
-        is_answered(
-            alloc,
-            &spec,
-            &SOUND,
-            &CHECK,
-            Status::TooLong,
-            "too long spec\n"
-        )?
-    );
-
+    let mut long_spec = Vec::from_slice(alloc, &spec)?;
+    long_spec.push(b' ')?;
     // Bytes behind the pool, up to the most bytes of an image and one more.
     let mut image = Vec::from_slice(alloc, &SOUND)?;
     image.resize(4_194_304, 0)?;
-    assert!(rt; is_answered(alloc, LIST, &image, &CHECK, Status::Ok, "consistent\n")?);
-    image.push(0)?;
-    assert!(rt;
-        is_answered(
-            alloc,
-            LIST,
-            &image,
-            &CHECK,
-            Status::TooLong,
-            "too long image\n"
-        )?
-    );
+    let mut long_image = Vec::from_slice(alloc, &image)?;
+    long_image.push(0)?;
+    let cases = [
+        check(GUARDED, &SOUND, Status::SpecRefused, "spec 0 0\n"),
+        check(&spec, &SOUND, Status::Ok, CONSISTENT),
+        check(&long_spec, &SOUND, Status::TooLong, "too long spec\n"),
+        check(LIST, &image, Status::Ok, CONSISTENT),
+        check(LIST, &long_image, Status::TooLong, "too long image\n"),
+    ];
+    assert_eq!(rt; first_wrong(alloc, &cases)?, None);
     Ok(())
 }
 
@@ -254,99 +241,47 @@ fn are_held(files: &[Held], spec: &[u8], image: &[u8]) -> bool {
     }
 }
 
-#[derive(Clone, Copy)]
-struct Failing {
-    // The call of the shelf and the put that fail; 0 for none.
-    call: u64,
-    put: u64,
-    status: Status,
-    text: &'static str,
-    last: &'static str,
+// The call of the shelf and the put that fail, 0 for none, and what comes of it.
+type Failing = (u64, u64, Status, &'static str, &'static str);
+
+// Whether `check` of the sound image ends so, with this load as the last that failed, and leaves the files.
+fn is_told(alloc: Global, failing: &Failing) -> Result<bool, AllocError> {
+    let (call, put, status, text, last) = *failing;
+    let mut shelf = MemoryShelf {
+        files: two_files(alloc, LIST, &SOUND)?,
+        fail: vec![in alloc; call]?,
+        calls: 0,
+        last: None,
+    };
+    let mut out = MemorySink {
+        bytes: Vec::new(alloc),
+        fail: vec![in alloc; put]?,
+        calls: 0,
+    };
+    let words = words_of(alloc, &CHECK)?;
+    let ended = run(alloc, &words, &mut shelf, &mut out);
+    Ok(
+        ended == status
+            && out.bytes.as_slice() == text.as_bytes()
+            && is_last(&shelf.last, last)
+            && are_held(&shelf.files, LIST, &SOUND),
+    )
 }
 
 #[test]
 fn calls_fail_in_turn(rt: HostRuntime) -> Result<(), Fail> {
-    let alloc = rt.alloc();
-    let (failed, sound) = ("store failed\n", "consistent\n");
-    let cases = [
-        Failing {
-            call: 0,
-            put: 0,
-            status: Status::Ok,
-            text: sound,
-            last: "",
-        },
-        Failing {
-            call: 1,
-            put: 0,
-            status: Status::StoreFailed,
-            text: failed,
-            last: "s",
-        },
-        Failing {
-            call: 2,
-            put: 0,
-            status: Status::StoreFailed,
-            text: failed,
-            last: "i",
-        },
-        Failing {
-            call: 3,
-            put: 0,
-            status: Status::Ok,
-            text: sound,
-            last: "",
-        },
-        Failing {
-            call: 0,
-            put: 1,
-            status: Status::OutputFailed,
-            text: "",
-            last: "",
-        },
-        Failing {
-            call: 1,
-            put: 1,
-            status: Status::OutputFailed,
-            text: "",
-            last: "s",
-        },
-        Failing {
-            call: 2,
-            put: 1,
-            status: Status::OutputFailed,
-            text: "",
-            last: "i",
-        },
-        Failing {
-            call: 0,
-            put: 2,
-            status: Status::Ok,
-            text: sound,
-            last: "",
-        },
+    let cases: [Failing; 8] = [
+        (0, 0, Status::Ok, CONSISTENT, ""),
+        (1, 0, Status::StoreFailed, FAILED, "s"),
+        (2, 0, Status::StoreFailed, FAILED, "i"),
+        (3, 0, Status::Ok, CONSISTENT, ""),
+        (0, 1, Status::OutputFailed, "", ""),
+        (1, 1, Status::OutputFailed, "", "s"),
+        (2, 1, Status::OutputFailed, "", "i"),
+        (0, 2, Status::Ok, CONSISTENT, ""),
     ];
-    let words = words_of(alloc, &CHECK)?;
-    for (i, case) in cases.iter().enumerate() {
-        let mut shelf = MemoryShelf {
-            files: two_files(alloc, LIST, &SOUND)?,
-            fail: vec![in alloc; case.call]?,
-            calls: 0,
-            last: None,
-        };
-        let mut out = MemorySink {
-            bytes: Vec::new(alloc),
-            fail: vec![in alloc; case.put]?,
-            calls: 0,
-        };
-        assert_eq!(rt;
-            run(alloc, &words, &mut shelf, &mut out),
-            case.status,
-            "case {i}"
-        );
-        assert_eq!(rt; out.bytes.as_slice(), case.text.as_bytes(), "case {i}");
-        assert!(rt; is_last(&shelf.last, case.last), "case {i}");
-        assert!(rt; are_held(&shelf.files, LIST, &SOUND), "case {i}");
+    for (i, failing) in cases.iter().enumerate() {
+        assert!(rt; is_told(rt.alloc(), failing)?, "case {i}");
     }
     Ok(())
 }

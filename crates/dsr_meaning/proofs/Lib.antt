@@ -1,3 +1,4 @@
 pub mod Counts
+pub mod Orders
 pub mod Powers
 pub mod Sizes

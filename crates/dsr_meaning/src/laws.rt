@@ -4,7 +4,7 @@ ghost use Rattle.dsr_ir.specs.declared.constraints.Measure.{Measure};
 ghost use Rattle.dsr_ir.specs.declared.declarations.Spec.{Spec};
 ghost use Rattle.dsr_ir.specs.declared.layouts.Layout.{Layout};
 ghost use Rattle.dsr_ir.specs.declared.tuples.Binding.{Binding};
-ghost use Rattle.dsr_meaning.specs.Consistency.{AreViolations, IsConsistent};
+ghost use Rattle.dsr_meaning.specs.Consistency.{AreViolations, Instanced, IsConsistent};
 ghost use Rattle.dsr_meaning.specs.Truth.{HasSize};
 
 /// A set, or a variable under a relation, has one size.
@@ -15,4 +15,9 @@ pub fn sizes_are_unique()
 /// An image is consistent exactly where no binding stands in its list of violated ones.
 pub fn violations_tell_consistency()
     ensures { (spec : Spec) (layout : Layout) (bytes : List ℕ) → AreViolations spec layout bytes [] ↔ IsConsistent spec layout bytes }
+{}
+
+/// The violated bindings of an image have one list.
+pub fn violations_are_unique()
+    ensures { (spec : Spec) (layout : Layout) (bytes : List ℕ) (vs ws : List Instanced) → AreViolations spec layout bytes vs → AreViolations spec layout bytes ws → vs ≡ ws }
 {}

@@ -1,5 +1,5 @@
 // Values of cells, counted by hand.
-use crate::{sizes_are_unique, value_of_cell, violations_tell_consistency};
+use crate::{sizes_are_unique, value_of_cell, violations_are_unique, violations_tell_consistency};
 use dsr_ir::{Cell, Order};
 use std::test::Fail;
 
@@ -30,6 +30,7 @@ fn cells_have_their_values(rt: HostRuntime) -> Result<(), Fail> {
         assert_eq!(rt; value_of_cell(&bytes, &cell), *value, "cell {i}");
     }
     sizes_are_unique();
+    violations_are_unique();
     violations_tell_consistency();
     Ok(())
 }

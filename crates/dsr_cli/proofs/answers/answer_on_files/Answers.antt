@@ -17,13 +17,13 @@ pub returns-in-None-2-clause-answer : goal.returns-in-None-2-clause-answer
 returns-in-None-2-clause-answer g c =
     let loaded = rw c.in-Some.is at c.in_ok-load_of.ensures.loaded in
     let whole : length c.in-Some.text.items ≤ 65536 = grind (arith, common_steps) in
-    let none = rw (c.in-None-2.is, c.deref.ensures.value) at c.in_ok-read_spec.ensures in
+    let none = rw (c.in-None-2.is, c.deref.ensures.value) at c.in_ok-read_spec.ensures.read in
     told_files _ c.args.spec_name.now c.args.image_name.now c.tell-in-None-2.result spec_refused c.tell-in-None-2.ensures (refused c.in-Some.text.items (record { loaded = loaded.0; whole = whole }) none loaded.1)
 
 pub returns-clause-answer : goal.returns-clause-answer
 returns-clause-answer g c =
     let loaded = rw c.in-Some.is at c.in_ok-load_of.ensures.loaded in
     let whole : length c.in-Some.text.items ≤ 65536 = grind (arith, common_steps) in
-    let read = rw (c.in-Some-2.is, c.deref.ensures.value) at c.in_ok-read_spec.ensures in
+    let read = rw (c.in-Some-2.is, c.deref.ensures.value) at c.in_ok-read_spec.ensures.read in
     told_accepted _ _ _ _ _ _ _ _ c.args.spec_name.now c.args.image_name.now c.in-Some.text.items c.in-Some-2.spec c.answer_on_image.result
     c.load_of.ensures.held c.load_of.ensures.later loaded.1 (record { loaded = loaded.0; whole = whole }) read.0 c.answer_on_image.ensures.answer

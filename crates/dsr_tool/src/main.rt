@@ -5,7 +5,7 @@
 ghost use Rattle.std.specs.Prelude.{◌≡◌, [], drop, IfOk, IfErr, IsOkAnd};
 ghost use Rattle.std.specs.Vec.Iter.{into_iter_items};
 
-use dsr_cli::run;
+use dsr_cli::{Status, run};
 use dsr_store::{FileShelf, StdSink};
 use std::alloc::{AllocError, Global};
 use std::env::{self, Args};
@@ -37,7 +37,10 @@ fn words_of(alloc: Global, given: io::Result<Args>) -> Result<Vec<String>, Alloc
 
 fn main(rt: HostRuntime) -> ExitCode {
     let alloc = rt.alloc();
-    let words = words_of(alloc, env::args(&rt)).unwrap_or(Vec::new(alloc));
+    let words = match words_of(alloc, env::args(&rt)) {
+        Ok(given) => given,
+        Err(_) => return ExitCode::from(Status::NoMemory.number()),
+    };
     let mut shelf = FileShelf {
         rt: &rt,
         faults: 0,

@@ -15,6 +15,92 @@ const PARTS: [&str; 9] = [
     "constraint Counted : head.Used = size(Live);\n",
 ];
 
+// The number of a part (9 for none), what stands in its place, and whether the text is of the form.
+const CASES: [(usize, &str, bool); 30] = [
+    (9, "", true),
+    (0, "version 2; order little;", false),
+    (0, "version 1; order little; # of old", false),
+    (0, "version 0x1; order little;", false),
+    (0, "", false),
+    (
+        1,
+        "structure Top { fixed u16 N; u32 first -> Files; u16 used; }",
+        false,
+    ),
+    (
+        1,
+        "structure Head { u16 N; u32 first -> Files; u16 used; }",
+        false,
+    ),
+    (
+        1,
+        "structure Head { fixed u16 N; u32 first -> Files; u16 N; }",
+        false,
+    ),
+    (
+        1,
+        "structure Head { fixed u16 N; u16 used; u32 first -> Files; }",
+        true,
+    ),
+    (2, "structure File { }", false),
+    (2, "structure File { u32 next -> File; u32 bytes; }", false),
+    (3, "pool Files : File[N] at 9 codes 1 step 1 none 0;", false),
+    (
+        3,
+        "pool Files : File[used] at 8 codes 1 step 1 none 0;",
+        false,
+    ),
+    (4, "set Live of Files;", false),
+    (
+        4,
+        "set Live of Files; set Old of Files; set Live of Files;",
+        false,
+    ),
+    (
+        4,
+        "set Live of Files; set Old of Files; set Size of Files;",
+        false,
+    ),
+    (
+        5,
+        "relation Used : head -> number; relation Size : Files -> number;",
+        true,
+    ),
+    (
+        5,
+        "relation Used : head -> number; relation Size : Files -> Files;",
+        false,
+    ),
+    (6, "rule head => head.used in Live;", false),
+    (6, "rule f in Live => g.next in Live;", false),
+    (6, "rule f in Live => f.first in Live;", false),
+    (
+        6,
+        "rule a in Live => a in Old; rule a in Old => a in Live;",
+        true,
+    ),
+    (7, "rule f in Live => <f, f.next> in Size;", false),
+    (7, "rule f in Live => <f, f.bytes> in Size", false),
+    (8, "constraint Counted : head.Used = 65535;", true),
+    (8, "constraint Counted : head.Used = 65536;", false),
+    (
+        8,
+        "constraint Counted : head.Used = size(head.First);",
+        true,
+    ),
+    (
+        8,
+        "constraint Counted : head.Used = size(head.Used);",
+        false,
+    ),
+    (
+        8,
+        "constraint Counted : head.Used = size(Live); set Late of Files;",
+        false,
+    ),
+    (8, "constraint Counted : head.Used = size(Live)", false),
+];
+
 // Whether the text with one part in the place of another is of the form.
 fn is_read(alloc: Global, place: usize, part: &str) -> Result<bool, Fail> {
     let mut text = String::new(alloc);
@@ -26,91 +112,7 @@ fn is_read(alloc: Global, place: usize, part: &str) -> Result<bool, Fail> {
 
 #[test]
 fn texts_are_of_the_form_or_not(rt: HostRuntime) -> Result<(), Fail> {
-    let cases: [(usize, &str, bool); 30] = [
-        (9, "", true),
-        (0, "version 2; order little;", false),
-        (0, "version 1; order little; # of old", false),
-        (0, "version 0x1; order little;", false),
-        (0, "", false),
-        (
-            1,
-            "structure Top { fixed u16 N; u32 first -> Files; u16 used; }",
-            false,
-        ),
-        (
-            1,
-            "structure Head { u16 N; u32 first -> Files; u16 used; }",
-            false,
-        ),
-        (
-            1,
-            "structure Head { fixed u16 N; u32 first -> Files; u16 N; }",
-            false,
-        ),
-        (
-            1,
-            "structure Head { fixed u16 N; u16 used; u32 first -> Files; }",
-            true,
-        ),
-        (2, "structure File { }", false),
-        (2, "structure File { u32 next -> File; u32 bytes; }", false),
-        (3, "pool Files : File[N] at 9 codes 1 step 1 none 0;", false),
-        (
-            3,
-            "pool Files : File[used] at 8 codes 1 step 1 none 0;",
-            false,
-        ),
-        (4, "set Live of Files;", false),
-        (
-            4,
-            "set Live of Files; set Old of Files; set Live of Files;",
-            false,
-        ),
-        (
-            4,
-            "set Live of Files; set Old of Files; set Size of Files;",
-            false,
-        ),
-        (
-            5,
-            "relation Used : head -> number; relation Size : Files -> number;",
-            true,
-        ),
-        (
-            5,
-            "relation Used : head -> number; relation Size : Files -> Files;",
-            false,
-        ),
-        (6, "rule head => head.used in Live;", false),
-        (6, "rule f in Live => g.next in Live;", false),
-        (6, "rule f in Live => f.first in Live;", false),
-        (
-            6,
-            "rule a in Live => a in Old; rule a in Old => a in Live;",
-            true,
-        ),
-        (7, "rule f in Live => <f, f.next> in Size;", false),
-        (7, "rule f in Live => <f, f.bytes> in Size", false),
-        (8, "constraint Counted : head.Used = 65535;", true),
-        (8, "constraint Counted : head.Used = 65536;", false),
-        (
-            8,
-            "constraint Counted : head.Used = size(head.First);",
-            true,
-        ),
-        (
-            8,
-            "constraint Counted : head.Used = size(head.Used);",
-            false,
-        ),
-        (
-            8,
-            "constraint Counted : head.Used = size(Live); set Late of Files;",
-            false,
-        ),
-        (8, "constraint Counted : head.Used = size(Live)", false),
-    ];
-    for (place, part, read) in cases {
+    for (place, part, read) in CASES {
         assert_eq!(rt; is_read(rt.alloc(), place, part)?, read, "{part}");
     }
     Ok(())

@@ -1,16 +1,18 @@
 -- What an answer of `consistent`, or of violated bindings, finds in the files.
-use Rattle.std.proofs.Common.{◌≡◌, ◌<◌, ◌≤◌, ℕ, List, [], ◌∷◌, length, take, None, Some, ◌⊎◌, inl, inr, refl, sym, ap, subst, ◌∙◌, arith}
+use Rattle.std.proofs.Common.{◌≡◌, ◌<◌, ◌≤◌, ℕ, List, [], ◌∷◌, length, take, Bool, true, false, None, Some, ◌⊎◌, inl, inr, refl, sym, ap, subst, ◌∙◌, arith}
 use Rattle.std.specs.Prelude.{IfSome, IsSomeAnd}
 use Rattle.std.specs.FinMap.{get}
 use Rattle.std.proofs.lemmas.List.{length-take, take_all}
 use Rattle.dsr_ir.specs.declared.declarations.Spec.{Spec}
 use Rattle.dsr_ir.specs.declared.layouts.Layout.{Layout}
 use Rattle.dsr_meaning.specs.Consistency.{AreViolations, Instanced, IsConsistent}
+use Rattle.dsr_parse.specs.declared.parser.SyntaxFault.{SyntaxFault}
+use Rattle.dsr_parse.specs.declared.parser.SyntaxFault.TheVariants as faults
 use Rattle.dsr_store.specs.Files.{Files, IsFrontOf}
-use Rattle.dsr_cli.specs.Answers.{Answer, IsAnswer, IsFilesAnswer, IsImageAnswer, IsLoadAnswer, Shelved, accepted, checked, long_image, long_spec, no_command, no_image, no_spec, on_files, on_image, outside, refused, short, verdict_answer}
+use Rattle.dsr_cli.specs.Answers.{Answer, IsAnswer, IsFilesAnswer, IsImageAnswer, IsLoadAnswer, IsPrintAnswer, IsTextAnswer, Shelved, syntax_refused, no_syntax, with_rules, printed, no_text, long_text, on_text, on_spec, accepted, checked, long_image, long_spec, no_command, no_image, no_spec, on_files, on_image, outside, refused, short, verdict_answer}
 use Rattle.dsr_cli.specs.PlainLayouts.{IsLaidOut}
-use Rattle.dsr_cli.specs.Verdicts.{FindsConsistent, FindsInconsistent, IsChecked}
-use Rattle.dsr_cli.specs.Words.{second, third}
+use Rattle.dsr_cli.specs.Verdicts.{FindsConsistent, FindsInconsistent, FindsPrinted, IsChecked, IsPrinted}
+use Rattle.dsr_cli.specs.Words.{is_text, second, third}
 use Rattle.dsr_cli.specs.declared.status.Status.{Status}
 use Rattle.dsr_cli.specs.declared.status.Status.TheVariants as statuses
 
@@ -26,6 +28,10 @@ whole_front files name bytes cap h lt =
       | None ↦ λ h. absurd h
       | Some whole ↦ λ h. ap Some (whole_file whole bytes cap h lt)
     ] h
+
+-- a test doesn't come out both ways
+both : {b : Bool} → b ≡ false → b ≡ true → ⊥
+both f t = let e : true ≡ false = sym t ∙ f in cc
 
 -- the rest of a finding, once the files are told
 module _ (s : Shelved) (words : List (List ℕ)) (files : Files) (told : s.held ≡ Some files) where
@@ -92,26 +98,57 @@ module _ (s : Shelved) (words : List (List ℕ)) (files : Files) (told : s.held 
         let j = load_judged h e in
         record { spec = spec; judged = j; checks = record { text = text; spec_file = front_told (second words) text 65537 t.loaded (omega (arith, t.whole)); image_file = j.file; form = f; laid_out = j.laid_out } }
 
-    answer_judged : {a : Answer} → IsAnswer s words a → a.status ≡ status → IsWhole a
-    answer_judged (no_command u none) e = absurd (not_usage e)
-    answer_judged (on_files answer u h) e = files_judged h e
+    answer_judged : {a : Answer} → is_text words ≡ false → IsAnswer s words a → a.status ≡ status → IsWhole a
+    answer_judged no_print (no_command u none) e = absurd (not_usage e)
+    answer_judged no_print (on_files answer u f h) e = files_judged h e
+    answer_judged no_print (on_spec answer u f h) e = absurd (both no_print f)
 
 -- the answer of status 0 finds a consistent image
-pub finds_consistent : (s : Shelved) (words : List (List ℕ)) (a : Answer) → IsAnswer s words a → a.status ≡ statuses.Ok → FindsConsistent s.held words
-finds_consistent s words a h e =
+pub finds_consistent : (s : Shelved) (words : List (List ℕ)) (a : Answer) → is_text words ≡ false → IsAnswer s words a → a.status ≡ statuses.Ok → FindsConsistent s.held words
+finds_consistent s words a no_print h e =
     elim s.held as (λ o. s.held ≡ o → FindsConsistent o words) [
       | None ↦ λ _. tt
       | Some files ↦ λ told.
-          let w = answer_judged s words files told statuses.Ok (inl refl) h e in
+          let w = answer_judged s words files told statuses.Ok (inl refl) no_print h e in
           (w.spec, w.judged.layout, w.judged.image, w.checks, consistent_verdict s words files told w.spec w.judged.layout w.judged.image w.judged.vs w.judged.violations (ap (λ (a : Answer). a.status) (sym w.judged.answer_is) ∙ e))
     ] refl
 
 -- the answer of status 1 finds one that isn't
-pub finds_inconsistent : (s : Shelved) (words : List (List ℕ)) (a : Answer) → IsAnswer s words a → a.status ≡ statuses.Inconsistent → FindsInconsistent s.held words
-finds_inconsistent s words a h e =
+pub finds_inconsistent : (s : Shelved) (words : List (List ℕ)) (a : Answer) → is_text words ≡ false → IsAnswer s words a → a.status ≡ statuses.Inconsistent → FindsInconsistent s.held words
+finds_inconsistent s words a no_print h e =
     elim s.held as (λ o. s.held ≡ o → FindsInconsistent o words) [
       | None ↦ λ _. tt
       | Some files ↦ λ told.
-          let w = answer_judged s words files told statuses.Inconsistent (inr refl) h e in
+          let w = answer_judged s words files told statuses.Inconsistent (inr refl) no_print h e in
           (w.spec, w.judged.layout, w.judged.image, w.checks, inconsistent_verdict s words files told w.spec w.judged.layout w.judged.image w.judged.vs w.judged.violations (ap (λ (a : Answer). a.status) (sym w.judged.answer_is) ∙ e))
+    ] refl
+
+-- the text that is printed comes of a file that was loaded whole
+print_found : (s : Shelved) (words : List (List ℕ)) (files : Files) → s.held ≡ Some files → {a : Answer} → is_text words ≡ true → IsAnswer s words a → a.status ≡ statuses.Ok → IsPrinted files words a.text
+print_found s words files told print (no_command u none) e = absurd cc
+print_found s words files told print (on_files answer u f h) e = absurd (both f print)
+print_found s words files told print (on_spec answer u f h) e = text_found h e
+  where
+    fault_not_ok : (fault : SyntaxFault) → (syntax_refused fault).status ≡ statuses.Ok → ⊥
+    fault_not_ok (faults.Token place) e = cc
+    fault_not_ok (faults.Expected place) e = cc
+    fault_not_ok (faults.Limit place) e = cc
+    fault_not_ok faults.NoMemory e = cc
+
+    tree_found : {text : List ℕ} {a : Answer} → IsPrintAnswer text a → a.status ≡ statuses.Ok → get files (second words) ≡ Some text → IsPrinted files words a.text
+    tree_found (no_syntax fault has) e file = absurd (fault_not_ok fault e)
+    tree_found (with_rules tree is some) e file = absurd cc
+    tree_found {text} (printed tree is none) e file = record { text = text; tree = tree; file = file; tree_of = is; printed = refl }
+
+    text_found : {a : Answer} → IsTextAnswer s (second words) a → a.status ≡ statuses.Ok → IsPrinted files words a.text
+    text_found (no_text m) e = absurd cc
+    text_found (long_text text f long none) e = absurd cc
+    text_found (on_text text answer t h none) e = tree_found h e (front_told s words files told (second words) text 65537 t.loaded (omega (arith, t.whole)))
+
+-- the answer of status 0 to `text` prints the tree of the text
+pub finds_printed : (s : Shelved) (words : List (List ℕ)) (a : Answer) → is_text words ≡ true → IsAnswer s words a → a.status ≡ statuses.Ok → FindsPrinted s.held words a.text
+finds_printed s words a print h e =
+    elim s.held as (λ o. s.held ≡ o → FindsPrinted o words a.text) [
+      | None ↦ λ _. tt
+      | Some files ↦ λ told. print_found s words files told print h e
     ] refl

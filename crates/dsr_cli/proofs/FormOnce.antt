@@ -2,7 +2,7 @@
 use Rattle.std.proofs.Common.{◌≡◌, List, ℕ, [], map, true, sym, ap, ◌∙◌}
 use Rattle.dsr_ir.specs.declared.declarations.Spec.{Spec}
 use Rattle.dsr_ir.specs.declared.tokens.Token.{Token}
-use Rattle.dsr_parse.proofs.Laws.{lexed_once}
+use Rattle.dsr_tokens.proofs.Laws.{lexed_once}
 use Rattle.dsr_cli.specs.FormParts.{form_in}
 use Rattle.dsr_cli.specs.FormSpecs.{form_spec}
 use Rattle.dsr_cli.specs.FormStatements.{cut, token_of}

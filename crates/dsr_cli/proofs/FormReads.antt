@@ -5,7 +5,7 @@ use Rattle.dsr_ir.specs.declared.declarations.Spec.{Spec}
 use Rattle.dsr_ir.specs.declared.tokens.Lexeme.{Lexeme}
 use Rattle.dsr_ir.specs.declared.tokens.Token.{Token}
 use Rattle.dsr_meaning.specs.Tokens.{every, IsLexed}
-use Rattle.dsr_parse.proofs.Laws.{lexed_once}
+use Rattle.dsr_tokens.proofs.Laws.{lexed_once}
 use Rattle.dsr_cli.specs.Plain.{IsPlain}
 use Rattle.dsr_cli.specs.FormConditions.{is_sound}
 use Rattle.dsr_cli.specs.FormParts.{form_in}

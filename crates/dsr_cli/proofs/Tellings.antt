@@ -1,16 +1,19 @@
 -- What is told is an answer.
-use Rattle.std.proofs.Common.{◌≡◌, ◌≤◌, ℕ, List, false, Option, Result, ◌⊎◌, inl, inr, sym, subst, ◌∙◌, arith}
-use Rattle.std.specs.Prelude.{IfOk}
+use Rattle.std.proofs.Common.{◌≡◌, ◌≤◌, ℕ, List, true, false, Option, Result, ◌⊎◌, inl, inr, sym, subst, ◌∙◌, arith}
+use Rattle.std.specs.Prelude.{◌≢◌, IfOk, Ok, Err}
+use Rattle.dsr_parse.specs.Faults.{HasFault}
+use Rattle.dsr_parse.specs.declared.parser.SyntaxFault.{SyntaxFault}
+use Rattle.dsr_parse.specs.declared.parser.SyntaxFault.TheVariants as faults
 use Rattle.std.proofs.lemmas.Result.{IfOk-weaker}
 use Rattle.std.specs.declared.alloc.AllocError.{AllocError}
 use Rattle.dsr_store.specs.Causes.{Rose}
 use Rattle.dsr_store.specs.Files.{Files, IsFrontOf, Lacks}
 use Rattle.dsr_store.specs.declared.outside.Missed.{Missed}
 use Rattle.dsr_ir.specs.declared.declarations.Spec.{Spec}
-use Rattle.dsr_cli.specs.Answers.{Answer, IsAnswer, IsFilesAnswer, IsImage, IsImageAnswer, IsLoadAnswer, IsMissing, IsText, NoneFailed, Shelved, accepted, no_image, long_image, on_files, on_image}
+use Rattle.dsr_cli.specs.Answers.{Answer, IsAnswer, IsFilesAnswer, IsImage, IsImageAnswer, IsLoadAnswer, IsMissing, IsText, IsPrintAnswer, IsTextAnswer, NoneFailed, Shelved, accepted, no_image, long_image, on_files, on_image, on_spec, on_text, no_syntax, syntax_refused}
 use Rattle.dsr_cli.specs.FormTexts.{HasForm}
 use Rattle.dsr_cli.specs.Loads.{shelved_by, shown}
-use Rattle.dsr_cli.specs.Words.{is_usage, second, third}
+use Rattle.dsr_cli.specs.Words.{is_usage, is_text, second, third}
 use Rattle.dsr_cli.specs.declared.answers.Told.{Told}
 
 pub told_is : (P : Answer → Type 0) (r : Result Told AllocError) (a : Answer) → IfOk r (λ t. shown t ≡ a) → P a → IfOk r (λ t. P (shown t))
@@ -50,5 +53,22 @@ told_accepted held held' before mid after last last' last'' spec_name image_name
 pub told_words : (shelved : Shelved) (words : List (List ℕ)) (r : Result Told AllocError) (a : Answer) → IfOk r (λ t. shown t ≡ a) → IsAnswer shelved words a → IfOk r (λ t. IsAnswer shelved words (shown t))
 told_words shelved words r a e h = told_is (λ a. IsAnswer shelved words a) r a e h
 
-pub told_on_files : (shelved : Shelved) (words : List (List ℕ)) (r : Result Told AllocError) → is_usage words ≡ false → IfOk r (λ t. IsFilesAnswer shelved (second words) (third words) (shown t)) → IfOk r (λ t. IsAnswer shelved words (shown t))
-told_on_files shelved words r e h = IfOk-weaker r _ _ (λ t a. on_files (shown t) e a) h
+pub told_on_files : (shelved : Shelved) (words : List (List ℕ)) (r : Result Told AllocError) → is_usage words ≡ false → is_text words ≡ false → IfOk r (λ t. IsFilesAnswer shelved (second words) (third words) (shown t)) → IfOk r (λ t. IsAnswer shelved words (shown t))
+told_on_files shelved words r e f h = IfOk-weaker r _ _ (λ t a. on_files (shown t) e f a) h
+
+pub told_on_spec : (shelved : Shelved) (words : List (List ℕ)) (r : Result Told AllocError) → is_usage words ≡ false → is_text words ≡ true → IfOk r (λ t. IsTextAnswer shelved (second words) (shown t)) → IfOk r (λ t. IsAnswer shelved words (shown t))
+told_on_spec shelved words r e f h = IfOk-weaker r _ _ (λ t a. on_spec (shown t) e f a) h
+
+pub told_text : (shelved : Shelved) (name : List ℕ) (r : Result Told AllocError) (a : Answer) → IfOk r (λ t. shown t ≡ a) → IsTextAnswer shelved name a → IfOk r (λ t. IsTextAnswer shelved name (shown t))
+told_text shelved name r a e h = told_is (λ a. IsTextAnswer shelved name a) r a e h
+
+pub told_print : (text : List ℕ) (r : Result Told AllocError) (a : Answer) → IfOk r (λ t. shown t ≡ a) → IsPrintAnswer text a → IfOk r (λ t. IsPrintAnswer text (shown t))
+told_print text r a e h = told_is (λ a. IsPrintAnswer text a) r a e h
+
+pub told_on_text : (shelved : Shelved) (name text : List ℕ) (r : Result Told AllocError) → IsText shelved name text → NoneFailed shelved → IfOk r (λ t. IsPrintAnswer text (shown t)) → IfOk r (λ t. IsTextAnswer shelved name (shown t))
+told_on_text shelved name text r i none h = IfOk-weaker r _ _ (λ t a. on_text text (shown t) i a none) h
+
+pub told_fault : (text : List ℕ) (fault : SyntaxFault) (r : Result Told AllocError) → IfOk r (λ t. shown t ≡ syntax_refused fault) → IfOk r (λ t. fault ≢ faults.NoMemory) → (fault ≡ faults.NoMemory) ⊎ HasFault text fault → IfOk r (λ t. IsPrintAnswer text (shown t))
+told_fault text fault (Ok t) e memory (inl none) = absurd (memory none)
+told_fault text fault (Ok t) e memory (inr has) = subst (IsPrintAnswer text) (sym e) (no_syntax fault has)
+told_fault text fault (Err a) e memory why = tt

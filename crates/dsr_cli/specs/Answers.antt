@@ -1,19 +1,25 @@
 -- What is answered: a status and the text that goes with it.
-use Rattle.std.specs.Prelude.{◌≡◌, ◌≤◌, ◌<◌, ◌⊎◌, ◌-◌, ℕ, List, [], ◌∷◌, ◌++◌, length, codes, decimal, true, false, Option, Some, slice_get, if◌then◌else◌, ◌==◌}
+use Rattle.std.specs.Prelude.{◌≡◌, ◌≤◌, ◌<◌, ◌⊎◌, ◌-◌, ℕ, List, [], ◌∷◌, ◌++◌, length, codes, decimal, Bool, true, false, not, ◌&&◌, nat_eq, Option, Some, slice_get, if◌then◌else◌, ◌==◌}
 use Rattle.std.specs.Option.{option_map_or}
 use Rattle.std.specs.List.{flat_map}
+use Rattle.dsr_ir.specs.Trees.{TreeShape}
 use Rattle.dsr_ir.specs.declared.declarations.Spec.{Spec}
 use Rattle.dsr_ir.specs.declared.layouts.Layout.{Layout}
 use Rattle.dsr_ir.specs.declared.tuples.Binding.{Binding}
 use Rattle.dsr_ir.specs.declared.tuples.Binding.TheVariants.{Once, Each, Pair}
 use Rattle.dsr_ir.specs.declared.tuples.Element.{Element}
 use Rattle.dsr_meaning.specs.Consistency.{AreViolations, Instanced}
+use Rattle.dsr_meaning.specs.Canonical.{canonical}
+use Rattle.dsr_meaning.specs.Parsing.{IsTreeOf}
+use Rattle.dsr_parse.specs.Faults.{HasFault}
+use Rattle.dsr_parse.specs.declared.parser.SyntaxFault.{SyntaxFault}
+use Rattle.dsr_parse.specs.declared.parser.SyntaxFault.TheVariants as faults
 use Rattle.dsr_store.specs.Causes.{Rose}
 use Rattle.dsr_store.specs.Files.{Files, IsFrontOf, Lacks}
 use Rattle.dsr_store.specs.declared.outside.Missed.{Missed}
 use Rattle.dsr_cli.specs.FormTexts.{HasForm}
 use Rattle.dsr_cli.specs.PlainLayouts.{IsLaidOut, IsOutside, IsShort, size_of}
-use Rattle.dsr_cli.specs.Words.{is_usage, second, third}
+use Rattle.dsr_cli.specs.Words.{is_usage, is_text, second, third}
 use Rattle.dsr_cli.specs.declared.status.Status.{Status}
 use Rattle.dsr_cli.specs.declared.status.Status.TheVariants as statuses
 
@@ -112,7 +118,35 @@ pub data IsFilesAnswer (shelved : Shelved) (spec_name image_name : List ℕ) : A
   refused : (text : List ℕ) → IsText shelved spec_name text → ((spec : Spec) → HasForm text spec → ⊥) → NoneFailed shelved → IsFilesAnswer shelved spec_name image_name spec_refused
   accepted : (text : List ℕ) (spec : Spec) (answer : Answer) → IsText shelved spec_name text → HasForm text spec → IsLoadAnswer shelved spec image_name answer → IsFilesAnswer shelved spec_name image_name answer
 
+-- a refusal of a text at a place, with its kind
+abbrev pub syntax_at : ℕ → ℕ → Answer
+syntax_at kind place = record { status = statuses.SpecRefused; text = codes "syntax " ++ decimal kind ++ codes " " ++ decimal place ++ codes "\n" }
+
+-- the refusal of a text with a fault
+abbrev pub syntax_refused : SyntaxFault → Answer
+syntax_refused (faults.Token place) = syntax_at 1 place
+syntax_refused (faults.Expected place) = syntax_at 2 place
+syntax_refused (faults.Limit place) = syntax_at 3 place
+syntax_refused faults.NoMemory = spec_refused
+
+-- whether a rule or a constraint stands in the text
+abbrev pub has_rules : TreeShape → Bool
+has_rules tree = not (nat_eq (length tree.rules) 0 && nat_eq (length tree.constraints) 0)
+
+-- the answer to a text that is to be printed
+pub data IsPrintAnswer (text : List ℕ) : Answer → Type 0 where
+  no_syntax : (fault : SyntaxFault) → HasFault text fault → IsPrintAnswer text (syntax_refused fault)
+  with_rules : (tree : TreeShape) → IsTreeOf text tree → has_rules tree ≡ true → IsPrintAnswer text spec_refused
+  printed : (tree : TreeShape) → IsTreeOf text tree → has_rules tree ≡ false → IsPrintAnswer text (record { status = statuses.Ok; text = canonical tree })
+
+-- the answer to the name of a specification that is to be printed
+pub data IsTextAnswer (shelved : Shelved) (name : List ℕ) : Answer → Type 0 where
+  no_text : IsMissing shelved name → IsTextAnswer shelved name store_failed
+  long_text : (text : List ℕ) → IsFrontOf shelved.held name 65537 text → 65536 < length text → NoneFailed shelved → IsTextAnswer shelved name too_long_spec
+  on_text : (text : List ℕ) (answer : Answer) → IsText shelved name text → IsPrintAnswer text answer → NoneFailed shelved → IsTextAnswer shelved name answer
+
 -- the answer to the words of the command line
 pub data IsAnswer (shelved : Shelved) (words : List (List ℕ)) : Answer → Type 0 where
   no_command : is_usage words ≡ true → NoneFailed shelved → IsAnswer shelved words usage
-  on_files : (answer : Answer) → is_usage words ≡ false → IsFilesAnswer shelved (second words) (third words) answer → IsAnswer shelved words answer
+  on_files : (answer : Answer) → is_usage words ≡ false → is_text words ≡ false → IsFilesAnswer shelved (second words) (third words) answer → IsAnswer shelved words answer
+  on_spec : (answer : Answer) → is_usage words ≡ false → is_text words ≡ true → IsTextAnswer shelved (second words) answer → IsAnswer shelved words answer

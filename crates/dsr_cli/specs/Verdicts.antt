@@ -1,10 +1,14 @@
 -- What a verdict says of the files that a shelf tells.
 use Rattle.std.specs.Prelude.{◌≡◌, ℕ, List, Option, Some, IfSome}
 use Rattle.std.specs.FinMap.{get}
+use Rattle.dsr_ir.specs.Trees.{TreeShape}
 use Rattle.dsr_ir.specs.declared.declarations.Spec.{Spec}
 use Rattle.dsr_ir.specs.declared.layouts.Layout.{Layout}
 use Rattle.dsr_meaning.specs.Consistency.{IsConsistent}
+use Rattle.dsr_meaning.specs.Canonical.{canonical}
+use Rattle.dsr_meaning.specs.Parsing.{IsTreeOf}
 use Rattle.dsr_store.specs.Files.{Files}
+use Rattle.dsr_store.specs.Written.{appended}
 use Rattle.dsr_cli.specs.FormTexts.{HasForm}
 use Rattle.dsr_cli.specs.PlainLayouts.{IsLaidOut}
 use Rattle.dsr_cli.specs.Words.{second, third}
@@ -24,3 +28,21 @@ FindsConsistent held words = IfSome held (λ files. (spec : Spec) × (layout : L
 -- it isn't consistent
 abbrev pub FindsInconsistent : Option Files → List (List ℕ) → Type 0
 FindsInconsistent held words = IfSome held (λ files. (spec : Spec) × (layout : Layout) × (image : List ℕ) × IsChecked files words spec layout image × (IsConsistent spec layout image → ⊥))
+
+-- the second word names a text, whose tree is printed so
+pub record IsPrinted (files : Files) (words : List (List ℕ)) (out : List ℕ) : Type 0 where
+  pub text : List ℕ
+  pub tree : TreeShape
+  pub file : get files (second words) ≡ Some text
+  pub tree_of : IsTreeOf text tree
+  pub printed : out ≡ canonical tree
+
+-- where the shelf tells its files: the text that the words name has a tree, which is printed so
+abbrev pub FindsPrinted : Option Files → List (List ℕ) → List ℕ → Type 0
+FindsPrinted held words out = IfSome held (λ files. IsPrinted files words out)
+
+-- that text is put
+pub record FindsText (held : Option Files) (words : List (List ℕ)) (old new : Option (List ℕ)) : Type 0 where
+  pub out : List ℕ
+  pub put : new ≡ appended old out
+  pub found : FindsPrinted held words out

@@ -1,5 +1,5 @@
 -- When the words of the command line are no command.
-use Rattle.std.specs.Prelude.{ℕ, List, [], ◌∷◌, length, Bool, true, not, ◌||◌, nat_eq, codes}
+use Rattle.std.specs.Prelude.{ℕ, List, [], ◌∷◌, length, Bool, true, not, ◌&&◌, ◌||◌, nat_eq, codes}
 use Rattle.std.specs.List.{list_any, slice_index_or}
 use Rattle.std.specs.Str.{bytes_eq}
 
@@ -8,10 +8,18 @@ abbrev pub is_odd : List ℕ → Bool
 is_odd [] = true
 is_odd (b ∷ bs) = nat_eq b 45
 
+-- a command, with as many words behind it as it takes
+abbrev pub is_call : List ℕ → ℕ → Bool
+is_call command names = (bytes_eq command (codes "check") && nat_eq names 2) || (bytes_eq command (codes "text") && nat_eq names 1)
+
 -- no word, an odd word, a first word that is no command, or a number of words that isn't the command's
 abbrev pub is_usage : List (List ℕ) → Bool
 is_usage [] = true
-is_usage (command ∷ names) = list_any is_odd (command ∷ names) || not (bytes_eq command (codes "check")) || not (nat_eq (length names) 2)
+is_usage (command ∷ names) = list_any is_odd (command ∷ names) || not (is_call command (length names))
+
+-- the first word is `text`
+abbrev pub is_text : List (List ℕ) → Bool
+is_text words = bytes_eq (slice_index_or words 0 []) (codes "text")
 
 abbrev pub second : List (List ℕ) → List ℕ
 second words = slice_index_or words 1 []

@@ -1,6 +1,6 @@
 // The answer to the words, before it is put.
 ghost use Rattle.std.specs.Prelude.{◌≡◌, ◌≤◌, ◌<◌, IfOk, map, string_bytes, true};
-ghost use Rattle.dsr_cli.specs.Answers.{Shelved, IsImageAnswer, IsLoadAnswer, IsFilesAnswer, IsAnswer, verdict_answer, usage, store_failed, too_long_spec, too_long_image, spec_refused, layout_short, layout_outside, pool_name};
+ghost use Rattle.dsr_cli.specs.Answers.{Shelved, IsImageAnswer, IsLoadAnswer, IsFilesAnswer, IsTextAnswer, IsAnswer, verdict_answer, usage, store_failed, too_long_spec, too_long_image, spec_refused, layout_short, layout_outside, pool_name};
 ghost use Rattle.dsr_cli.specs.Loads.{Loads, bytes_of, shown, shelved_by};
 ghost use Rattle.dsr_cli.specs.Plain.{IsPlain};
 ghost use Rattle.dsr_cli.specs.Values.{violations_where};
@@ -9,9 +9,10 @@ ghost use Rattle.dsr_cli.specs.Words.{is_usage};
 use crate::Status;
 use crate::plain_layouts::{LayoutFault, layout_of};
 use crate::reader::read_spec;
+use crate::text_command::text_of;
 use crate::values::is_consistent;
 use crate::views::View;
-use crate::words::{is_usage_of, word_at};
+use crate::words::{is_text_of, is_usage_of, word_at};
 use dsr_ir::Spec;
 use dsr_store::{Shelf, ShelfFault};
 use std::alloc::{AllocError, Global};
@@ -29,7 +30,8 @@ pub struct Told {
     pub text: Vec<u8>,
 }
 
-fn tell(alloc: Global, status: Status, text: &[u8]) -> Result<Told, AllocError>
+/// The answer with this text.
+pub fn tell(alloc: Global, status: Status, text: &[u8]) -> Result<Told, AllocError>
     ensures { IfOk result (λ t. shown t ≡ record { status = status; text = text.now }) }
 {
     Ok(Told {
@@ -149,6 +151,20 @@ fn answer_on_files<F: Shelf>(
     }
 }
 
+fn text_answer<F: Shelf>(alloc: Global, shelf: &mut F, name: &str) -> Result<Told, AllocError>
+    ensures answer { IfOk result (λ t. IsTextAnswer (shelved_by (F.held shelf.old) (F.faults shelf.old) (F.faults shelf.new) (F.last shelf.old) (F.last shelf.new)) name.now (shown t)) }
+    ensures held { F.held shelf.new ≡ F.held shelf.old }
+{
+    let text = match load_of(alloc, shelf, name, SPEC_LIMIT as u64 + 1)? {
+        None => return tell(alloc, Status::StoreFailed, b"store failed\n"),
+        Some(text) => text,
+    };
+    if text.len() > SPEC_LIMIT {
+        return tell(alloc, Status::TooLong, b"too long spec\n");
+    }
+    text_of(alloc, &text)
+}
+
 /// The answer to the words, with what the shelf gives.
 pub fn answer_to<F: Shelf>(
     alloc: Global,
@@ -161,6 +177,9 @@ pub fn answer_to<F: Shelf>(
 {
     if is_usage_of(words) {
         return tell(alloc, Status::Usage, b"usage\n");
+    }
+    if is_text_of(words) {
+        return text_answer(alloc, shelf, word_at(words, 1));
     }
     answer_on_files(alloc, shelf, word_at(words, 1), word_at(words, 2))
 }

@@ -7,6 +7,7 @@ mod plain_layouts;
 mod program;
 mod reader;
 mod status;
+mod text_command;
 mod values;
 mod views;
 mod words;

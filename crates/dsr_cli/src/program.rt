@@ -1,11 +1,11 @@
 // The whole program, over any shelf and any output.
-ghost use Rattle.std.specs.Prelude.{◌≡◌, ◌⊎◌, map, string_bytes, true};
+ghost use Rattle.std.specs.Prelude.{◌≡◌, ◌⊎◌, map, string_bytes, true, false};
 ghost use Rattle.dsr_cli.specs.Answers.{Answer, IsAnswer};
 ghost use Rattle.dsr_store.specs.Causes.{Rose};
 ghost use Rattle.dsr_cli.specs.Ends.{LacksOne, Puts};
 ghost use Rattle.dsr_cli.specs.Loads.{shelved_by};
-ghost use Rattle.dsr_cli.specs.Verdicts.{FindsConsistent, FindsInconsistent};
-ghost use Rattle.dsr_cli.specs.Words.{is_usage};
+ghost use Rattle.dsr_cli.specs.Verdicts.{FindsConsistent, FindsInconsistent, FindsText};
+ghost use Rattle.dsr_cli.specs.Words.{is_text, is_usage};
 
 use crate::Status;
 use crate::answers::answer_to;
@@ -23,8 +23,9 @@ pub fn run<F: Shelf, O: Sink>(
     ensures answer { (result ≡ Status.NoMemory) ⊎ ((answer : Answer) ×
         IsAnswer (shelved_by (F.held shelf.old) (F.faults shelf.old) (F.faults shelf.new) (F.last shelf.old) (F.last shelf.new)) (map string_bytes words.now.items) answer
         × Puts answer (O.written out.old) (O.written out.new) (O.faults out.old) (O.faults out.new) result) }
-    ensures consistent { result ≡ Status.Ok → FindsConsistent (F.held shelf.old) (map string_bytes words.now.items) }
-    ensures inconsistent { result ≡ Status.Inconsistent → FindsInconsistent (F.held shelf.old) (map string_bytes words.now.items) }
+    ensures consistent { is_text (map string_bytes words.now.items) ≡ false → result ≡ Status.Ok → FindsConsistent (F.held shelf.old) (map string_bytes words.now.items) }
+    ensures text { is_text (map string_bytes words.now.items) ≡ true → result ≡ Status.Ok → FindsText (F.held shelf.old) (map string_bytes words.now.items) (O.written out.old) (O.written out.new) }
+    ensures inconsistent { is_text (map string_bytes words.now.items) ≡ false → result ≡ Status.Inconsistent → FindsInconsistent (F.held shelf.old) (map string_bytes words.now.items) }
     ensures usage { result ≡ Status.Usage → is_usage (map string_bytes words.now.items) ≡ true }
     ensures uncalled { is_usage (map string_bytes words.now.items) ≡ true → shelf.new ≡ shelf.old }
     ensures store { result ≡ Status.StoreFailed → Rose (F.faults shelf.old) (F.faults shelf.new) ⊎ LacksOne (F.held shelf.old) (map string_bytes words.now.items) }

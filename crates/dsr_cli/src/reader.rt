@@ -24,7 +24,7 @@ use crate::reader::statements::statements_of;
 use crate::reader::typed::make_spec;
 use crate::reader::written::write_form;
 use dsr_ir::{Lexeme, Seq, Spec, Token};
-use dsr_parse::{TokenFault, tokens};
+use dsr_tokens::{TokenFault, tokens};
 use std::alloc::{AllocError, Global};
 
 // Reads what the statements say, and compares them with those of the text that says it.

@@ -175,8 +175,11 @@ fn images_are_judged(rt: HostRuntime) -> Result<(), Fail> {
 
 #[test]
 fn words_are_refused(rt: HostRuntime) -> Result<(), Fail> {
-    let wrong: [&[&str]; 8] = [
+    let wrong: [&[&str]; 11] = [
         &[],
+        &["text"],
+        &["text", "-s"],
+        &["text", "s", "i"],
         &["check", "", "i"],
         &["check", "s", "-i"],
         &["-check", "s", "i"],
@@ -192,6 +195,7 @@ fn words_are_refused(rt: HostRuntime) -> Result<(), Fail> {
     let cases = [
         told(&["check", "x", "i"], Status::StoreFailed, FAILED),
         told(&["check", "s", "x"], Status::StoreFailed, FAILED),
+        told(&["text", "x"], Status::StoreFailed, FAILED),
     ];
     assert_eq!(rt; first_wrong(rt.alloc(), &cases)?, None);
     Ok(())
@@ -218,6 +222,94 @@ fn inputs_are_refused(rt: HostRuntime) -> Result<(), Fail> {
         check(LIST, &long_image, Status::TooLong, "too long image\n"),
     ];
     assert_eq!(rt; first_wrong(alloc, &cases)?, None);
+    Ok(())
+}
+
+fn text<'a>(spec: &'a [u8], status: Status, text: &'a str) -> Case<'a> {
+    Case {
+        spec,
+        image: &SOUND,
+        words: &["text", "s"],
+        status,
+        text,
+    }
+}
+
+const SPEC_0: &str = "spec 0 0\n";
+
+#[test]
+fn texts_are_printed(rt: HostRuntime) -> Result<(), Fail> {
+    let alloc = rt.alloc();
+    let mut long = Vec::from_slice(alloc, b"version 1;order little;")?;
+    long.resize(65_537, b' ')?;
+    let nested =
+        b"version 1; order little; structure Head { skip (((((((((((((((((((((((((((((((((";
+    let cases = [
+        text(
+            b"version 1; order middle;",
+            Status::SpecRefused,
+            "syntax 2 17\n",
+        ),
+        text(
+            b"version 1;order little;structure Head{u8 c;}",
+            Status::Ok,
+            "version 1 ;\norder little ;\nstructure Head { u8 c ; }\n",
+        ),
+        text(nested, Status::SpecRefused, "syntax 3 79\n"),
+        text(b"version 3;", Status::SpecRefused, "syntax 2 8\n"),
+        text(b"version 1;order !", Status::SpecRefused, "syntax 1 16\n"),
+        text(LIST, Status::SpecRefused, SPEC_0),
+        text(
+            b"version 1;order big;rule head=>head.f in A;",
+            Status::SpecRefused,
+            SPEC_0,
+        ),
+        text(
+            b"version 1;order big;constraint c:a in A;",
+            Status::SpecRefused,
+            SPEC_0,
+        ),
+        text(&long, Status::TooLong, "too long spec\n"),
+        text(&long[..65_536], Status::Ok, "version 1 ;\norder little ;\n"),
+    ];
+    assert_eq!(rt; first_wrong(alloc, &cases)?, None);
+    Ok(())
+}
+
+const DECLARATIONS: &str = "version 1; order little;\n\
+    structure Head { fixed u16 n; u16 count; u32 first -> nodes; }\n\
+    structure Node { u32 value; u32 next -> nodes; }\n\
+    pool nodes : Node[n] at 8 codes 1 step 1 none 0;\n\
+    set Nodes of nodes; set Bad of nodes;\n\
+    relation First : head -> nodes; relation Next : nodes -> nodes;\n\
+    relation Count : head -> number;\n";
+
+// Whether `text` of this specification is told, or refused at a place of it.
+fn is_within(alloc: Global, spec: &[u8]) -> Result<bool, Fail> {
+    let mut shelf = SureShelf {
+        files: two_files(alloc, spec, &SOUND)?,
+        last: None,
+    };
+    let mut out = SureSink {
+        bytes: Vec::new(alloc),
+    };
+    let words = words_of(alloc, &["text", "s"])?;
+    if run(alloc, &words, &mut shelf, &mut out) != Status::SpecRefused {
+        return Ok(out.bytes.starts_with(b"version 1 ;\n"));
+    }
+    let text = str::from_utf8(&out.bytes)?;
+    match text.trim_end().rsplit_once(' ') {
+        Some((_, place)) => Ok(place.parse::<usize>()? <= spec.len()),
+        None => Ok(false),
+    }
+}
+
+#[test]
+fn prefixes_are_told(rt: HostRuntime) -> Result<(), Fail> {
+    for length in 0..DECLARATIONS.len() + 1 {
+        let prefix = &DECLARATIONS.as_bytes()[..length];
+        assert!(rt; is_within(rt.alloc(), prefix)?, "prefix {length}");
+    }
     Ok(())
 }
 

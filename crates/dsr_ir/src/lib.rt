@@ -10,6 +10,7 @@ mod names;
 mod rules;
 mod sequences;
 mod tokens;
+pub mod tree;
 mod tuples;
 mod updates;
 

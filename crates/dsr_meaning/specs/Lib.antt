@@ -1,8 +1,16 @@
+pub mod Bare
+pub mod Canonical
 pub mod Cells
 pub mod Consistency
 pub mod Counting
+pub mod Grammar
 pub mod Instances
 pub mod Models
+pub mod Parsing
+pub mod Phrases
 pub mod References
+pub mod Sentences
+pub mod Syntax
 pub mod Tokens
+pub mod TreeTexts
 pub mod Truth

@@ -1,3 +1,3 @@
-pub mod Front
-pub mod Lexing
-pub mod Spelled
+pub mod Faults
+pub mod Machine
+pub mod Reading

@@ -1,11 +1,9 @@
-//! The text of a specification, read.
+//! The text of a specification, read as a tree by its grammar, and printed from one.
 #![tactic(auto)]
 
-mod bytes;
-mod lexer;
-mod spellings;
-#[cfg(test)]
-mod texts;
-mod words;
+mod parser;
+mod reader;
 
-pub use lexer::{TokenFault, tokens};
+pub use dsr_print::print;
+pub use dsr_tokens::{TokenFault, tokens};
+pub use parser::{SyntaxFault, parse};

@@ -1,5 +1,5 @@
 use Rattle.dsr_meaning.specs.Tokens.{HasTokenFault}
-use Rattle.dsr_parse.proofs.Laws.{fault_not_lexed}
+use Rattle.dsr_tokens.proofs.Laws.{fault_not_lexed}
 use Rattle.dsr_cli.proofs.reader.find_lexemes.Goals as goal
 
 pub returns-in-Err-Token : goal.returns-in-Err-Token

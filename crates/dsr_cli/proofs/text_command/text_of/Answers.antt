@@ -1,0 +1,16 @@
+use Rattle.std.proofs.Common.{sym, ◌∙◌}
+use Rattle.dsr_ir.specs.Trees.{tree_shape}
+use Rattle.dsr_meaning.specs.Canonical.{canonical}
+use Rattle.dsr_cli.specs.Answers.{printed, spec_refused, with_rules}
+use Rattle.dsr_cli.specs.declared.status.Status.TheVariants.{Ok}
+use Rattle.dsr_cli.proofs.Tellings.{told_fault, told_print}
+use Rattle.dsr_cli.proofs.text_command.text_of.Goals as goal
+
+pub returns-in-Err : goal.returns-in-Err
+returns-in-Err c = told_fault c.args.text.now c.in-Err.fault c.tell_fault.result c.tell_fault.ensures.told c.tell_fault.ensures.memory c.in-Err.ensures.fault
+
+pub returns-then-holds_rules : goal.returns-then-holds_rules
+returns-then-holds_rules c = told_print c.args.text.now c.tell.result spec_refused c.tell.ensures (with_rules (tree_shape c.in-Ok.tree) c.in-Ok.ensures.tree (sym c.holds_rules.ensures ∙ c.if-holds_rules.true))
+
+pub returns : goal.returns
+returns c = told_print c.args.text.now c.tell_text.result (record { status = Ok; text = canonical (tree_shape c.in-Ok.tree) }) c.tell_text.ensures (printed (tree_shape c.in-Ok.tree) c.in-Ok.ensures.tree (sym c.holds_rules.ensures ∙ c.if-holds_rules.false))

@@ -1,0 +1,112 @@
+use Rattle.std.proofs.Common.{refl, sym, ap, ◌∙◌, arith}
+use Rattle.dsr_meaning.specs.TreeTexts.{unit_text, formula_text}
+use Rattle.dsr_ir.specs.Trees.{unit_shape, formula_shape}
+use Rattle.dsr_parse.proofs.Passing.{passed_on, next_is, other_is, halts_first, halts_rest, halts_left, halts_right, reads_then, reads_left, reads_right, reads_unkept, reads_as, reads_within, says_within, unit_inside, unit_halts, formula_inside, formula_halts, items_none, items_more, items_halt}
+use Rattle.dsr_parse.proofs.Staying.{took, took_next, token_shorter}
+use Rattle.dsr_parse.proofs.TreeRows.{formula_made, join_made}
+use Rattle.dsr_parse.proofs.reader.Reader.+formulas.Goals as goal
+
+pub formula-returns-in_err-first-clause-err : goal.formula-returns-in_err-first-clause-err
+formula-returns-in_err-first-clause-err t c = passed_on c.from_residual.result c.from_residual.ensures.1 (halts_first c.in_err-first.ensures.err)
+
+pub formula-more_joins-requires : goal.formula-more_joins-requires
+formula-more_joins-requires t c = let w = reads_within c.in_ok-first.ensures.ok in (omega (arith, c.decreases), c.requires)
+
+pub formula-returns-in_err-rest-clause-err : goal.formula-returns-in_err-rest-clause-err
+formula-returns-in_err-rest-clause-err t c = passed_on c.from_residual-in_err-rest.result c.from_residual-in_err-rest.ensures.1 (halts_rest c.in_ok-first.ensures.ok c.in_err-rest.ensures.err)
+
+pub formula-returns-clause-ok : goal.formula-returns-clause-ok
+formula-returns-clause-ok t c = reads_as (formula_made (record { first = c.in_ok-first.first; rest = c.in_ok-rest.rest })) (reads_then c.in_ok-first.ensures.ok c.in_ok-rest.ensures.ok)
+
+pub join-returns-in_err-first-clause-err : goal.join-returns-in_err-first-clause-err
+join-returns-in_err-first-clause-err t c = passed_on c.from_residual.result c.from_residual.ensures.1 (halts_first c.in_err-first.ensures.err)
+
+pub join-more_units-requires : goal.join-more_units-requires
+join-more_units-requires t c = let w = reads_within c.in_ok-first.ensures.ok in (omega (arith, c.decreases), c.requires)
+
+pub join-returns-in_err-rest-clause-err : goal.join-returns-in_err-rest-clause-err
+join-returns-in_err-rest-clause-err t c = passed_on c.from_residual-in_err-rest.result c.from_residual-in_err-rest.ensures.1 (halts_rest c.in_ok-first.ensures.ok c.in_err-rest.ensures.err)
+
+pub join-returns-clause-ok : goal.join-returns-clause-ok
+join-returns-clause-ok t c = reads_as (join_made (record { first = c.in_ok-first.first; rest = c.in_ok-rest.rest })) (reads_then c.in_ok-first.ensures.ok c.in_ok-rest.ensures.ok)
+
+pub more_joins-loop-joins-init : goal.more_joins-loop-joins-init
+more_joins-loop-joins-init t c = items_none c.new-joins.ensures.items
+
+pub more_joins-join-requires : goal.more_joins-join-requires
+more_joins-join-requires t c =
+    let before = says_within c.loop-joins.invariant.says in
+    let less = token_shorter (took c.take_word.result c.loop-joins-test.ensures c.take_word.ensures.some) in
+    (omega (arith, c.decreases), c.requires)
+
+pub more_joins-returns-in_err-join-clause-err : goal.more_joins-returns-in_err-join-clause-err
+more_joins-returns-in_err-join-clause-err t c = passed_on c.from_residual.result c.from_residual.ensures.1 (items_halt (took_next c.take_word.result c.loop-joins-test.ensures c.take_word.ensures.next) c.loop-joins.invariant (halts_rest (took c.take_word.result c.loop-joins-test.ensures c.take_word.ensures.some) c.in_err-join.ensures.err))
+
+pub more_joins-loop-joins-smaller : goal.more_joins-loop-joins-smaller
+more_joins-loop-joins-smaller t c =
+    let less = token_shorter (took c.take_word.result c.loop-joins-test.ensures c.take_word.ensures.some) in
+    let within = reads_within c.in_ok-join.ensures.ok in
+    omega arith
+
+pub more_joins-loop-joins-preserved : goal.more_joins-loop-joins-preserved
+more_joins-loop-joins-preserved t c = items_more (took_next c.take_word.result c.loop-joins-test.ensures c.take_word.ensures.next) c.in_ok-push.ensures.items c.loop-joins.invariant (reads_then (took c.take_word.result c.loop-joins-test.ensures c.take_word.ensures.some) c.in_ok-join.ensures.ok)
+
+pub more_units-loop-units-init : goal.more_units-loop-units-init
+more_units-loop-units-init t c = items_none c.new-units.ensures.items
+
+pub more_units-unit-requires : goal.more_units-unit-requires
+more_units-unit-requires t c =
+    let before = says_within c.loop-units.invariant.says in
+    let less = token_shorter (took c.take_word.result c.loop-units-test.ensures c.take_word.ensures.some) in
+    (omega (arith, c.decreases), c.requires)
+
+pub more_units-returns-in_err-unit-clause-err : goal.more_units-returns-in_err-unit-clause-err
+more_units-returns-in_err-unit-clause-err t c = passed_on c.from_residual.result c.from_residual.ensures.1 (items_halt (took_next c.take_word.result c.loop-units-test.ensures c.take_word.ensures.next) c.loop-units.invariant (halts_rest (took c.take_word.result c.loop-units-test.ensures c.take_word.ensures.some) c.in_err-unit.ensures.err))
+
+pub more_units-loop-units-smaller : goal.more_units-loop-units-smaller
+more_units-loop-units-smaller t c =
+    let less = token_shorter (took c.take_word.result c.loop-units-test.ensures c.take_word.ensures.some) in
+    let within = reads_within c.in_ok-unit.ensures.ok in
+    omega arith
+
+pub more_units-loop-units-preserved : goal.more_units-loop-units-preserved
+more_units-loop-units-preserved t c = items_more (took_next c.take_word.result c.loop-units-test.ensures c.take_word.ensures.next) c.in_ok-push.ensures.items c.loop-units.invariant (reads_then (took c.take_word.result c.loop-units-test.ensures c.take_word.ensures.some) c.in_ok-unit.ensures.ok)
+
+pub unit-returns-in_err-place-clause-err : goal.unit-returns-in_err-place-clause-err
+unit-returns-in_err-place-clause-err t c = passed_on c.from_residual.result c.from_residual.ensures.1 (halts_left (next_is (sym c.is_word.ensures ∙ c.if-is_word.true)) (halts_first c.in_err-place.ensures.err))
+
+pub unit-returns-in_err-unit-clause-err : goal.unit-returns-in_err-unit-clause-err
+unit-returns-in_err-unit-clause-err t c = passed_on c.from_residual-in_err-unit.result c.from_residual-in_err-unit.ensures.1 (halts_left (next_is (sym c.is_word.ensures ∙ c.if-is_word.true)) (halts_rest c.in_ok-place.ensures.ok (unit_halts c.in_err-unit.ensures.err)))
+
+pub unit-returns-then-is_word-clause-ok : goal.unit-returns-then-is_word-clause-ok
+unit-returns-then-is_word-clause-ok t c =
+    let inner = ap (λ u. unit_text (unit_shape u)) c.in_ok-unit-2.ensures.ok in
+    reads_left (next_is (sym c.is_word.ensures ∙ c.if-is_word.true)) (reads_then c.in_ok-place.ensures.ok (reads_as inner (unit_inside c.in_ok-unit.ensures.ok)))
+
+pub unit-returns-in_err-place-2-clause-err : goal.unit-returns-in_err-place-2-clause-err
+unit-returns-in_err-place-2-clause-err t c = passed_on c.from_residual-in_err-place-2.result c.from_residual-in_err-place-2.ensures.1 (halts_right refl (other_is (sym c.is_word.ensures ∙ c.if-is_word.false)) (halts_left (next_is (sym c.is_word-2.ensures ∙ c.if-is_word-2.true)) (halts_first c.in_err-place-2.ensures.err)))
+
+pub unit-returns-in_err-unit-3-clause-err : goal.unit-returns-in_err-unit-3-clause-err
+unit-returns-in_err-unit-3-clause-err t c = passed_on c.from_residual-in_err-unit-3.result c.from_residual-in_err-unit-3.ensures.1 (halts_right refl (other_is (sym c.is_word.ensures ∙ c.if-is_word.false)) (halts_left (next_is (sym c.is_word-2.ensures ∙ c.if-is_word-2.true)) (halts_rest c.in_ok-place-2.ensures.ok (unit_halts c.in_err-unit-3.ensures.err))))
+
+pub unit-returns-then-is_word-2-clause-ok : goal.unit-returns-then-is_word-2-clause-ok
+unit-returns-then-is_word-2-clause-ok t c =
+    let inner = ap (λ u. unit_text (unit_shape u)) c.in_ok-unit-4.ensures.ok in
+    reads_right refl (other_is (sym c.is_word.ensures ∙ c.if-is_word.false)) (reads_left (next_is (sym c.is_word-2.ensures ∙ c.if-is_word-2.true)) (reads_then c.in_ok-place-2.ensures.ok (reads_as inner (unit_inside c.in_ok-unit-3.ensures.ok))))
+
+pub unit-returns-in_err-place-3-clause-err : goal.unit-returns-in_err-place-3-clause-err
+unit-returns-in_err-place-3-clause-err t c = passed_on c.from_residual-in_err-place-3.result c.from_residual-in_err-place-3.ensures.1 (halts_right refl (other_is (sym c.is_word.ensures ∙ c.if-is_word.false)) (halts_right refl (other_is (sym c.is_word-2.ensures ∙ c.if-is_word-2.false)) (halts_left (next_is (sym c.is_sign.ensures ∙ c.if-is_sign.true)) (halts_first c.in_err-place-3.ensures.err))))
+
+pub unit-returns-in_err-formula-clause-err : goal.unit-returns-in_err-formula-clause-err
+unit-returns-in_err-formula-clause-err t c = passed_on c.from_residual-in_err-formula.result c.from_residual-in_err-formula.ensures.1 (halts_right refl (other_is (sym c.is_word.ensures ∙ c.if-is_word.false)) (halts_right refl (other_is (sym c.is_word-2.ensures ∙ c.if-is_word-2.false)) (halts_left (next_is (sym c.is_sign.ensures ∙ c.if-is_sign.true)) (halts_rest c.in_ok-place-3.ensures.ok (halts_first (formula_halts c.in_err-formula.ensures.err))))))
+
+pub unit-returns-in_err-sign-clause-err : goal.unit-returns-in_err-sign-clause-err
+unit-returns-in_err-sign-clause-err t c = passed_on c.from_residual-in_err-sign.result c.from_residual-in_err-sign.ensures.1 (halts_right refl (other_is (sym c.is_word.ensures ∙ c.if-is_word.false)) (halts_right refl (other_is (sym c.is_word-2.ensures ∙ c.if-is_word-2.false)) (halts_left (next_is (sym c.is_sign.ensures ∙ c.if-is_sign.true)) (halts_rest c.in_ok-place-3.ensures.ok (halts_rest (formula_inside c.in_ok-formula.ensures.ok) c.in_err-sign.ensures.err)))))
+
+pub unit-returns-then-is_sign-clause-ok : goal.unit-returns-then-is_sign-clause-ok
+unit-returns-then-is_sign-clause-ok t c =
+    let inner = ap (λ f. formula_text (formula_shape f)) c.in_ok-formula-2.ensures.ok in
+    reads_right refl (other_is (sym c.is_word.ensures ∙ c.if-is_word.false)) (reads_right refl (other_is (sym c.is_word-2.ensures ∙ c.if-is_word-2.false)) (reads_left (next_is (sym c.is_sign.ensures ∙ c.if-is_sign.true)) (reads_then c.in_ok-place-3.ensures.ok (reads_then (reads_as inner (formula_inside c.in_ok-formula.ensures.ok)) (reads_unkept c.in_ok-sign.ensures.ok)))))
+
+pub unit-returns-in_err-atom-clause-err : goal.unit-returns-in_err-atom-clause-err
+unit-returns-in_err-atom-clause-err t c = passed_on c.from_residual-in_err-atom.result c.from_residual-in_err-atom.ensures.1 (halts_right refl (other_is (sym c.is_word.ensures ∙ c.if-is_word.false)) (halts_right refl (other_is (sym c.is_word-2.ensures ∙ c.if-is_word-2.false)) (halts_right refl (other_is (sym c.is_sign.ensures ∙ c.if-is_sign.false)) c.in_err-atom.ensures.err)))

@@ -1,0 +1,11 @@
+use Rattle.dsr_parse.proofs.Passing.{passed_on, halts_first, halts_rest, reads_then}
+use Rattle.dsr_parse.proofs.reader.Reader.member.Goals as goal
+
+pub returns-in_err-var-clause-err : goal.returns-in_err-var-clause-err
+returns-in_err-var-clause-err c = passed_on c.from_residual.result c.from_residual.ensures.1 (halts_first c.in_err-var.ensures.err)
+
+pub returns-in_err-part-clause-err : goal.returns-in_err-part-clause-err
+returns-in_err-part-clause-err c = passed_on c.from_residual-in_err-part.result c.from_residual-in_err-part.ensures.1 (halts_rest c.in_ok-var.ensures.ok c.in_err-part.ensures.err)
+
+pub returns-clause-ok : goal.returns-clause-ok
+returns-clause-ok c = reads_then c.in_ok-var.ensures.ok c.in_ok-part.ensures.ok

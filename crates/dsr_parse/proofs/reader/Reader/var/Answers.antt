@@ -1,0 +1,13 @@
+use Rattle.std.proofs.Common.{refl}
+use Rattle.dsr_parse.proofs.Passing.{passed_on, next_is, other_is, halts_right, reads_left, reads_right}
+use Rattle.dsr_parse.proofs.Taking.{halts_from, reads_from}
+use Rattle.dsr_parse.proofs.reader.Reader.var.Goals as goal
+
+pub returns-in-Some-clause-ok : goal.returns-in-Some-clause-ok
+returns-in-Some-clause-ok c = reads_left (next_is c.in-Some.ensures.next) c.in-Some.ensures.some
+
+pub returns-in_err-name-clause-err : goal.returns-in_err-name-clause-err
+returns-in_err-name-clause-err c = passed_on c.from_residual.result c.from_residual.ensures.1 (halts_right refl (other_is c.in_default.ensures.none) (halts_from c.in_default.ensures.same c.in_err-name.ensures.err))
+
+pub returns-clause-ok : goal.returns-clause-ok
+returns-clause-ok c = reads_right refl (other_is c.in_default.ensures.none) (reads_from c.in_default.ensures.same c.in_ok-name.ensures.ok)

@@ -1,0 +1,141 @@
+// Constraints, and the whole text.
+ghost use Rattle.std.specs.Prelude.{IfOk, IfErr, ◌∷◌, []};
+ghost use Rattle.dsr_ir.specs.Trees as shapes;
+ghost use Rattle.dsr_meaning.specs.Grammar as grammar;
+ghost use Rattle.dsr_meaning.specs.Phrases.{in_turn};
+ghost use Rattle.dsr_meaning.specs.Syntax.{Many};
+ghost use Rattle.dsr_meaning.specs.TreeTexts as texts;
+ghost use Rattle.dsr_parse.specs.Reading.{Reads, Halts, said_constraint};
+
+use crate::reader::{Reader, Stop};
+use dsr_ir::tree::{Binder, Constraint, PlacedNumber, Quantifier, Tree};
+use dsr_ir::{Keyword, Order, Seq, Sign};
+
+impl<'a> Reader<'a> {
+    // Reads the tree of a whole text; what stands behind it is left.
+    pub fn tree(&mut self) -> Result<Tree, Stop>
+        ensures ok { IfOk result (λ t. Reads grammar.spec (texts.tree_text (shapes.tree_shape t)) self.old self.new) }
+        ensures err { IfErr result (λ e. Halts (grammar.spec ∷ []) self.old e) }
+    {
+        let (place, version) = self.version()?;
+        let order = self.order()?;
+        let structures = self.structures()?;
+        let pools = self.pools()?;
+        let sets = self.sets()?;
+        let relations = self.relations()?;
+        let supplies = self.supplies()?;
+        let rules = self.rules()?;
+        let constraints = self.constraints()?;
+        Ok(Tree {
+            place,
+            version,
+            order,
+            structures: Seq::new(structures),
+            pools: Seq::new(pools),
+            sets: Seq::new(sets),
+            relations: Seq::new(relations),
+            supplies: Seq::new(supplies),
+            rules: Seq::new(rules),
+            constraints: Seq::new(constraints),
+        })
+    }
+
+    // Reads the version's declaration, and gives its place and the number.
+    fn version(&mut self) -> Result<(u64, PlacedNumber), Stop>
+        ensures ok { IfOk result (λ v. Reads grammar.version (texts.version_line v.0 v.1) self.old self.new) }
+        ensures err { IfErr result (λ e. Halts (grammar.version ∷ []) self.old e) }
+    {
+        let place = self.word(Keyword::Version)?;
+        let number = self.version_number()?;
+        self.sign(Sign::Semicolon)?;
+        Ok((place, number))
+    }
+
+    fn order(&mut self) -> Result<Order, Stop>
+        ensures ok { IfOk result (λ order. Reads grammar.order (texts.order_text order) self.old self.new) }
+        ensures err { IfErr result (λ e. Halts (grammar.order ∷ []) self.old e) }
+    {
+        self.word(Keyword::Order)?;
+        let order = self.endian()?;
+        self.sign(Sign::Semicolon)?;
+        Ok(order)
+    }
+
+    fn endian(&mut self) -> Result<Order, Stop>
+        ensures ok { IfOk result (λ order. Reads grammar.endian (texts.endian_text order) self.old self.new) }
+        ensures err { IfErr result (λ e. Halts (grammar.endian ∷ []) self.old e) }
+    {
+        if self.take_word(Keyword::Little).is_some() {
+            return Ok(Order::Little);
+        }
+        self.word(Keyword::Big)?;
+        Ok(Order::Big)
+    }
+
+    fn constraints(&mut self) -> Result<Vec<Constraint>, Stop>
+        ensures ok { IfOk result (λ constraints. Reads (Many grammar.constraint) (in_turn said_constraint constraints.items) self.old self.new) }
+        ensures err { IfErr result (λ e. Halts (Many grammar.constraint ∷ []) self.old e) }
+    {
+        let mut constraints = Vec::new(self.alloc);
+        while self.is_word(Keyword::Constraint) {
+            constraints.push(self.constraint()?)?;
+        }
+        Ok(constraints)
+    }
+
+    fn constraint(&mut self) -> Result<Constraint, Stop>
+        ensures ok { IfOk result (λ c. Reads grammar.constraint (texts.constraint_text (shapes.constraint_shape c)) self.old self.new) }
+        ensures err { IfErr result (λ e. Halts (grammar.constraint ∷ []) self.old e) }
+    {
+        let place = self.word(Keyword::Constraint)?;
+        let name = self.name()?;
+        self.starting_sign(Sign::Colon)?;
+        let quantifier = self.quantifier()?;
+        let formula = self.formula(0)?;
+        self.sign(Sign::Semicolon)?;
+        Ok(Constraint {
+            place,
+            name,
+            quantifier,
+            formula,
+        })
+    }
+
+    // Reads the quantifier of a constraint, where there is one.
+    fn quantifier(&mut self) -> Result<Option<Quantifier>, Stop>
+        ensures ok { IfOk result (λ q. Reads (grammar.maybe grammar.quantifier) (texts.maybe_text texts.quantifier_text q) self.old self.new) }
+        ensures err { IfErr result (λ e. Halts (grammar.maybe grammar.quantifier ∷ []) self.old e) }
+    {
+        let Some(place) = self.take_word(Keyword::Forall) else {
+            return Ok(None);
+        };
+        let binder = self.binder()?;
+        self.word(Keyword::In)?;
+        let symbol = self.name()?;
+        self.starting_sign(Sign::Colon)?;
+        Ok(Some(Quantifier {
+            place,
+            binder,
+            symbol,
+        }))
+    }
+
+    fn binder(&mut self) -> Result<Binder, Stop>
+        ensures ok { IfOk result (λ b. Reads grammar.binder (texts.binder_text b) self.old self.new) }
+        ensures err { IfErr result (λ e. Halts (grammar.binder ∷ []) self.old e) }
+    {
+        if self.is_name() {
+            return Ok(Binder::One(self.name()?));
+        }
+        let place = self.sign(Sign::Less)?;
+        let first = self.name()?;
+        self.sign(Sign::Comma)?;
+        let second = self.name()?;
+        self.sign(Sign::Greater)?;
+        Ok(Binder::Pair {
+            place,
+            first,
+            second,
+        })
+    }
+}

@@ -1,0 +1,17 @@
+pub mod After
+pub mod Blanks
+pub mod Decimals
+pub mod Spacing
+pub mod Once
+pub mod OnceAtoms
+pub mod OnceExprs
+pub mod OnceFormulas
+pub mod OncePools
+pub mod OnceRules
+pub mod OnceStructures
+pub mod Printed
+pub mod Relexing
+pub mod Reprinting
+pub mod Rows
+pub mod Spaces
+pub mod Steps

@@ -1,0 +1,7 @@
+use Rattle.dsr_ir.specs.Trees.{field_shape}
+use Rattle.dsr_meaning.specs.TreeTexts.{field_text}
+use Rattle.dsr_print.proofs.Steps.{adds_shape}
+use Rattle.dsr_print.proofs.structures.add_fields.Goals as goal
+
+pub loop-field-preserved : goal.loop-field-preserved
+loop-field-preserved c = adds_shape field_text field_shape c.args.fields.now c.loop-field.field-index c.field-item.result c.loop-field-test.true c.field-item.is c.loop-field.invariant c.in_ok-add_field.ensures

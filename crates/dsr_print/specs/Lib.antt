@@ -1,0 +1,2 @@
+pub mod Relexed
+pub mod Writing

@@ -1,0 +1,11 @@
+pub mod Cuts
+pub mod Found
+pub mod Fronts
+pub mod Laws
+pub mod Lookups
+pub mod Numbers
+pub mod Reaches
+pub mod Readings
+pub mod Shapes
+pub mod Steps
+pub mod Versions

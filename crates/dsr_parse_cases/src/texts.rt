@@ -1,6 +1,7 @@
 // What is told of each text.
 use crate::specifications::SPECIFICATIONS;
 use crate::tables::{FAULTS, LIMITS, PRODUCTIONS, Part};
+use dsr_ir::TryCloneTree;
 use dsr_parse::{SyntaxFault, parse, print};
 use std::alloc::{AllocError, Global};
 use std::test::Fail;
@@ -35,6 +36,26 @@ fn specifications_are_printed_back(rt: HostRuntime) -> Result<(), Fail> {
         assert_eq!(rt; found.as_str(), wanted);
         let again = told(rt.alloc(), found.as_bytes())?;
         assert_eq!(rt; again.as_str(), wanted);
+    }
+    Ok(())
+}
+
+// Whether the tree of a text has a copy that is equal to it.
+fn is_copied(alloc: Global, text: &[u8]) -> Result<bool, Fail> {
+    let tree = parse(alloc, text)?;
+    match TryCloneTree::clone(&tree, alloc) {
+        Ok(copy) => Ok(copy == tree),
+        Err(_) => Err(AllocError.into()),
+    }
+}
+
+#[test]
+fn trees_are_copied(rt: HostRuntime) -> Result<(), Fail> {
+    for (text, _) in SPECIFICATIONS {
+        assert!(rt; is_copied(rt.alloc(), text.as_bytes())?);
+    }
+    for (text, _) in PRODUCTIONS {
+        assert!(rt; is_copied(rt.alloc(), text.as_bytes())?);
     }
     Ok(())
 }

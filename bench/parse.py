@@ -8,11 +8,9 @@ empty specification. A text with rules or constraints is parsed and then refused
 printed too. Time that grows with the length and no faster shows the parser to be linear.
 """
 
-import os
-import subprocess
 import sys
-import tempfile
-import time
+
+from timing import Timer
 
 HEAD = "version 1;order little;"
 
@@ -42,30 +40,12 @@ KINDS = {
 }
 
 
-def least(binary, path, runs):
-    best = float("inf")
-    for _ in range(runs):
-        start = time.perf_counter()
-        subprocess.run([binary, "text", path], stdout=subprocess.DEVNULL, check=False)
-        best = min(best, time.perf_counter() - start)
-    return best * 1000
-
-
 def main():
-    binary = sys.argv[1]
-    runs = int(sys.argv[2]) if len(sys.argv) > 2 else 30
-    with tempfile.TemporaryDirectory() as folder:
-        path = os.path.join(folder, "s")
-
-        def timed(text):
-            with open(path, "w", encoding="ascii") as file:
-                file.write(text)
-            return least(binary, path, runs)
-
-        empty = timed(HEAD)
+    with Timer(sys.argv) as timer:
+        empty = timer.milliseconds(HEAD)
         print(f"{'empty':16} {empty:8.2f}")
         for kind, make in KINDS.items():
-            times = [timed(make(n)) - empty for n in (16384, 32768, 65536)]
+            times = [timer.milliseconds(make(n)) - empty for n in (16384, 32768, 65536)]
             print(f"{kind:16}" + "".join(f" {t:8.2f}" for t in times))
 
 

@@ -4,6 +4,7 @@
 mod constraints;
 mod declarations;
 mod expressions;
+mod faults;
 mod layouts;
 mod memory;
 mod names;
@@ -19,6 +20,7 @@ pub use declarations::{
     Field, FieldRef, Kind, Order, Pool, Rel, SetDecl, Spec, Structure, Structures, Width,
 };
 pub use expressions::Expr;
+pub use faults::{Condition, Fault};
 pub use layouts::{Cell, FieldPlace, Layout, PoolNumbers};
 pub use memory::{NoMemory, TryClone, TryCloneTree};
 pub use names::Name;
@@ -27,6 +29,3 @@ pub use sequences::Seq;
 pub use tokens::{Keyword, Lexeme, Sign, Token};
 pub use tuples::{Binding, Element, Fact, Instance, Target};
 pub use updates::{At, Goal, Pick, Place, Symbol, Template, Update, Write};
-
-#[cfg(test)]
-mod tests;

@@ -1,7 +1,7 @@
 ghost use Rattle.std.specs.Prelude.{◌≡◌, ◌∷◌, [], IfOk, IsSome};
 ghost use Rattle.dsr_ir.specs.Layouts.{pool_numbers, field_place};
 
-use crate::*;
+use dsr_ir::*;
 use std::alloc::{AllocError, Global};
 use std::cmp::Ordering;
 use std::hash::{DefaultHasher, Hash, Hasher};

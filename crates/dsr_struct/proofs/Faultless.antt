@@ -1,0 +1,119 @@
+-- What follows where no declaration has a fault: few items, so that their numbers fit, and legal widths.
+use Rattle.std.proofs.Common.{◌≡◌, ◌<◌, ◌≤◌, ◌+◌, ◌-◌, ◌^◌, ℕ, Bool, true, false, not, ◌&&◌, ◌||◌, nat_eq, List, [], ◌∷◌, ◌++◌, length, min, codes, Option, None, Some, IfSome, is_some, All, cond, slice_get, option_and_then, refl, sym, subst, arith}
+use Rattle.std.specs.List.{position_from}
+use Rattle.std.specs.Str.{bytes_eq}
+use Rattle.std.proofs.lemmas.List.{length-take, take_all}
+use Rattle.std.proofs.lemmas.Option.{get_or_from_slice_get, slice_get_within, IfSome_then}
+use Rattle.dsr_ir.specs.Trees.{FieldTree, named, skipped, StructureTree, PoolTree, TreeShape}
+use Rattle.dsr_ir.specs.declared.tree.Set.{Set}
+use Rattle.dsr_ir.specs.declared.faults.Condition.TheVariants as conditions
+use Rattle.dsr_meaning.specs.Declarations.{FieldPosition, is_declared_above, is_bytewise, is_misplaced, width_faults, maybe_expr_faults, content_faults, parent_faults, head_faults, field_faults, position_of, structure_faults, pool_faults, set_faults, relation_faults, supply_faults, declaration_faults}
+use Rattle.dsr_meaning.specs.Faults.{when, each_at}
+use Rattle.dsr_meaning.specs.Names.{Names, names_of, is_at, structure_number, fixed_in, has_fixed_name, asked_structures}
+use Rattle.dsr_struct.specs.Known.{AllFit, HasLegalWidth, HasLegalWidths}
+use Rattle.dsr_struct.proofs.Empty.{both_empty, fourth_empty, fifth_empty, no_second, each_has, few}
+
+-- the number of an item that is found is one of the list's
+position_below : {T : Type 0} (test : T → Bool) (i : ℕ) (xs : List T) → IfSome (position_from test i xs) (λ k. k < i + length xs)
+position_below test i [] = tt
+position_below test i (x ∷ xs) =
+    elim (test x) as (λ b. IfSome (cond b (Some i) (position_from test (i + 1) xs)) (λ k. k < i + length (x ∷ xs))) [
+      | true ↦ omega arith
+      | false ↦ IfSome_then (position_from test (i + 1) xs) (position_below test (i + 1) xs) (λ k lt. omega (arith, lt))
+    ]
+
+-- the numbers of 64 items at most fit
+position_fits : {T : Type 0} (test : T → Bool) (xs : List T) → length xs ≤ 64 → IfSome (position_from test 0 xs) (λ k. k < 2 ^ 32 - 1)
+position_fits test xs small = IfSome_then (position_from test 0 xs) (position_below test 0 xs) (λ k lt. omega (arith, lt, small))
+
+abbrev HasFewFields : StructureTree → Type 0
+HasFewFields s = length s.fields ≤ 64
+
+-- the numbers of fixed fields fit where each structure has few fields
+fixed_fits : (t : TreeShape) → All HasFewFields t.structures → (head : Option ℕ) (q : List ℕ) → IfSome (fixed_in t head q) (λ k. k < 2 ^ 32 - 1)
+fixed_fits t small None q = tt
+fixed_fits t small (Some n) q =
+    elim (slice_get t.structures n) as (λ o. slice_get t.structures n ≡ o → IfSome (option_and_then (λ s. position_from (has_fixed_name q) 0 s.fields) o) (λ k. k < 2 ^ 32 - 1)) [
+      | None ↦ λ _. tt
+      | Some s ↦ λ e. position_fits (has_fixed_name q) s.fields (subst HasFewFields (get_or_from_slice_get t.structures n s s e) (small n s (slice_get_within t.structures n s e)))
+    ] refl
+
+-- where few structures are asked, all are
+all_asked : (t : TreeShape) → length (asked_structures t) ≤ 64 → asked_structures t ≡ t.structures
+all_asked t small =
+    let many : min 65 (length t.structures) ≤ 64 = rw (sym (length-take 65 t.structures)) small in
+    take_all 65 t.structures (omega arith)
+
+module _ (names : Names) where
+  -- a field without fault has a legal width
+  legal_width : (at : FieldPosition) (f : FieldTree) → field_faults names at f ≡ [] → HasLegalWidth f
+  legal_width at (named f) e =
+      fifth_empty
+      (when (is_declared_above names at f.name.name) conditions.NameTwice f.name.place)
+      (when (nat_eq at.number 64) conditions.Limit f.name.place)
+      (when ((is_bytewise f.width || is_some f.length) && not at.on_byte) conditions.Align f.name.place)
+      (when (is_some f.fixed && is_misplaced at f) conditions.FixedPlace f.name.place)
+      (width_faults f.width)
+      (maybe_expr_faults names.fixed f.length ++ content_faults names.pool f.width f.content)
+      e
+  legal_width at (skipped place l) e = tt
+
+  -- a field, structure, pool or set that is one too many has a fault
+  field_limit : (i : ℕ) (s : StructureTree) (f : FieldTree) → field_faults names (position_of names i s 64) f ≡ [] → ⊥
+  field_limit i s (named f) e = no_second (when (is_declared_above names (position_of names i s 64) f.name.name) conditions.NameTwice f.name.place) _ _ e
+  field_limit i s (skipped place l) e = absurd cc
+
+  structure_limit : (s : StructureTree) → structure_faults names 64 s ≡ [] → ⊥
+  structure_limit s e = no_second (when (not (is_at 64 (names.structure s.name.name))) conditions.NameTwice s.name.place) _ _ e
+
+  pool_limit : (p : PoolTree) → pool_faults names 32 p ≡ [] → ⊥
+  pool_limit p e = no_second (when (not (is_at 32 (names.pool p.name.name))) conditions.NameTwice p.name.place) _ _ e
+
+  set_limit : (s : Set) → set_faults names 64 s ≡ [] → ⊥
+  set_limit s e = no_second (when (not (is_at 64 (names.set s.name.name))) conditions.NameTwice s.name.place) _ _ e
+
+  -- the fields of a structure without fault have none, hence legal widths, and there are few
+  fields_empty : (i : ℕ) (s : StructureTree) → structure_faults names i s ≡ [] → each_at (λ j f. field_faults names (position_of names i s j) f) 0 s.fields ≡ []
+  fields_empty i s e =
+      fourth_empty
+      (when (not (is_at i (names.structure s.name.name))) conditions.NameTwice s.name.place)
+      (when (nat_eq i 64) conditions.Limit s.name.place)
+      (parent_faults names i s.parent)
+      (each_at (λ j f. field_faults names (position_of names i s j) f) 0 s.fields)
+      e
+
+  legal_widths : (i : ℕ) (s : StructureTree) → structure_faults names i s ≡ [] → HasLegalWidths s
+  legal_widths i s e = each_has (λ j f. field_faults names (position_of names i s j) f) HasLegalWidth (λ j. legal_width (position_of names i s j)) 0 s.fields (fields_empty i s e)
+
+  few_fields : (i : ℕ) (s : StructureTree) → structure_faults names i s ≡ [] → HasFewFields s
+  few_fields i s e = few (λ j f. field_faults names (position_of names i s j) f) 64 0 64 (omega arith) (field_limit i s) s.fields (fields_empty i s e)
+
+-- what the tables need of a tree
+pub record IsSmall (t : TreeShape) : Type 0 where
+  pub fit : AllFit (names_of t)
+  pub legal : All HasLegalWidths t.structures
+
+-- a tree without faults has it
+pub faultless : (t : TreeShape) → declaration_faults t ≡ [] → IsSmall t
+faultless t e =
+    let names = names_of t in
+    let others = each_at (relation_faults names) 0 t.relations ++ each_at (supply_faults names) 0 t.supplies in
+    let from_sets = each_at (set_faults names) 0 t.sets ++ others in
+    let from_pools = each_at (pool_faults names) 0 t.pools ++ from_sets in
+    let asked = both_empty (each_at (structure_faults names) 0 (asked_structures t)) from_pools (both_empty (head_faults names) _ e).1 in
+    let pools = both_empty (each_at (pool_faults names) 0 t.pools) from_sets asked.1 in
+    let sets = both_empty (each_at (set_faults names) 0 t.sets) others pools.1 in
+    let few_asked = few (structure_faults names) 64 0 64 (omega arith) (structure_limit names) (asked_structures t) asked.0 in
+    let few_pools = few (pool_faults names) 32 0 32 (omega arith) (pool_limit names) t.pools pools.0 in
+    let few_sets = few (set_faults names) 64 0 64 (omega arith) (set_limit names) t.sets sets.0 in
+    let all = all_asked t few_asked in
+    let structures = subst (λ ss. each_at (structure_faults names) 0 ss ≡ []) all asked.0 in
+    record {
+      fit = record {
+        structure = λ q. position_fits (λ s. bytes_eq s.name.name q) t.structures (subst (λ ss. length ss ≤ 64) all few_asked);
+        fixed = fixed_fits t (each_has (structure_faults names) HasFewFields (few_fields names) 0 t.structures structures) (structure_number t (codes "Head"));
+        pool = λ q. position_fits (λ p. bytes_eq p.name.name q) t.pools (omega (arith, few_pools));
+        set = λ q. position_fits (λ s. bytes_eq s.name.name q) t.sets few_sets;
+      };
+      legal = each_has (structure_faults names) HasLegalWidths (legal_widths names) 0 t.structures structures;
+    }

@@ -1,0 +1,14 @@
+pub mod Bits
+pub mod Counted
+pub mod Empty
+pub mod ExprSteps
+pub mod Faultless
+pub mod Fields
+pub mod Finding
+pub mod Growing
+pub mod Least
+pub mod Mapped
+pub mod Numbering
+pub mod Outcome
+pub mod Tables
+pub mod Wide

@@ -1,0 +1,9 @@
+use Rattle.std.proofs.Common.{take}
+use Rattle.dsr_meaning.specs.Declarations.{relation_faults}
+use Rattle.dsr_meaning.specs.Faults.{each_at}
+use Rattle.dsr_struct.specs.Known.{known_of}
+use Rattle.dsr_struct.specs.Telling.{Finds}
+use Rattle.dsr_struct.proofs.lookups.Names.check_relations.Given as goal
+
+abbrev pub invariant-loop-number : goal.invariant-loop-number
+invariant-loop-number l = Finds (each_at (relation_faults (known_of l.fn.self)) 0 (take l.number l.relations)) l.fn.told.fault l.told.fault

@@ -1,0 +1,7 @@
+use Rattle.dsr_meaning.specs.Declarations.{set_faults}
+use Rattle.dsr_struct.specs.Known.{known_of}
+use Rattle.dsr_struct.proofs.Finding.{finds_next_of}
+use Rattle.dsr_struct.proofs.lookups.Names.check_sets.Goals as goal
+
+pub loop-number-preserved : goal.loop-number-preserved
+loop-number-preserved c = finds_next_of (set_faults (known_of c.args.self.now)) c.args.sets.now c.loop-number.number c.index-sets-number.result c.loop-number-test.true c.index-sets-number.is c.loop-number.invariant c.check_set.ensures

@@ -1,0 +1,10 @@
+use Rattle.std.proofs.Common.{take, map}
+use Rattle.dsr_ir.specs.Trees.{structure_shape}
+use Rattle.dsr_meaning.specs.Declarations.{structure_faults}
+use Rattle.dsr_meaning.specs.Faults.{each_at}
+use Rattle.dsr_struct.specs.Known.{known_of}
+use Rattle.dsr_struct.specs.Telling.{Finds}
+use Rattle.dsr_struct.proofs.lookups.Names.check_structures.Given as goal
+
+abbrev pub invariant-loop-number : goal.invariant-loop-number
+invariant-loop-number l = Finds (each_at (structure_faults (known_of l.fn.self)) 0 (map structure_shape (take l.number l.structures))) l.fn.told.fault l.told.fault

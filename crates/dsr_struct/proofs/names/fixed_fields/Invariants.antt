@@ -1,0 +1,10 @@
+use Rattle.std.proofs.Common.{◌≡◌, ℕ, List, take}
+use Rattle.std.specs.List.{position_from}
+use Rattle.std.specs.Str.{bytes_eq}
+use Rattle.indexmap.specs.IndexMap.{get}
+use Rattle.dsr_ir.specs.Trees.{field_shape}
+use Rattle.dsr_meaning.specs.Names.{has_fixed_name}
+use Rattle.dsr_struct.proofs.names.fixed_fields.Given as goal
+
+abbrev pub invariant-loop-number : goal.invariant-loop-number
+invariant-loop-number l = (q : List ℕ) → get bytes_eq l.table q ≡ position_from (λ f. has_fixed_name q (field_shape f)) 0 (take l.number l.fields)

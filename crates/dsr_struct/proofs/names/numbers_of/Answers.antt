@@ -1,0 +1,18 @@
+use Rattle.std.proofs.Common.{Bool, ap, ◌∙◌}
+use Rattle.std.specs.Str.{bytes_eq}
+use Rattle.indexmap.specs.IndexMap.{get}
+use Rattle.dsr_struct.specs.Known.{is_named}
+use Rattle.dsr_struct.proofs.Numbering.{position_next, position_stays}
+use Rattle.dsr_struct.proofs.names.numbers_of.Goals as goal
+use Rattle.dsr_struct.proofs.names.numbers_of.Goals.{in-Some+in_ok-enter, in_default}
+
+pub loop-number-preserved : goal.loop-number-preserved
+loop-number-preserved g c = λ q.
+    let test : g.row.T.Denot → Bool = λ x. is_named (g.T.Named.own_name x) q in
+    let items = c.args.items.now in
+    let i = c.loop-number.number in
+    let x = c.index-items-number.result in
+    elim c.match-own_name.branch [
+      | in-Some+in_ok-enter w ↦ ap (λ m. get bytes_eq m q) w.table-is ∙ w.in_ok-enter.ensures q ∙ position_next test items i x c.loop-number-test.true c.index-items-number.is (c.loop-number.invariant q) (ap (λ o. is_named o q) w.in-Some.ensures)
+      | in_default w ↦ ap (λ m. get bytes_eq m q) w.table-is ∙ position_stays test items i x c.loop-number-test.true c.index-items-number.is (c.loop-number.invariant q) (ap (λ o. is_named o q) w.in_default.ensures)
+    ]

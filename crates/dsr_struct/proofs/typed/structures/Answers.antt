@@ -1,0 +1,30 @@
+use Rattle.std.proofs.Common.{ap, ◌∙◌}
+use Rattle.std.proofs.lemmas.Result.{err_from_is_err_and}
+use Rattle.dsr_ir.specs.Trees.{tree_shape}
+use Rattle.dsr_meaning.specs.Tables.{tables_with}
+use Rattle.dsr_struct.specs.Known.{told_by}
+use Rattle.dsr_struct.proofs.Outcome.{fault_told, no_fault, numbers_fit, widths_legal}
+use Rattle.dsr_struct.proofs.typed.structures.Goals as goal
+
+pub returns-in-Some-clause-fault : goal.returns-in-Some-clause-fault
+returns-in-Some-clause-fault c =
+    (c.in-Some.fault.condition, c.kind.ensures, fault_told (tree_shape c.args.tree.now) (told_by c.args.tree.now c.in_ok-tables.tables) c.in_ok-tables.ensures c.check.result c.check.ensures c.in-Some.fault c.in-Some.is)
+
+pub returns-in_err-head-clause-fault : goal.returns-in_err-head-clause-fault
+returns-in_err-head-clause-fault c = let p = err_from_is_err_and c.from_residual-in_err-head.result c.from_residual-in_err-head.ensures.1 in rw (p.1, p.2) tt
+
+pub returns-in_err-typed-clause-fault : goal.returns-in_err-typed-clause-fault
+returns-in_err-typed-clause-fault c = let p = err_from_is_err_and c.from_residual-in_err-typed.result c.from_residual-in_err-typed.ensures.1 in rw (p.1, p.2) tt
+
+pub typed-requires-clause-fit : goal.typed-requires-clause-fit
+typed-requires-clause-fit c = numbers_fit (tree_shape c.args.tree.now) (told_by c.args.tree.now c.in_ok-tables.tables) c.in_ok-tables.ensures c.check.result c.check.ensures c.in_default.is
+
+pub typed-requires-clause-legal : goal.typed-requires-clause-legal
+typed-requires-clause-legal c = widths_legal (tree_shape c.args.tree.now) (told_by c.args.tree.now c.in_ok-tables.tables) c.in_ok-tables.ensures c.check.result c.check.ensures c.in_default.is
+
+pub returns : goal.returns
+returns c = record {
+  no_fault = no_fault (tree_shape c.args.tree.now) (told_by c.args.tree.now c.in_ok-tables.tables) c.in_ok-tables.ensures c.check.result c.check.ensures c.in_default.is;
+  tables = c.in_ok-typed.ensures ∙ ap tables_with c.in_ok-tables.ensures;
+  fault = tt;
+}

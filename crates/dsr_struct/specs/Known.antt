@@ -1,0 +1,49 @@
+-- What the tables of names tell, as definitions and contracts see it.
+use Rattle.std.specs.Prelude.{◌≡◌, ◌<◌, ◌-◌, ◌^◌, ℕ, Bool, false, List, [], Option, None, Some, IfSome, All, is_some, map, if◌then◌else◌}
+use Rattle.std.specs.Str.{bytes_eq}
+use Rattle.indexmap.specs.IndexMap.{get}
+use Rattle.dsr_ir.specs.Trees.{FieldTree, named, skipped, StructureTree, tree_shape}
+use Rattle.dsr_ir.specs.declared.tree.Tree.{Tree}
+use Rattle.dsr_meaning.specs.Declarations.{FieldPosition, width_faults}
+use Rattle.dsr_meaning.specs.Names.{Names}
+use Rattle.dsr_struct.specs.declared.names.NameTables.{NameTables}
+use Rattle.dsr_struct.specs.declared.lookups.Names.{Names as NamesOfTree}
+use Rattle.dsr_struct.specs.declared.field_checks.Position.{Position}
+
+-- whether an item has a name, and this one
+abbrev pub is_named : Option (List ℕ) → List ℕ → Bool
+is_named None q = false
+is_named (Some n) q = bytes_eq n q
+
+-- what is known of a name after one more was entered under a number; the first entry counts
+abbrev pub entered : (List ℕ → Option ℕ) → List ℕ → ℕ → List ℕ → Option ℕ
+entered known name number q = if is_some (known q) then known q else (if bytes_eq name q then Some number else None)
+
+-- what the tables tell of the names of a tree
+abbrev pub told_by : Tree → NameTables → Names
+told_by tree tables = record { tree = tree_shape tree; structure = get bytes_eq tables.structures; fields = map (get bytes_eq) tables.fields.items; ancestors = map (λ v. v.items) tables.ancestors.items; fixed = get bytes_eq tables.fixed; pool = get bytes_eq tables.pools; set = get bytes_eq tables.sets; relation = get bytes_eq tables.relations; supply = get bytes_eq tables.supplies }
+
+abbrev pub known_of : NamesOfTree → Names
+known_of names = told_by names.tree.now names.tables.now
+
+-- where a field stands
+abbrev pub place_of : Position → FieldPosition
+place_of at = record { structure = at.structure; number = at.number; in_head = at.in_head; on_byte = at.on_byte; behind_open = at.behind_open }
+
+-- all numbers for which names stand, and the next ones, are numbers of 32 bits
+abbrev pub Fit : (List ℕ → Option ℕ) → Type 0
+Fit number = (q : List ℕ) → IfSome (number q) (λ n. n < 2 ^ 32 - 1)
+
+pub record AllFit (names : Names) : Type 0 where
+  pub structure : Fit names.structure
+  pub fixed : Fit names.fixed
+  pub pool : Fit names.pool
+  pub set : Fit names.set
+
+-- the field's width is a legal one
+abbrev pub HasLegalWidth : FieldTree → Type 0
+HasLegalWidth (named f) = width_faults f.width ≡ []
+HasLegalWidth (skipped place length) = Unit {0}
+
+abbrev pub HasLegalWidths : StructureTree → Type 0
+HasLegalWidths s = All HasLegalWidth s.fields

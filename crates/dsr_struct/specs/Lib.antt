@@ -1,0 +1,4 @@
+pub mod FieldNames
+pub mod Known
+pub mod Refusals
+pub mod Telling

@@ -1,0 +1,274 @@
+// Tables of names, from each name to the number of the first item that declares it.
+ghost use Rattle.std.specs.Prelude.{◌≡◌, ◌<◌, ℕ, List, [], map, length, vec_len, codes, IfOk, OnOk};
+ghost use Rattle.std.specs.List.{position_from};
+ghost use Rattle.std.specs.Str.{bytes_eq};
+ghost use Rattle.indexmap.specs.IndexMap.{get};
+ghost use Rattle.dsr_ir.specs.Trees.{field_shape, structure_shape, tree_shape};
+ghost use Rattle.dsr_meaning.specs.Names.{has_name, has_fixed_name, field_number, fixed_in, before, is_head, lineage, lineages, parent_number, names_of};
+ghost use Rattle.dsr_struct.specs.Known.{is_named, entered, told_by};
+
+use dsr_ir::tree::{Field, Fresh, PlacedName, Pool, Relation, Set, Structure, Tree};
+use dsr_ir::{Name, NoMemory, TryClone};
+use indexmap::IndexMap;
+use std::alloc::Global;
+
+/// What the names of a tree stand for, by the numbers of the items that declare them.
+#[derive(Drop)]
+pub struct NameTables {
+    pub structures: IndexMap<Name, usize>,
+    /// For each structure the fields that it declares itself.
+    pub fields: Vec<IndexMap<Name, usize>>,
+    /// For each structure up to the first one over the limit its ancestors, the nearest first.
+    pub ancestors: Vec<Vec<usize>>,
+    /// The fixed fields of `Head`.
+    pub fixed: IndexMap<Name, usize>,
+    pub pools: IndexMap<Name, usize>,
+    pub sets: IndexMap<Name, usize>,
+    pub relations: IndexMap<Name, usize>,
+    /// The first supply of each pool.
+    pub supplies: IndexMap<Name, usize>,
+}
+
+/// An item that may have a name.
+trait Named {
+    ghost use Rattle.std.specs.Prelude.{◌≡◌, Option, List, ℕ, option_map};
+
+    ghost own_name: { Self → Option (List ℕ) };
+
+    /// The name under which the item is entered.
+    fn own_name(&self) -> Option<&Name>
+        ensures { option_map (λ n. n.now) result ≡ own_name self.now };
+}
+
+impl Named for Structure {
+    ghost use Rattle.std.specs.Prelude.{Some};
+
+    ghost own_name = { λ s. Some s.name.name };
+
+    fn own_name(&self) -> Option<&Name> {
+        Some(&self.name.name)
+    }
+}
+
+impl Named for Field {
+    ghost use Rattle.dsr_struct.specs.FieldNames.{field_name};
+
+    ghost own_name = { field_name };
+
+    fn own_name(&self) -> Option<&Name> {
+        match self {
+            Field::Named(field) => Some(&field.name.name),
+            Field::Skip { .. } => None,
+        }
+    }
+}
+
+impl Named for Pool {
+    ghost use Rattle.std.specs.Prelude.{Some};
+
+    ghost own_name = { λ p. Some p.name.name };
+
+    fn own_name(&self) -> Option<&Name> {
+        Some(&self.name.name)
+    }
+}
+
+impl Named for Set {
+    ghost use Rattle.std.specs.Prelude.{Some};
+
+    ghost own_name = { λ s. Some s.name.name };
+
+    fn own_name(&self) -> Option<&Name> {
+        Some(&self.name.name)
+    }
+}
+
+impl Named for Relation {
+    ghost use Rattle.std.specs.Prelude.{Some};
+
+    ghost own_name = { λ r. Some r.name.name };
+
+    fn own_name(&self) -> Option<&Name> {
+        Some(&self.name.name)
+    }
+}
+
+// A supply is entered under its pool's name.
+impl Named for Fresh {
+    ghost use Rattle.std.specs.Prelude.{Some};
+
+    ghost own_name = { λ f. Some f.pool.name };
+
+    fn own_name(&self) -> Option<&Name> {
+        Some(&self.pool.name)
+    }
+}
+
+/// Whether a name is the one of the structure of the record at byte 0.
+pub fn is_head(name: &Name) -> bool
+    ensures { result ≡ is_head name.now }
+{
+    name.bytes() == b"Head".as_slice()
+}
+
+/// `Head`, the name of that structure.
+pub fn head_name(alloc: Global) -> Result<Name, NoMemory>
+    ensures { IfOk result (λ name. name ≡ codes "Head") }
+{
+    Ok(Name::new(Vec::from_slice(alloc, b"Head")?))
+}
+
+// Enters a name under a number, where it isn't entered yet.
+fn enter(
+    alloc: Global,
+    table: &mut IndexMap<Name, usize>,
+    name: &Name,
+    number: usize,
+) -> Result<(), NoMemory>
+    ensures { OnOk result ((q : List ℕ) → get bytes_eq table.new q ≡ entered (get bytes_eq table.old) name.now number q) }
+{
+    if table.get(name).is_none() {
+        table.insert(name.clone(alloc)?, number)?;
+    }
+    Ok(())
+}
+
+// For each name the number of the first item that has it.
+fn numbers_of<T: Named>(alloc: Global, items: &[T]) -> Result<IndexMap<Name, usize>, NoMemory>
+    ensures { IfOk result (λ m. (q : List ℕ) → get bytes_eq m q ≡ position_from (λ x. is_named (T.own_name x) q) 0 items.now) }
+{
+    let mut table = IndexMap::new(alloc);
+    for (number, item) in items.iter().enumerate() {
+        if let Some(name) = item.own_name() {
+            enter(alloc, &mut table, name, number)?;
+        }
+    }
+    Ok(table)
+}
+
+// For each name the number of the first fixed field that has it.
+fn fixed_fields(alloc: Global, fields: &[Field]) -> Result<IndexMap<Name, usize>, NoMemory>
+    ensures { IfOk result (λ m. (q : List ℕ) → get bytes_eq m q ≡ position_from (has_fixed_name q) 0 (map field_shape fields.now)) }
+{
+    let mut table = IndexMap::new(alloc);
+    for (number, field) in fields.iter().enumerate() {
+        if let Field::Named(field) = field {
+            if field.fixed.is_some() {
+                enter(alloc, &mut table, &field.name.name, number)?;
+            }
+        }
+    }
+    Ok(table)
+}
+
+// The fixed fields that `Head` itself declares.
+fn fixed_of_head(
+    alloc: Global,
+    tree: &Tree,
+    head: Option<usize>,
+) -> Result<IndexMap<Name, usize>, NoMemory>
+    ensures { IfOk result (λ m. (q : List ℕ) → get bytes_eq m q ≡ fixed_in (tree_shape tree.now) head q) }
+{
+    if let Some(number) = head {
+        if let Some(structure) = tree.structures.items().get(number) {
+            return fixed_fields(alloc, structure.fields.items());
+        }
+    }
+    Ok(IndexMap::new(alloc))
+}
+
+// For each structure the fields that it declares itself.
+fn own_fields(
+    alloc: Global,
+    structures: &[Structure],
+) -> Result<Vec<IndexMap<Name, usize>>, NoMemory>
+    ensures { IfOk result (λ tables. map (get bytes_eq) tables.items ≡ map (λ s. field_number (structure_shape s)) structures.now) }
+{
+    let mut tables = Vec::new(alloc);
+    for structure in structures {
+        tables.push(numbers_of(alloc, structure.fields.items())?)?;
+    }
+    Ok(tables)
+}
+
+// A number that is less than another one.
+fn before(number: usize, found: Option<usize>) -> Option<usize>
+    ensures { result ≡ before number found }
+{
+    match found {
+        Some(found) if found < number => Some(found),
+        _ => None,
+    }
+}
+
+// The parent of a structure of this number, where it is one.
+fn parent_of(
+    structures: &IndexMap<Name, usize>,
+    number: usize,
+    parent: &Option<PlacedName>,
+) -> Option<usize>
+    ensures { result ≡ parent_number (get bytes_eq structures.now) number parent.now }
+{
+    match parent {
+        Some(parent) if !is_head(&parent.name) => before(
+            number,
+            structures.get(&parent.name).copied(),
+        ),
+        _ => None,
+    }
+}
+
+// A structure's parent and the parent's ancestors.
+fn line_of(
+    alloc: Global,
+    earlier: &[Vec<usize>],
+    parent: Option<usize>,
+) -> Result<Vec<usize>, NoMemory>
+    ensures { IfOk result (λ line. line.items ≡ lineage (map (λ v. v.items) earlier.now) parent) }
+{
+    let mut line = Vec::new(alloc);
+    if let Some(parent) = parent {
+        line.push(parent)?;
+        if let Some(above) = earlier.get(parent) {
+            line.extend_from_slice(above)?;
+        }
+    }
+    Ok(line)
+}
+
+// The ancestors of each structure.
+fn ancestors_of(
+    alloc: Global,
+    numbers: &IndexMap<Name, usize>,
+    structures: &[Structure],
+) -> Result<Vec<Vec<usize>>, NoMemory>
+    ensures { IfOk result (λ lines. map (λ v. v.items) lines.items ≡ lineages (get bytes_eq numbers.now) [] (map structure_shape structures.now)) }
+{
+    let mut lines = Vec::new(alloc);
+    for structure in structures {
+        let parent = parent_of(numbers, lines.len(), &structure.parent);
+        let line = line_of(alloc, &lines, parent)?;
+        lines.push(line)?;
+    }
+    Ok(lines)
+}
+
+/// What the names of a tree stand for.
+pub fn name_tables(alloc: Global, tree: &Tree) -> Result<NameTables, NoMemory>
+    ensures { IfOk result (λ tables. told_by tree.now tables ≡ names_of (tree_shape tree.now)) }
+{
+    let items = tree.structures.items();
+    let structures = numbers_of(alloc, items)?;
+    let head = head_name(alloc)?;
+    let fixed = fixed_of_head(alloc, tree, structures.get(&head).copied())?;
+    Ok(NameTables {
+        fields: own_fields(alloc, items)?,
+        ancestors: ancestors_of(alloc, &structures, &items[..items.len().min(65)])?,
+        fixed,
+        pools: numbers_of(alloc, tree.pools.items())?,
+        sets: numbers_of(alloc, tree.sets.items())?,
+        relations: numbers_of(alloc, tree.relations.items())?,
+        supplies: numbers_of(alloc, tree.supplies.items())?,
+        structures,
+    })
+}

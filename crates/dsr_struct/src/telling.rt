@@ -1,0 +1,41 @@
+// The fault that is to be told, among those that were found so far.
+ghost use Rattle.std.specs.Prelude.{◌≡◌, is_none};
+ghost use Rattle.dsr_ir.specs.declared.faults.Condition.TheVariants as conditions;
+ghost use Rattle.dsr_meaning.specs.Faults.{when};
+ghost use Rattle.dsr_struct.specs.Telling.{Finds, told_of};
+
+use dsr_ir::tree::PlacedName;
+use dsr_ir::{Condition, Fault};
+
+/// The fault with the least place of those that were found, and of those the least condition.
+#[derive(Drop)]
+pub struct Told {
+    pub fault: Option<Fault>,
+}
+
+impl Told {
+    /// Takes note of a condition where it holds.
+    pub fn note_if(&mut self, holds: bool, condition: Condition, place: u64)
+        ensures { Finds (when holds condition place) self.old.fault self.new.fault }
+    {
+        if holds {
+            self.note(Fault { place, condition });
+        }
+    }
+
+    /// Takes note of a name that stands for nothing.
+    pub fn note_unknown(&mut self, number: Option<usize>, name: &PlacedName)
+        ensures { Finds (when (is_none number) conditions.UnknownName name.now.place) self.old.fault self.new.fault }
+    {
+        self.note_if(number.is_none(), Condition::UnknownName, name.place);
+    }
+
+    fn note(&mut self, found: Fault)
+        ensures { self.new.fault ≡ told_of self.old.fault found }
+    {
+        match self.fault {
+            Some(least) if !found.is_before(least) => (),
+            _ => self.fault = Some(found),
+        }
+    }
+}

@@ -1,0 +1,73 @@
+// The typed tables of a tree, or its first fault.
+ghost use Rattle.std.specs.Prelude.{◌≡◌, [], All, codes, unwrap_or, IfOk, IfErr};
+ghost use Rattle.dsr_ir.specs.Shapes.{structures_shape};
+ghost use Rattle.dsr_ir.specs.Trees.{tree_shape};
+ghost use Rattle.dsr_meaning.specs.Declarations.{declaration_faults};
+ghost use Rattle.dsr_meaning.specs.Tables.{tables, tables_with, version_of};
+ghost use Rattle.dsr_struct.specs.Known.{known_of, AllFit, HasLegalWidths};
+ghost use Rattle.dsr_struct.specs.Refusals.{Tells};
+
+use crate::lookups::Names;
+use crate::names::{head_name, name_tables};
+use crate::refusals::SpecFault;
+use dsr_ir::tree::Tree;
+use dsr_ir::{Name, NoMemory, Structures};
+use std::alloc::Global;
+
+// 2 for version 2, and otherwise 1.
+fn version_of(number: u64) -> u8
+    ensures { result ≡ version_of number }
+{
+    if number == 2 { 2 } else { 1 }
+}
+
+impl Names<'_> {
+    // The number of the structure of the record at byte 0.
+    fn head_number(&self, head: &Name) -> u32
+        requires head { head.now ≡ codes "Head" }
+        requires fit { AllFit (known_of self.now) }
+        ensures { result ≡ unwrap_or ((known_of self.now).structure (codes "Head")) 0 }
+    {
+        self.structure(head).unwrap_or(0) as u32
+    }
+
+    fn typed(&self, alloc: Global, head: &Name) -> Result<Structures, NoMemory>
+        requires head { head.now ≡ codes "Head" }
+        requires fit { AllFit (known_of self.now) }
+        requires legal { All HasLegalWidths (known_of self.now).tree.structures }
+        ensures { IfOk result (λ s. structures_shape s ≡ tables_with (known_of self.now)) }
+    {
+        Ok(Structures {
+            version: version_of(self.tree.version.number),
+            order: self.tree.order,
+            head: self.head_number(head),
+            structures: self.typed_structures(alloc)?,
+            pools: self.typed_pools(alloc)?,
+            sets: self.typed_sets(alloc)?,
+            rels: self.typed_relations(alloc)?,
+        })
+    }
+}
+
+/// The typed tables of a tree's structures, pools, sets, relations and supplies; its rules and
+/// constraints aren't looked at. `At` tells the fault with the least place, and of several there
+/// the one of the least condition.
+pub fn structures(alloc: Global, tree: &Tree) -> Result<Structures, SpecFault>
+    ensures no_fault { IfOk result (λ _. declaration_faults (tree_shape tree.now) ≡ []) }
+    ensures tables { IfOk result (λ s. structures_shape s ≡ tables (tree_shape tree.now)) }
+    ensures fault { IfErr result (Tells (declaration_faults (tree_shape tree.now))) }
+{
+    let tables = name_tables(alloc, tree)?;
+    let names = Names {
+        tree,
+        tables: &tables,
+    };
+    let head = head_name(alloc)?;
+    if let Some(fault) = names.check(&head) {
+        return Err(SpecFault::At {
+            kind: fault.condition.kind(),
+            place: fault.place,
+        });
+    }
+    Ok(names.typed(alloc, &head)?)
+}

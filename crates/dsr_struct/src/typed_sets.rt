@@ -1,0 +1,102 @@
+// The tables of sets and relations.
+ghost use Rattle.std.specs.Prelude.{◌≡◌, map, unwrap_or, option_and_then, IfOk};
+ghost use Rattle.dsr_meaning.specs.Names.{pool_structure};
+ghost use Rattle.dsr_meaning.specs.Tables.{set_structure, base_of, typed_set, typed_source, typed_target, typed_relation};
+ghost use Rattle.dsr_struct.specs.Known.{known_of, AllFit};
+
+use crate::lookups::Names;
+use crate::typed_exprs::number_in;
+use dsr_ir::tree::{Relation, Set, Target, Var, View};
+use dsr_ir::{NoMemory, Rel, Seq, SetDecl, TryClone};
+use std::alloc::Global;
+
+impl Names<'_> {
+    // The structure by which a set is read.
+    fn set_structure(&self, set: &Set) -> u32
+        requires fit { AllFit (known_of self.now) }
+        ensures { result ≡ set_structure (known_of self.now) set.now set.now.view }
+    {
+        match &set.view {
+            Some(View::As { structure, .. }) => self.structure_in(structure),
+            _ => self.structure_of_pool(&set.pool).unwrap_or(0) as u32,
+        }
+    }
+
+    // The set of which a set is the complement.
+    fn base_of(&self, view: &Option<View>) -> Option<u32>
+        requires fit { AllFit (known_of self.now) }
+        ensures { result ≡ base_of (known_of self.now) view.now }
+    {
+        match view {
+            Some(View::Except { set, .. }) => Some(number_in(&self.tables.sets, set)),
+            _ => None,
+        }
+    }
+
+    fn typed_set(&self, alloc: Global, set: &Set) -> Result<SetDecl, NoMemory>
+        requires fit { AllFit (known_of self.now) }
+        ensures { IfOk result (λ s. s ≡ typed_set (known_of self.now) set.now) }
+    {
+        Ok(SetDecl {
+            name: set.name.name.clone(alloc)?,
+            pool: self.pool_in(&set.pool),
+            structure: self.set_structure(set),
+            except: self.base_of(&set.view),
+        })
+    }
+
+    /// The table of sets.
+    pub fn typed_sets(&self, alloc: Global) -> Result<Seq<SetDecl>, NoMemory>
+        requires fit { AllFit (known_of self.now) }
+        ensures { IfOk result (λ ss. ss ≡ map (typed_set (known_of self.now)) (known_of self.now).tree.sets) }
+    {
+        let mut typed = Vec::new(alloc);
+        for set in self.tree.sets.items() {
+            typed.push(self.typed_set(alloc, set)?)?;
+        }
+        Ok(Seq::new(typed))
+    }
+
+    fn typed_source(&self, source: &Var) -> u32
+        requires fit { AllFit (known_of self.now) }
+        ensures { result ≡ typed_source (known_of self.now) source.now }
+    {
+        match source {
+            Var::Head { .. } => 0,
+            Var::Name(pool) => self.pool_in(pool),
+        }
+    }
+
+    fn typed_target(&self, target: &Target) -> Option<u32>
+        requires fit { AllFit (known_of self.now) }
+        ensures { result ≡ typed_target (known_of self.now) target.now }
+    {
+        match target {
+            Target::Number { .. } => None,
+            Target::Pool(pool) => Some(self.pool_in(pool)),
+        }
+    }
+
+    fn typed_relation(&self, alloc: Global, relation: &Relation) -> Result<Rel, NoMemory>
+        requires fit { AllFit (known_of self.now) }
+        ensures { IfOk result (λ r. r ≡ typed_relation (known_of self.now) relation.now) }
+    {
+        Ok(Rel {
+            name: relation.name.name.clone(alloc)?,
+            source: self.typed_source(&relation.source),
+            target: self.typed_target(&relation.target),
+        })
+    }
+
+    /// The table of relations.
+    pub fn typed_relations(&self, alloc: Global) -> Result<Seq<Rel>, NoMemory>
+        requires fit { AllFit (known_of self.now) }
+        ensures { IfOk result (λ rs. rs ≡ map (typed_relation (known_of self.now)) (known_of self.now).tree.relations) }
+    {
+        let mut typed = Vec::new(alloc);
+        for relation in self.tree.relations.items() {
+            typed.push(self.typed_relation(alloc, relation)?)?;
+        }
+        Ok(Seq::new(typed))
+    }
+}

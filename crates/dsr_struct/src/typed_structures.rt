@@ -1,0 +1,200 @@
+// The tables of structures and pools.
+ghost use Rattle.std.specs.Prelude.{◌≡◌, ◌∷◌, [], All, map, option_map, option_and_then, IfOk};
+ghost use Rattle.dsr_ir.specs.Shapes.{field_shape as shape_of_field, structure_shape as shape_of_structure, pool_shape as shape_of_pool};
+ghost use Rattle.dsr_ir.specs.Trees.{named, named_shape, field_shape, structure_shape, pool_shape};
+ghost use Rattle.dsr_meaning.specs.Declarations.{width_faults};
+ghost use Rattle.dsr_meaning.specs.Names.{used_structure};
+ghost use Rattle.dsr_meaning.specs.Tables.{number_in, pool_in, typed_width, typed_content, typed_field, typed_structure, typed_pool, avoided_by, avoided};
+ghost use Rattle.dsr_struct.specs.Known.{known_of, AllFit, HasLegalWidth, HasLegalWidths};
+
+use crate::lookups::Names;
+use crate::typed_exprs::{number_in, typed_expr, typed_maybe_expr};
+use dsr_ir::tree::{self, Content, Fresh, NamedField, PlacedName};
+use dsr_ir::{Field, Kind, Name, NoMemory, Pool, Seq, Structure, TryClone, Width};
+use std::alloc::Global;
+
+fn typed_width(width: tree::Width) -> Width
+    requires legal { width_faults width ≡ [] }
+    ensures { result ≡ typed_width width }
+{
+    match width {
+        tree::Width::U8 { .. } => Width::U8,
+        tree::Width::U16 { .. } => Width::U16,
+        tree::Width::U32 { .. } => Width::U32,
+        tree::Width::U64 { .. } => Width::U64,
+        tree::Width::Bits { number, .. } => Width::Bits(number.number as u8),
+    }
+}
+
+impl Names<'_> {
+    /// The number of a pool that a name stands for, counted from 1.
+    pub fn pool_in(&self, name: &PlacedName) -> u32
+        requires fit { AllFit (known_of self.now) }
+        ensures { result ≡ pool_in (known_of self.now) name.now }
+    {
+        number_in(&self.tables.pools, name) + 1
+    }
+
+    /// The structure of a name as a parent, a pool's structure or a set's.
+    pub fn structure_in(&self, name: &PlacedName) -> u32
+        requires fit { AllFit (known_of self.now) }
+        ensures { result ≡ number_in (used_structure (known_of self.now)) name.now }
+    {
+        self.used_structure(&name.name).unwrap_or(0) as u32
+    }
+
+    fn typed_content(&self, content: &Option<Content>) -> Kind
+        requires fit { AllFit (known_of self.now) }
+        ensures { result ≡ typed_content (known_of self.now) content.now }
+    {
+        match content {
+            None => Kind::Number { init: 0 },
+            Some(Content::Init { number, .. }) => Kind::Number {
+                init: number.number,
+            },
+            Some(Content::Refers { pool, .. }) => Kind::Refers {
+                pool: self.pool_in(pool),
+            },
+        }
+    }
+
+    fn typed_named_field(&self, alloc: Global, field: &NamedField) -> Result<Field, NoMemory>
+        requires fit { AllFit (known_of self.now) }
+        requires legal { width_faults field.now.width ≡ [] }
+        ensures { IfOk result (λ f. shape_of_field f ≡ typed_field (known_of self.now) (named (named_shape field.now))) }
+    {
+        Ok(Field {
+            name: field.name.name.clone(alloc)?,
+            fixed: field.fixed.is_some(),
+            width: typed_width(field.width),
+            len: typed_maybe_expr(alloc, &self.tables.fixed, &field.length)?,
+            kind: self.typed_content(&field.content),
+        })
+    }
+
+    // A gap of n bytes is an array of n bytes without a name.
+    fn typed_field(&self, alloc: Global, field: &tree::Field) -> Result<Field, NoMemory>
+        requires fit { AllFit (known_of self.now) }
+        requires legal { HasLegalWidth (field_shape field.now) }
+        ensures { IfOk result (λ f. shape_of_field f ≡ typed_field (known_of self.now) (field_shape field.now)) }
+    {
+        match field {
+            tree::Field::Named(field) => self.typed_named_field(alloc, field),
+            tree::Field::Skip { length, .. } => Ok(Field {
+                name: Name::new(Vec::new(alloc)),
+                fixed: false,
+                width: Width::U8,
+                len: Some(typed_expr(alloc, &self.tables.fixed, length)?),
+                kind: Kind::Gap,
+            }),
+        }
+    }
+
+    fn typed_fields(&self, alloc: Global, fields: &[tree::Field]) -> Result<Seq<Field>, NoMemory>
+        requires fit { AllFit (known_of self.now) }
+        requires legal { All HasLegalWidth (map field_shape fields.now) }
+        ensures { IfOk result (λ fs. map shape_of_field fs ≡ map (typed_field (known_of self.now)) (map field_shape fields.now)) }
+    {
+        let mut typed = Vec::new(alloc);
+        for field in fields {
+            typed.push(self.typed_field(alloc, field)?)?;
+        }
+        Ok(Seq::new(typed))
+    }
+
+    fn typed_parent(&self, parent: &Option<PlacedName>) -> Option<u32>
+        requires fit { AllFit (known_of self.now) }
+        ensures { result ≡ option_map (number_in (used_structure (known_of self.now))) parent.now }
+    {
+        match parent {
+            Some(parent) => Some(self.structure_in(parent)),
+            None => None,
+        }
+    }
+
+    fn typed_structure(
+        &self,
+        alloc: Global,
+        structure: &tree::Structure,
+    ) -> Result<Structure, NoMemory>
+        requires fit { AllFit (known_of self.now) }
+        requires legal { HasLegalWidths (structure_shape structure.now) }
+        ensures { IfOk result (λ s. shape_of_structure s ≡ typed_structure (known_of self.now) (structure_shape structure.now)) }
+    {
+        Ok(Structure {
+            name: structure.name.name.clone(alloc)?,
+            parent: self.typed_parent(&structure.parent),
+            fields: self.typed_fields(alloc, structure.fields.items())?,
+        })
+    }
+
+    /// The table of structures.
+    pub fn typed_structures(&self, alloc: Global) -> Result<Seq<Structure>, NoMemory>
+        requires fit { AllFit (known_of self.now) }
+        requires legal { All HasLegalWidths (known_of self.now).tree.structures }
+        ensures { IfOk result (λ ss. map shape_of_structure ss ≡ map (typed_structure (known_of self.now)) (known_of self.now).tree.structures) }
+    {
+        let mut typed = Vec::new(alloc);
+        for structure in self.tree.structures.items() {
+            typed.push(self.typed_structure(alloc, structure)?)?;
+        }
+        Ok(Seq::new(typed))
+    }
+
+    // The numbers of the sets that a supply avoids.
+    fn avoided_by(&self, alloc: Global, supply: &Fresh) -> Result<Seq<u32>, NoMemory>
+        requires fit { AllFit (known_of self.now) }
+        ensures { IfOk result (λ ns. ns ≡ avoided_by (known_of self.now) supply.now) }
+    {
+        let sets = &self.tables.sets;
+        let mut numbers = Vec::new(alloc);
+        numbers.push(number_in(sets, &supply.first))?;
+        for set in supply.rest.items() {
+            numbers.push(number_in(sets, set))?;
+        }
+        Ok(Seq::new(numbers))
+    }
+
+    // The numbers of the sets that the supply of a pool avoids, where it has one.
+    fn avoided(&self, alloc: Global, pool: &Name) -> Result<Option<Seq<u32>>, NoMemory>
+        requires fit { AllFit (known_of self.now) }
+        ensures { IfOk result (λ ns. ns ≡ avoided (known_of self.now) pool.now) }
+    {
+        if let Some(number) = self.supply(pool) {
+            if let Some(supply) = self.tree.supplies.items().get(number) {
+                return Ok(Some(self.avoided_by(alloc, supply)?));
+            }
+        }
+        Ok(None)
+    }
+
+    fn typed_pool(&self, alloc: Global, pool: &tree::Pool) -> Result<Pool, NoMemory>
+        requires fit { AllFit (known_of self.now) }
+        ensures { IfOk result (λ p. shape_of_pool p ≡ typed_pool (known_of self.now) (pool_shape pool.now)) }
+    {
+        let fixed = &self.tables.fixed;
+        Ok(Pool {
+            name: pool.name.name.clone(alloc)?,
+            structure: self.structure_in(&pool.structure),
+            count: typed_expr(alloc, fixed, &pool.count)?,
+            slot: typed_maybe_expr(alloc, fixed, &pool.slot)?,
+            start: typed_expr(alloc, fixed, &pool.start)?,
+            code: typed_expr(alloc, fixed, &pool.code)?,
+            step: typed_expr(alloc, fixed, &pool.step)?,
+            none: typed_expr(alloc, fixed, &pool.none)?,
+            avoid: self.avoided(alloc, &pool.name.name)?,
+        })
+    }
+
+    /// The table of pools.
+    pub fn typed_pools(&self, alloc: Global) -> Result<Seq<Pool>, NoMemory>
+        requires fit { AllFit (known_of self.now) }
+        ensures { IfOk result (λ ps. map shape_of_pool ps ≡ map (typed_pool (known_of self.now)) (known_of self.now).tree.pools) }
+    {
+        let mut typed = Vec::new(alloc);
+        for pool in self.tree.pools.items() {
+            typed.push(self.typed_pool(alloc, pool)?)?;
+        }
+        Ok(Seq::new(typed))
+    }
+}

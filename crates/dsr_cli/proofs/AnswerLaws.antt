@@ -5,7 +5,7 @@ use Rattle.dsr_meaning.specs.Consistency.{Instanced}
 use Rattle.dsr_parse.specs.declared.parser.SyntaxFault.{SyntaxFault}
 use Rattle.dsr_parse.specs.declared.parser.SyntaxFault.TheVariants as faults
 use Rattle.dsr_store.specs.Causes.{Rose}
-use Rattle.dsr_cli.specs.Answers.{Answer, IsAnswer, IsFilesAnswer, IsImageAnswer, IsLoadAnswer, IsMissing, IsPrintAnswer, IsTextAnswer, Shelved, syntax_refused, no_syntax, with_rules, printed, no_text, long_text, on_text, on_spec, accepted, checked, long_image, long_spec, no_command, no_image, no_spec, on_files, on_image, outside, refused, short, verdict_answer}
+use Rattle.dsr_cli.specs.Answers.{Answer, IsAnswer, IsFilesAnswer, IsImageAnswer, IsLoadAnswer, IsMissing, IsPrintAnswer, IsTextAnswer, Shelved, syntax_refused, no_syntax, no_tables, with_rules, printed, no_text, long_text, on_text, on_spec, accepted, checked, long_image, long_spec, no_command, no_image, no_spec, on_files, on_image, outside, refused, short, verdict_answer}
 use Rattle.dsr_cli.specs.Ends.{LacksOne}
 use Rattle.dsr_cli.specs.Words.{is_usage, second, third}
 use Rattle.dsr_cli.specs.declared.status.Status.{Status}
@@ -49,8 +49,9 @@ fault_told faults.NoMemory = tt
 
 print_told : {text : List ℕ} {a : Answer} → IsPrintAnswer text a → IsFilesStatus a.status
 print_told (no_syntax fault has) = fault_told fault
-print_told (with_rules tree is some) = tt
-print_told (printed tree is none) = tt
+print_told (no_tables tree kind place is told) = tt
+print_told (with_rules tree is faultless some) = tt
+print_told (printed tree is faultless none) = tt
 
 text_told : {s : Shelved} {name : List ℕ} {a : Answer} → IsTextAnswer s name a → IsFilesStatus a.status
 text_told (no_text m) = tt
@@ -115,8 +116,9 @@ module _ (s : Shelved) (words : List (List ℕ)) where
 
   print_stored : {text : List ℕ} {a : Answer} → IsPrintAnswer text a → a.status ≡ statuses.StoreFailed → ⊥
   print_stored (no_syntax fault has) e = fault_stored fault e
-  print_stored (with_rules tree is some) e = cc
-  print_stored (printed tree is none) e = cc
+  print_stored (no_tables tree kind place is told) e = cc
+  print_stored (with_rules tree is faultless some) e = cc
+  print_stored (printed tree is faultless none) e = cc
 
   text_stored : {a : Answer} → IsTextAnswer s (second words) a → a.status ≡ statuses.StoreFailed → Cause
   text_stored (no_text m) e = spec_cause m

@@ -9,7 +9,7 @@ use Rattle.dsr_meaning.specs.Consistency.{AreViolations, Instanced, IsConsistent
 use Rattle.dsr_parse.specs.declared.parser.SyntaxFault.{SyntaxFault}
 use Rattle.dsr_parse.specs.declared.parser.SyntaxFault.TheVariants as faults
 use Rattle.dsr_store.specs.Files.{Files, IsFrontOf}
-use Rattle.dsr_cli.specs.Answers.{Answer, IsAnswer, IsFilesAnswer, IsImageAnswer, IsLoadAnswer, IsPrintAnswer, IsTextAnswer, Shelved, syntax_refused, no_syntax, with_rules, printed, no_text, long_text, on_text, on_spec, accepted, checked, long_image, long_spec, no_command, no_image, no_spec, on_files, on_image, outside, refused, short, verdict_answer}
+use Rattle.dsr_cli.specs.Answers.{Answer, IsAnswer, IsFilesAnswer, IsImageAnswer, IsLoadAnswer, IsPrintAnswer, IsTextAnswer, Shelved, syntax_refused, no_syntax, no_tables, with_rules, printed, no_text, long_text, on_text, on_spec, accepted, checked, long_image, long_spec, no_command, no_image, no_spec, on_files, on_image, outside, refused, short, verdict_answer}
 use Rattle.dsr_cli.specs.PlainLayouts.{IsLaidOut}
 use Rattle.dsr_cli.specs.Verdicts.{FindsConsistent, FindsInconsistent, FindsPrinted, IsChecked, IsPrinted}
 use Rattle.dsr_cli.specs.Words.{is_text, second, third}
@@ -28,6 +28,24 @@ whole_front files name bytes cap h lt =
       | None ↦ λ h. absurd h
       | Some whole ↦ λ h. ap Some (whole_file whole bytes cap h lt)
     ] h
+
+-- the answers to `text` give no verdict
+fault_no_verdict : (fault : SyntaxFault) → (syntax_refused fault).status ≡ statuses.Inconsistent → ⊥
+fault_no_verdict (faults.Token place) e = cc
+fault_no_verdict (faults.Expected place) e = cc
+fault_no_verdict (faults.Limit place) e = cc
+fault_no_verdict faults.NoMemory e = cc
+
+print_no_verdict : {text : List ℕ} {a : Answer} → IsPrintAnswer text a → a.status ≡ statuses.Inconsistent → ⊥
+print_no_verdict (no_syntax fault has) e = fault_no_verdict fault e
+print_no_verdict (no_tables tree kind place is told) e = cc
+print_no_verdict (with_rules tree is faultless some) e = cc
+print_no_verdict (printed tree is faultless none) e = cc
+
+text_no_verdict : {s : Shelved} {name : List ℕ} {a : Answer} → IsTextAnswer s name a → a.status ≡ statuses.Inconsistent → ⊥
+text_no_verdict (no_text m) e = cc
+text_no_verdict (long_text text f long none) e = cc
+text_no_verdict (on_text text answer t h none) e = print_no_verdict h e
 
 -- a test doesn't come out both ways
 both : {b : Bool} → b ≡ false → b ≡ true → ⊥
@@ -98,10 +116,10 @@ module _ (s : Shelved) (words : List (List ℕ)) (files : Files) (told : s.held 
         let j = load_judged h e in
         record { spec = spec; judged = j; checks = record { text = text; spec_file = front_told (second words) text 65537 t.loaded (omega (arith, t.whole)); image_file = j.file; form = f; laid_out = j.laid_out } }
 
-    answer_judged : {a : Answer} → is_text words ≡ false → IsAnswer s words a → a.status ≡ status → IsWhole a
-    answer_judged no_print (no_command u none) e = absurd (not_usage e)
-    answer_judged no_print (on_files answer u f h) e = files_judged h e
-    answer_judged no_print (on_spec answer u f h) e = absurd (both no_print f)
+    answer_judged : {a : Answer} → (is_text words ≡ true → status ≡ statuses.Inconsistent) → IsAnswer s words a → a.status ≡ status → IsWhole a
+    answer_judged unless (no_command u none) e = absurd (not_usage e)
+    answer_judged unless (on_files answer u f h) e = files_judged h e
+    answer_judged unless (on_spec answer u f h) e = absurd (text_no_verdict h (e ∙ unless f))
 
 -- the answer of status 0 finds a consistent image
 pub finds_consistent : (s : Shelved) (words : List (List ℕ)) (a : Answer) → is_text words ≡ false → IsAnswer s words a → a.status ≡ statuses.Ok → FindsConsistent s.held words
@@ -109,17 +127,17 @@ finds_consistent s words a no_print h e =
     elim s.held as (λ o. s.held ≡ o → FindsConsistent o words) [
       | None ↦ λ _. tt
       | Some files ↦ λ told.
-          let w = answer_judged s words files told statuses.Ok (inl refl) no_print h e in
+          let w = answer_judged s words files told statuses.Ok (inl refl) (λ f. absurd (both no_print f)) h e in
           (w.spec, w.judged.layout, w.judged.image, w.checks, consistent_verdict s words files told w.spec w.judged.layout w.judged.image w.judged.vs w.judged.violations (ap (λ (a : Answer). a.status) (sym w.judged.answer_is) ∙ e))
     ] refl
 
 -- the answer of status 1 finds one that isn't
-pub finds_inconsistent : (s : Shelved) (words : List (List ℕ)) (a : Answer) → is_text words ≡ false → IsAnswer s words a → a.status ≡ statuses.Inconsistent → FindsInconsistent s.held words
-finds_inconsistent s words a no_print h e =
+pub finds_inconsistent : (s : Shelved) (words : List (List ℕ)) (a : Answer) → IsAnswer s words a → a.status ≡ statuses.Inconsistent → FindsInconsistent s.held words
+finds_inconsistent s words a h e =
     elim s.held as (λ o. s.held ≡ o → FindsInconsistent o words) [
       | None ↦ λ _. tt
       | Some files ↦ λ told.
-          let w = answer_judged s words files told statuses.Inconsistent (inr refl) no_print h e in
+          let w = answer_judged s words files told statuses.Inconsistent (inr refl) (λ _. refl) h e in
           (w.spec, w.judged.layout, w.judged.image, w.checks, inconsistent_verdict s words files told w.spec w.judged.layout w.judged.image w.judged.vs w.judged.violations (ap (λ (a : Answer). a.status) (sym w.judged.answer_is) ∙ e))
     ] refl
 
@@ -137,8 +155,9 @@ print_found s words files told print (on_spec answer u f h) e = text_found h e
 
     tree_found : {text : List ℕ} {a : Answer} → IsPrintAnswer text a → a.status ≡ statuses.Ok → get files (second words) ≡ Some text → IsPrinted files words a.text
     tree_found (no_syntax fault has) e file = absurd (fault_not_ok fault e)
-    tree_found (with_rules tree is some) e file = absurd cc
-    tree_found {text} (printed tree is none) e file = record { text = text; tree = tree; file = file; tree_of = is; printed = refl }
+    tree_found (no_tables tree kind place is told) e file = absurd cc
+    tree_found (with_rules tree is faultless some) e file = absurd cc
+    tree_found {text} (printed tree is faultless none) e file = record { text = text; tree = tree; file = file; tree_of = is; faultless = faultless; printed = refl }
 
     text_found : {a : Answer} → IsTextAnswer s (second words) a → a.status ≡ statuses.Ok → IsPrinted files words a.text
     text_found (no_text m) e = absurd cc

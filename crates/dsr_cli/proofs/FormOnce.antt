@@ -1,5 +1,5 @@
 -- A text of the form stands for one specification.
-use Rattle.std.proofs.Common.{◌≡◌, List, ℕ, [], map, true, sym, ap, ◌∙◌}
+use Rattle.std.proofs.Common.{◌≡◌, List, ℕ, [], map, sym, ap, ◌∙◌}
 use Rattle.dsr_ir.specs.declared.declarations.Spec.{Spec}
 use Rattle.dsr_ir.specs.declared.tokens.Token.{Token}
 use Rattle.dsr_tokens.proofs.Laws.{lexed_once}

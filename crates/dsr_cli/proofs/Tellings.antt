@@ -1,16 +1,22 @@
 -- What is told is an answer.
-use Rattle.std.proofs.Common.{◌≡◌, ◌≤◌, ℕ, List, true, false, Option, Result, ◌⊎◌, inl, inr, sym, subst, ◌∙◌, arith}
+use Rattle.std.proofs.Common.{◌≡◌, ◌≤◌, ℕ, List, true, false, Option, Result, ◌⊎◌, inl, inr, refl, sym, subst, ◌∙◌, arith}
 use Rattle.std.specs.Prelude.{◌≢◌, IfOk, Ok, Err}
+use Rattle.dsr_ir.specs.Trees.{TreeShape}
+use Rattle.dsr_meaning.specs.Declarations.{declaration_faults}
+use Rattle.dsr_meaning.specs.Parsing.{IsTreeOf}
 use Rattle.dsr_parse.specs.Faults.{HasFault}
 use Rattle.dsr_parse.specs.declared.parser.SyntaxFault.{SyntaxFault}
 use Rattle.dsr_parse.specs.declared.parser.SyntaxFault.TheVariants as faults
 use Rattle.std.proofs.lemmas.Result.{IfOk-weaker}
 use Rattle.std.specs.declared.alloc.AllocError.{AllocError}
+use Rattle.dsr_struct.specs.Refusals.{Tells}
+use Rattle.dsr_struct.specs.declared.refusals.SpecFault.{SpecFault}
+use Rattle.dsr_struct.specs.declared.refusals.SpecFault.TheVariants as spec_faults
 use Rattle.dsr_store.specs.Causes.{Rose}
 use Rattle.dsr_store.specs.Files.{Files, IsFrontOf, Lacks}
 use Rattle.dsr_store.specs.declared.outside.Missed.{Missed}
 use Rattle.dsr_ir.specs.declared.declarations.Spec.{Spec}
-use Rattle.dsr_cli.specs.Answers.{Answer, IsAnswer, IsFilesAnswer, IsImage, IsImageAnswer, IsLoadAnswer, IsMissing, IsText, IsPrintAnswer, IsTextAnswer, NoneFailed, Shelved, accepted, no_image, long_image, on_files, on_image, on_spec, on_text, no_syntax, syntax_refused}
+use Rattle.dsr_cli.specs.Answers.{Answer, IsAnswer, IsFilesAnswer, IsImage, IsImageAnswer, IsLoadAnswer, IsMissing, IsText, IsPrintAnswer, IsTextAnswer, NoneFailed, Shelved, accepted, no_image, long_image, on_files, on_image, on_spec, on_text, no_syntax, no_tables, syntax_refused, declarations_refused}
 use Rattle.dsr_cli.specs.FormTexts.{HasForm}
 use Rattle.dsr_cli.specs.Loads.{shelved_by, shown}
 use Rattle.dsr_cli.specs.Words.{is_usage, is_text, second, third}
@@ -72,3 +78,8 @@ pub told_fault : (text : List ℕ) (fault : SyntaxFault) (r : Result Told AllocE
 told_fault text fault (Ok t) e memory (inl none) = absurd (memory none)
 told_fault text fault (Ok t) e memory (inr has) = subst (IsPrintAnswer text) (sym e) (no_syntax fault has)
 told_fault text fault (Err a) e memory why = tt
+
+pub told_spec_fault : (text : List ℕ) (tree : TreeShape) (fault : SpecFault) (r : Result Told AllocError) → IfOk r (λ t. shown t ≡ declarations_refused fault) → IfOk r (λ t. fault ≢ spec_faults.NoMemory) → IsTreeOf text tree → Tells (declaration_faults tree) fault → IfOk r (λ t. IsPrintAnswer text (shown t))
+told_spec_fault text tree (spec_faults.At kind place) (Ok t) e memory is told = subst (IsPrintAnswer text) (sym e) (no_tables tree kind place is told)
+told_spec_fault text tree spec_faults.NoMemory (Ok t) e memory is told = absurd (memory refl)
+told_spec_fault text tree fault (Err a) e memory is told = tt

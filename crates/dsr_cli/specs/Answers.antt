@@ -10,10 +10,14 @@ use Rattle.dsr_ir.specs.declared.tuples.Binding.TheVariants.{Once, Each, Pair}
 use Rattle.dsr_ir.specs.declared.tuples.Element.{Element}
 use Rattle.dsr_meaning.specs.Consistency.{AreViolations, Instanced}
 use Rattle.dsr_meaning.specs.Canonical.{canonical}
+use Rattle.dsr_meaning.specs.Declarations.{declaration_faults}
 use Rattle.dsr_meaning.specs.Parsing.{IsTreeOf}
 use Rattle.dsr_parse.specs.Faults.{HasFault}
 use Rattle.dsr_parse.specs.declared.parser.SyntaxFault.{SyntaxFault}
 use Rattle.dsr_parse.specs.declared.parser.SyntaxFault.TheVariants as faults
+use Rattle.dsr_struct.specs.Refusals.{Tells}
+use Rattle.dsr_struct.specs.declared.refusals.SpecFault.{SpecFault}
+use Rattle.dsr_struct.specs.declared.refusals.SpecFault.TheVariants as spec_faults
 use Rattle.dsr_store.specs.Causes.{Rose}
 use Rattle.dsr_store.specs.Files.{Files, IsFrontOf, Lacks}
 use Rattle.dsr_store.specs.declared.outside.Missed.{Missed}
@@ -118,9 +122,15 @@ pub data IsFilesAnswer (shelved : Shelved) (spec_name image_name : List ℕ) : A
   refused : (text : List ℕ) → IsText shelved spec_name text → ((spec : Spec) → HasForm text spec → ⊥) → NoneFailed shelved → IsFilesAnswer shelved spec_name image_name spec_refused
   accepted : (text : List ℕ) (spec : Spec) (answer : Answer) → IsText shelved spec_name text → HasForm text spec → IsLoadAnswer shelved spec image_name answer → IsFilesAnswer shelved spec_name image_name answer
 
--- a refusal of a text at a place, with its kind
+-- a refusal at a place of the text, with its kind
+abbrev pub refused_at : List ℕ → ℕ → ℕ → Answer
+refused_at by kind place = record { status = statuses.SpecRefused; text = by ++ decimal kind ++ codes " " ++ decimal place ++ codes "\n" }
+
 abbrev pub syntax_at : ℕ → ℕ → Answer
-syntax_at kind place = record { status = statuses.SpecRefused; text = codes "syntax " ++ decimal kind ++ codes " " ++ decimal place ++ codes "\n" }
+syntax_at kind place = refused_at (codes "syntax ") kind place
+
+abbrev pub spec_at : ℕ → ℕ → Answer
+spec_at kind place = refused_at (codes "spec ") kind place
 
 -- the refusal of a text with a fault
 abbrev pub syntax_refused : SyntaxFault → Answer
@@ -129,6 +139,11 @@ syntax_refused (faults.Expected place) = syntax_at 2 place
 syntax_refused (faults.Limit place) = syntax_at 3 place
 syntax_refused faults.NoMemory = spec_refused
 
+-- the refusal of declarations with a fault
+abbrev pub declarations_refused : SpecFault → Answer
+declarations_refused (spec_faults.At kind place) = spec_at kind place
+declarations_refused spec_faults.NoMemory = spec_refused
+
 -- whether a rule or a constraint stands in the text
 abbrev pub has_rules : TreeShape → Bool
 has_rules tree = not (nat_eq (length tree.rules) 0 && nat_eq (length tree.constraints) 0)
@@ -136,8 +151,9 @@ has_rules tree = not (nat_eq (length tree.rules) 0 && nat_eq (length tree.constr
 -- the answer to a text that is to be printed
 pub data IsPrintAnswer (text : List ℕ) : Answer → Type 0 where
   no_syntax : (fault : SyntaxFault) → HasFault text fault → IsPrintAnswer text (syntax_refused fault)
-  with_rules : (tree : TreeShape) → IsTreeOf text tree → has_rules tree ≡ true → IsPrintAnswer text spec_refused
-  printed : (tree : TreeShape) → IsTreeOf text tree → has_rules tree ≡ false → IsPrintAnswer text (record { status = statuses.Ok; text = canonical tree })
+  no_tables : (tree : TreeShape) (kind place : ℕ) → IsTreeOf text tree → Tells (declaration_faults tree) (spec_faults.At kind place) → IsPrintAnswer text (spec_at kind place)
+  with_rules : (tree : TreeShape) → IsTreeOf text tree → declaration_faults tree ≡ [] → has_rules tree ≡ true → IsPrintAnswer text spec_refused
+  printed : (tree : TreeShape) → IsTreeOf text tree → declaration_faults tree ≡ [] → has_rules tree ≡ false → IsPrintAnswer text (record { status = statuses.Ok; text = canonical tree })
 
 -- the answer to the name of a specification that is to be printed
 pub data IsTextAnswer (shelved : Shelved) (name : List ℕ) : Answer → Type 0 where

@@ -258,19 +258,46 @@ fn texts_are_printed(rt: HostRuntime) -> Result<(), Fail> {
         text(nested, Status::SpecRefused, "syntax 3 79\n"),
         text(b"version 3;", Status::SpecRefused, "syntax 2 8\n"),
         text(b"version 1;order !", Status::SpecRefused, "syntax 1 16\n"),
-        text(LIST, Status::SpecRefused, SPEC_0),
+    ];
+    assert_eq!(rt; first_wrong(alloc, &cases)?, None);
+    Ok(())
+}
+
+// Declarations of version 2, behind which a rule stands.
+const COMPLEMENT: &[u8] = b"version 2; order little; structure Head { u8 c -> p; } \
+    structure R { u8 a; } pool p : R[1] at 1 codes 1 step 1 none 0; \
+    set A of p; set B of p except A; rule x in B => x in A;";
+
+#[test]
+fn declarations_are_refused(rt: HostRuntime) -> Result<(), Fail> {
+    let unaligned = b"version 1;order little;structure Head{bits 3 a;u8 b;}";
+    let cases = [
+        // the 23 bytes of the version and the order, 15 to the brace, 9 of the first field, and `u8 `
+        text(unaligned, Status::SpecRefused, "spec 3 50\n"),
+        text(
+            b"version 1;order little;",
+            Status::SpecRefused,
+            "spec 2 0\n",
+        ),
         text(
             b"version 1;order big;rule head=>head.f in A;",
+            Status::SpecRefused,
+            "spec 2 0\n",
+        ),
+        text(LIST, Status::SpecRefused, SPEC_0),
+        text(COMPLEMENT, Status::SpecRefused, SPEC_0),
+        text(
+            b"version 1;order big;structure Head{}rule head=>head.f in A;",
             Status::SpecRefused,
             SPEC_0,
         ),
         text(
-            b"version 1;order big;constraint c:a in A;",
+            b"version 1;order big;structure Head{}constraint c:a in A;",
             Status::SpecRefused,
             SPEC_0,
         ),
     ];
-    assert_eq!(rt; first_wrong(alloc, &cases)?, None);
+    assert_eq!(rt; first_wrong(rt.alloc(), &cases)?, None);
     Ok(())
 }
 

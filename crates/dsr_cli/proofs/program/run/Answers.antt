@@ -20,7 +20,7 @@ pub returns-in-Ok-put-clause-consistent : goal.returns-in-Ok-put-clause-consiste
 returns-in-Ok-put-clause-consistent g c p e = rw (← c.deref.ensures.value) (finds_consistent _ _ _ (rw c.deref.ensures.value p) c.in-Ok.ensures.answer e)
 
 pub returns-in-Ok-put-clause-inconsistent : goal.returns-in-Ok-put-clause-inconsistent
-returns-in-Ok-put-clause-inconsistent g c p e = rw (← c.deref.ensures.value) (finds_inconsistent _ _ _ (rw c.deref.ensures.value p) c.in-Ok.ensures.answer e)
+returns-in-Ok-put-clause-inconsistent g c e = rw (← c.deref.ensures.value) (finds_inconsistent _ _ _ c.in-Ok.ensures.answer e)
 
 pub returns-in-Ok-put-clause-text : goal.returns-in-Ok-put-clause-text
 returns-in-Ok-put-clause-text g c p e = record {

@@ -1,0 +1,4 @@
+pub mod Masks
+pub mod Placed
+pub mod Ranges
+pub mod Written

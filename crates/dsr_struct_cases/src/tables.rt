@@ -5,7 +5,7 @@
 pub type Row = (u8, &'static str, &'static str);
 
 /// A name that is declared twice.
-pub const TWICE: [(u8, &str, &str); 11] = [
+pub const TWICE: [Row; 11] = [
     // 20 + 16 + 13 + 10 bytes to `A`
     (1, "structure Head{}structure A{}structure A{}", "spec 1 59"),
     // 20 + 15 + 5 + 3 bytes to `a`
@@ -65,7 +65,7 @@ pub const TWICE: [(u8, &str, &str); 11] = [
 ];
 
 /// A name that isn't declared as what it is used for.
-pub const UNKNOWN: [(u8, &str, &str); 34] = [
+pub const UNKNOWN: [Row; 34] = [
     (1, "", "spec 2 0"),
     (1, "structure A{}", "spec 2 0"),
     // 20 + 20 bytes to `B`
@@ -237,7 +237,7 @@ pub const UNKNOWN: [(u8, &str, &str); 34] = [
 ];
 
 /// A field that begins inside a byte.
-pub const ALIGN: [(u8, &str, &str); 10] = [
+pub const ALIGN: [Row; 10] = [
     // 20 + 15 + 9 + 3 bytes to `b`
     (1, "structure Head{bits 3 a;u8 b;}", "spec 3 47"),
     // 20 + 15 + 9 + 4 bytes to `b`
@@ -269,7 +269,7 @@ pub const ALIGN: [(u8, &str, &str); 10] = [
 ];
 
 /// A fixed field where none may stand.
-pub const FIXED: [(u8, &str, &str); 9] = [
+pub const FIXED: [Row; 9] = [
     // 20 + 16 + 12 + 9 bytes to `a`
     (1, "structure Head{}structure A{fixed u8 a;}", "spec 4 57"),
     // 20 + 12 + 9 bytes to `a`
@@ -318,7 +318,7 @@ pub const FIXED: [(u8, &str, &str); 9] = [
 ];
 
 /// A structure that extends itself or a later one.
-pub const LOOP: [(u8, &str, &str); 3] = [
+pub const LOOP: [Row; 3] = [
     // 20 + 16 + 20 bytes to `A`
     (1, "structure Head{}structure A extends A{}", "spec 5 56"),
     // 20 + 16 + 20 bytes to `B`
@@ -335,7 +335,7 @@ pub const LOOP: [(u8, &str, &str); 3] = [
 ];
 
 /// Pools or structures that disagree.
-pub const MISMATCH: [(u8, &str, &str); 11] = [
+pub const MISMATCH: [Row; 11] = [
     // 20 + 16 + 13 + 13 + 38 bytes to `set`
     (
         1,
@@ -404,7 +404,7 @@ pub const MISMATCH: [(u8, &str, &str); 11] = [
 ];
 
 /// A width of bits that is none, or a constant that doesn't fit its field.
-pub const WIDTH: [(u8, &str, &str); 9] = [
+pub const WIDTH: [Row; 9] = [
     // 20 + 15 + 5 bytes to `0`
     (1, "structure Head{bits 0 a;}", "spec 10 40"),
     // 20 + 15 + 5 bytes to `33`
@@ -432,44 +432,44 @@ pub const WIDTH: [(u8, &str, &str); 9] = [
 ];
 
 /// Several faults: the least place is told, and the least condition there.
-pub const SEVERAL: [(u8, &str, &str); 9] = [
-    // 20 + 15 + 9 + 3 bytes to `a`
+pub const SEVERAL: [Row; 9] = [
+    // 20 + 15 + 9 + 3 bytes to `a`: kinds 1 and 3 here
     (1, "structure Head{bits 3 a;u8 a;}", "spec 1 47"),
-    // 20 + 16 + 12 + 5 + 9 bytes to `a`
+    // 20 + 16 + 12 + 5 + 9 bytes to `a`: kinds 1 and 4 here
     (
         1,
         "structure Head{}structure A{u8 a;fixed u8 a;}",
         "spec 1 62",
     ),
-    // 20 + 16 + 12 + 9 + 9 bytes to `b`
+    // 20 + 16 + 12 + 9 + 9 bytes to `b`: kinds 3 and 4 here
     (
         1,
         "structure Head{}structure A{bits 3 a;fixed u8 b;}",
         "spec 3 66",
     ),
-    // 20 + 23 bytes to `Head`
+    // 20 + 23 bytes to `Head`: kinds 2 and 5 here
     (1, "structure Head extends Head{}", "spec 2 43"),
-    // 20 + 15 + 5 bytes to `0`
+    // 20 + 15 + 5 bytes to `0`: kind 10 here, 1 behind it
     (1, "structure Head{bits 0 a;u8 a;}", "spec 10 40"),
-    // 20 + 16 + 20 bytes to `B`
+    // 20 + 16 + 20 bytes to `B`: kind 5 here, 1 behind it
     (
         1,
         "structure Head{}structure A extends B{u8 a;u8 a;}structure B{}",
         "spec 5 56",
     ),
-    // 20 + 16 + 13 + 38 + 38 + 11 bytes to `fresh`
+    // 20 + 16 + 13 + 38 + 38 + 11 bytes to `fresh`: kind 7 here, 1 behind it
     (
         1,
         "structure Head{}structure R{}pool p:R[1]at 0 codes 0 step 1 none 9;pool q:R[1]at 0 codes 0 step 1 none 9;set B of q;fresh p avoid B;fresh p avoid B;",
         "spec 7 136",
     ),
-    // 20 + 16 + 13 + 13 + 38 + 11 bytes to `set`
+    // 20 + 16 + 13 + 13 + 38 + 11 bytes to `set`: kind 7 here, 1 behind it
     (
         1,
         "structure Head{}structure R{}structure S{}pool p:R[1]at 0 codes 0 step 1 none 9;set A of p;set A of p as S;",
         "spec 7 111",
     ),
-    // 20 + 16 + 12 + 5 bytes to `n`
+    // 20 + 16 + 12 + 5 bytes to `n`: kind 2 here, 2 behind it
     (1, "structure Head{}structure A{u8 a[n]->p;}", "spec 2 53"),
 ];
 

@@ -3,7 +3,7 @@ use Rattle.std.proofs.Common.{◌≡◌, ◌⊎◌, ◌≤◌, ◌<◌, ◌+◌,
 use Rattle.std.proofs.lemmas.Bool.{cases_lt}
 use Rattle.std.proofs.lemmas.List.{append-nil, drop_all, length-take}
 use Rattle.std.proofs.lemmas.Slice.{between_to_end, drop-put_mid, take-put_mid_below}
-use Rattle.std.specs.Int.{bit_at, div_ceil}
+use Rattle.std.specs.Int.{bit_at}
 use Rattle.std.specs.Prelude.{slice_index}
 use borrow.Rule.Slice.PartMut.{put_mid}
 use Rattle.byteorder.proofs.Bytes.{pow256}
@@ -57,7 +57,7 @@ module _ (first n number : ℕ) (xs ys : List ℕ) (inside : first + n ≤ lengt
 
 -- a value was written into the range of bits, by n bytes from the range's first
 module _ (bit width value n number : ℕ) (xs : List ℕ) (few : width ≤ 32) (within : bit + width ≤ 8 * length xs) (fits : value < 2 ^ width)
-    (count : n ≡ div_ceil (bit % 8 + width) 8) (small : (q : ℕ) → slice_index xs q < 256) (read : number ≡ little_number n (take (length xs - bit / 8) (drop (bit / 8) xs))) where
+    (enough : bit % 8 + width ≤ 8 * n) (most : n ≤ 8) (inside : bit / 8 + n ≤ length xs) (small : (q : ℕ) → slice_index xs q < 256) (read : number ≡ little_number n (take (length xs - bit / 8) (drop (bit / 8) xs))) where
   abbrev changed : ℕ
   changed = with_value number value (bit % 8) width
 

@@ -1,20 +1,62 @@
 // Ranges of bits, by whole bytes and masks.
-ghost use Rattle.std.specs.Prelude.{◌≡◌, ◌≤◌, ◌<◌, ◌+◌, ◌*◌, ◌^◌, length};
+ghost use Rattle.byteorder.specs.Endian.{little_bytes, little_number};
+ghost use Rattle.std.specs.Prelude.{◌≡◌, ◌≤◌, ◌<◌, ◌+◌, ◌*◌, ◌^◌, ◌++◌, drop, length};
 ghost use Rattle.dsr_meaning.specs.Cells.{bits_value};
 ghost use Rattle.dsr_image.specs.Images.{OthersStay};
 
 use byteorder::{ByteOrder, LittleEndian};
+
+// How many bytes are read and written for the bits in some: eight where there are eight, since that
+// is one load and one store, and those some near the end of the bytes.
+fn reach(count: usize, behind: usize) -> usize
+    requires few { count ≤ 8 }
+    requires there { count ≤ behind }
+    ensures enough { count ≤ result }
+    ensures few { result ≤ 8 }
+    ensures there { result ≤ behind }
+{
+    if behind >= 8 { 8 } else { count }
+}
+
+// The number of the first bytes.
+fn read_bytes(bytes: &[u8], count: usize) -> u64
+    requires some { 1 ≤ count }
+    requires few { count ≤ 8 }
+    requires there { count ≤ length bytes.now }
+    ensures { result ≡ little_number count bytes.now }
+{
+    if count == 8 {
+        LittleEndian::read_u64(bytes)
+    } else {
+        LittleEndian::read_uint(bytes, count)
+    }
+}
+
+fn write_bytes(bytes: &mut [u8], number: u64, count: usize)
+    requires some { 1 ≤ count }
+    requires few { count ≤ 8 }
+    requires there { count ≤ length bytes.old }
+    requires fits { number < 256 ^ count }
+    ensures { bytes.new ≡ little_bytes count number ++ drop count bytes.old }
+{
+    if count == 8 {
+        LittleEndian::write_u64(bytes, number);
+    } else {
+        LittleEndian::write_uint(bytes, number, count);
+    }
+}
 
 /// The number of so many bits from a bit on, the first of them the least.
 pub fn get_bits(bytes: &[u8], bit: usize, width: u32) -> u64
     requires some { 1 ≤ width }
     requires few { width ≤ 32 }
     requires within { bit + width ≤ 8 * length bytes.now }
-    ensures { result ≡ bits_value bytes.now bit width }
+    ensures value { result ≡ bits_value bytes.now bit width }
+    ensures fits { result < 2 ^ width }
 {
     let (first, shift) = (bit / 8, (bit % 8) as u32);
-    let count = (shift + width).div_ceil(8) as usize;
-    let number = LittleEndian::read_uint(&bytes[first..], count);
+    let count = reach((shift + width).div_ceil(8) as usize, bytes.len() - first);
+    let number = read_bytes(&bytes[first..], count);
     number >> shift & ((1 << width) - 1)
 }
 
@@ -29,9 +71,9 @@ pub fn put_bits(bytes: &mut [u8], bit: usize, width: u32, value: u64)
     ensures others { OthersStay bit width bytes.old bytes.new }
 {
     let (first, shift) = (bit / 8, (bit % 8) as u32);
-    let count = (shift + width).div_ceil(8) as usize;
+    let count = reach((shift + width).div_ceil(8) as usize, bytes.len() - first);
     let mask = ((1 << width) - 1) << shift;
-    let number = LittleEndian::read_uint(&bytes[first..], count);
+    let number = read_bytes(&bytes[first..], count);
     let changed = number & !mask | value << shift;
-    LittleEndian::write_uint(&mut bytes[first..first + count], changed, count);
+    write_bytes(&mut bytes[first..first + count], changed, count);
 }

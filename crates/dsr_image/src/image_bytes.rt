@@ -24,7 +24,8 @@ pub trait ImageBytes {
     /// The value of a cell of the image.
     fn get(&self, cell: &Cell) -> u64
         requires { IsCellOf (bytes self.now) cell.now }
-        ensures { result ≡ cell_value (bytes self.now) cell.now };
+        ensures value { result ≡ cell_value (bytes self.now) cell.now }
+        ensures fits { result < 2 ^ cell.now.width };
 
     /// Makes room to write so many bytes from a place on, or answers `NoMemory`.
     fn claim(&mut self, at: u64, count: u64) -> Result<(), NoMemory>

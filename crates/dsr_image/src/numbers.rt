@@ -11,7 +11,8 @@ use dsr_ir::Order;
 pub fn get_number(bytes: &[u8], at: usize, width: u8, order: Order) -> u64
     requires form { IsByteWidth width }
     requires within { at + width / 8 ≤ length bytes.now }
-    ensures { result ≡ bytes_value order bytes.now at (width / 8) }
+    ensures value { result ≡ bytes_value order bytes.now at (width / 8) }
+    ensures fits { result < 2 ^ width }
 {
     match order {
         Order::Little => get_little(bytes, at, width),
@@ -22,7 +23,8 @@ pub fn get_number(bytes: &[u8], at: usize, width: u8, order: Order) -> u64
 fn get_little(bytes: &[u8], at: usize, width: u8) -> u64
     requires form { IsByteWidth width }
     requires within { at + width / 8 ≤ length bytes.now }
-    ensures { result ≡ bytes_value Order.Little bytes.now at (width / 8) }
+    ensures value { result ≡ bytes_value Order.Little bytes.now at (width / 8) }
+    ensures fits { result < 2 ^ width }
 {
     match width {
         8 => u64::from(bytes[at]),
@@ -35,7 +37,8 @@ fn get_little(bytes: &[u8], at: usize, width: u8) -> u64
 fn get_big(bytes: &[u8], at: usize, width: u8) -> u64
     requires form { IsByteWidth width }
     requires within { at + width / 8 ≤ length bytes.now }
-    ensures { result ≡ bytes_value Order.Big bytes.now at (width / 8) }
+    ensures value { result ≡ bytes_value Order.Big bytes.now at (width / 8) }
+    ensures fits { result < 2 ^ width }
 {
     match width {
         8 => u64::from(bytes[at]),

@@ -41,7 +41,8 @@ impl Whole {
 
 fn get_cell(bytes: &[u8], cell: &Cell) -> u64
     requires { IsCellOf bytes.now cell.now }
-    ensures { result ≡ cell_value bytes.now cell.now }
+    ensures value { result ≡ cell_value bytes.now cell.now }
+    ensures fits { result < 2 ^ cell.now.width }
 {
     let bit = cell.bit as usize;
     if cell.bytewise {

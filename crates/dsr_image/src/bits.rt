@@ -6,8 +6,8 @@ ghost use Rattle.dsr_image.specs.Images.{OthersStay};
 
 use byteorder::{ByteOrder, LittleEndian};
 
-// How many bytes are read and written for the bits in some: eight where there are eight, since that
-// is one load and one store, and those some near the end of the bytes.
+// How many bytes are read and written for bits that lie in `count` of them: eight where so many are
+// left, since that is one load and one store, and else no more than needed.
 fn reach(count: usize, behind: usize) -> usize
     requires few { count ≤ 8 }
     requires there { count ≤ behind }

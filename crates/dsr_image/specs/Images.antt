@@ -1,20 +1,7 @@
--- Which cells an image has, and what a write to one of them does.
-use Rattle.std.specs.Prelude.{◌≡◌, ◌⊎◌, ◌≤◌, ◌<◌, ◌+◌, ◌*◌, ◌/◌, ◌%◌, ℕ, Bool, true, List, length, MatchBool}
+-- What a write to a cell of an image does, and what is claimed.
+use Rattle.std.specs.Prelude.{◌≡◌, ◌⊎◌, ◌≤◌, ◌<◌, ◌+◌, ◌/◌, ℕ, Bool, true, List, length}
 use Rattle.dsr_ir.specs.declared.layouts.Cell.{Cell}
 use Rattle.dsr_meaning.specs.Cells.{bit_of, cell_value}
-
--- 8, 16, 32 or 64 bits
-abbrev pub IsByteWidth : ℕ → Type 0
-IsByteWidth width = (width ≡ 8) ⊎ ((width ≡ 16) ⊎ ((width ≡ 32) ⊎ (width ≡ 64)))
-
--- the cell is one that a field may have: whole bytes from a byte on, or 1 to 32 bits
-abbrev pub IsFieldCell : Cell → Type 0
-IsFieldCell cell = MatchBool cell.bytewise (IsByteWidth cell.width × (cell.bit % 8 ≡ 0)) ((1 ≤ cell.width) × (cell.width ≤ 32))
-
--- the cell is such a one, and lies in the image
-pub record IsCellOf (bytes : List ℕ) (cell : Cell) : Type 0 where
-  pub form : IsFieldCell cell
-  pub within : cell.bit + cell.width ≤ 8 * length bytes
 
 -- every bit outside of a range stays
 abbrev pub OthersStay : ℕ → ℕ → List ℕ → List ℕ → Type 0

@@ -5,8 +5,8 @@ use dsr_ir::{Cell, NoMemory};
 /// claimed: whether there is room to write it.
 pub trait ImageBytes {
     ghost use Rattle.std.specs.Prelude.{◌≡◌, ◌≤◌, ◌<◌, ◌+◌, ◌^◌, ℕ, List, Bool, length, slice_index, OnOk};
-    ghost use Rattle.dsr_meaning.specs.Cells.{cell_value};
-    ghost use Rattle.dsr_image.specs.Images.{IsCellOf, Puts, AreClaimed, IsCellClaimed, StayClaimed};
+    ghost use Rattle.dsr_meaning.specs.Cells.{IsCellOf, cell_value};
+    ghost use Rattle.dsr_image.specs.Images.{Puts, AreClaimed, IsCellClaimed, StayClaimed};
 
     ghost bytes: { Self → List ℕ };
 

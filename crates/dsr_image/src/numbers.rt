@@ -1,8 +1,8 @@
 // Numbers of whole bytes, in either order.
 ghost use Rattle.std.specs.Prelude.{◌≡◌, ◌≤◌, ◌<◌, ◌+◌, ◌*◌, ◌/◌, ◌^◌, length};
 ghost use Rattle.dsr_ir.specs.declared.declarations.Order.{Order};
-ghost use Rattle.dsr_meaning.specs.Cells.{bytes_value};
-ghost use Rattle.dsr_image.specs.Images.{IsByteWidth, OthersStay};
+ghost use Rattle.dsr_meaning.specs.Cells.{IsByteWidth, bytes_value};
+ghost use Rattle.dsr_image.specs.Images.{OthersStay};
 
 use byteorder::{BigEndian, ByteOrder, LittleEndian};
 use dsr_ir::Order;

@@ -1,7 +1,7 @@
 // An image that is held whole.
 ghost use Rattle.std.specs.Prelude.{◌≡◌, ◌<◌, ◌^◌, IsOk};
-ghost use Rattle.dsr_meaning.specs.Cells.{cell_value};
-ghost use Rattle.dsr_image.specs.Images.{IsCellOf, Puts};
+ghost use Rattle.dsr_meaning.specs.Cells.{IsCellOf, cell_value};
+ghost use Rattle.dsr_image.specs.Images.{Puts};
 
 use crate::ImageBytes;
 use crate::bits::{get_bits, put_bits};

@@ -4,7 +4,7 @@
 #![tactic(auto)]
 
 ghost use Rattle.std.specs.Prelude.{◌≡◌, ◌≤◌, ◌^◌, length, IfOk, MatchBool};
-ghost use Rattle.dsr_image.specs.Images.{IsByteWidth};
+ghost use Rattle.dsr_meaning.specs.Cells.{IsByteWidth};
 
 use dsr_image::{ImageBytes, Whole};
 use dsr_ir::{Cell, Order};

@@ -1,5 +1,5 @@
 -- The cells of an image and their values.
-use Rattle.std.specs.Prelude.{ℕ, zero, suc, ◌+◌, ◌*◌, ◌/◌, ◌%◌, ◌^◌, List, Bool, true, false, Option, slice_index, if◌then◌else◌}
+use Rattle.std.specs.Prelude.{◌≡◌, ◌≤◌, ◌⊎◌, ℕ, zero, suc, ◌+◌, ◌*◌, ◌/◌, ◌%◌, ◌^◌, List, Bool, true, false, Option, length, slice_index, MatchBool, if◌then◌else◌}
 use Rattle.std.specs.Option.{option_map, option_map_or}
 use Rattle.dsr_ir.specs.Layouts.{pool_numbers, field_place}
 use Rattle.dsr_ir.specs.declared.declarations.FieldRef.{FieldRef}
@@ -30,6 +30,19 @@ bytes_value Big bytes at (suc count) = slice_index bytes at * 256 ^ count + byte
 -- the value of a cell
 abbrev pub cell_value : List ℕ → Cell → ℕ
 cell_value bytes cell = if cell.bytewise then bytes_value cell.order bytes (cell.bit / 8) (cell.width / 8) else bits_value bytes cell.bit cell.width
+
+-- 8, 16, 32 or 64 bits
+abbrev pub IsByteWidth : ℕ → Type 0
+IsByteWidth width = (width ≡ 8) ⊎ ((width ≡ 16) ⊎ ((width ≡ 32) ⊎ (width ≡ 64)))
+
+-- the cell is one that a field may have: whole bytes from a byte on, or 1 to 32 bits
+abbrev pub IsFieldCell : Cell → Type 0
+IsFieldCell cell = MatchBool cell.bytewise (IsByteWidth cell.width × (cell.bit % 8 ≡ 0)) ((1 ≤ cell.width) × (cell.width ≤ 32))
+
+-- the cell is such a one, and lies in the image
+pub record IsCellOf (bytes : List ℕ) (cell : Cell) : Type 0 where
+  pub form : IsFieldCell cell
+  pub within : cell.bit + cell.width ≤ 8 * length bytes
 
 -- the bits of an entry
 abbrev pub width_bits : Width → ℕ

@@ -2,7 +2,7 @@
 use Rattle.std.specs.Prelude.{ℕ, zero, suc, ◌+◌, ◌*◌, ◌^◌, min, max, Bool, true, false, not, ◌&&◌, ◌||◌, nat_eq, nat_lt, List, [], ◌∷◌, ◌++◌, map, length, sum, Option, None, Some, is_none, unwrap_or, slice_get, if◌then◌else◌}
 use Rattle.std.specs.Option.{option_map_or}
 use Rattle.dsr_ir.specs.Layouts.{pool_numbers, field_place}
-use Rattle.dsr_ir.specs.Shapes.{FieldShape, StructuresShape, structures_shape}
+use Rattle.dsr_ir.specs.Shapes.{FieldShape, StructureShape, PoolShape, StructuresShape, structures_shape}
 use Rattle.dsr_ir.specs.declared.constraints.Atom.{Atom}
 use Rattle.dsr_ir.specs.declared.constraints.Atom.TheVariants.{Value}
 use Rattle.dsr_ir.specs.declared.constraints.Bound.TheVariants.{Size}
@@ -54,11 +54,13 @@ refused_when false r = []
 abbrev pub ends_behind : ℕ → ℕ → ℕ → Bool
 ends_behind bytes bit width = nat_lt (8 * bytes) (bit + width)
 
--- by the cells of the fixed fields and the sizes of structures, as in what follows
-abbrev pub short_refusals : (ℕ → Option Cell) → (ℕ → Option ℕ) → StructuresShape → ℕ → List Refusal
-short_refusals cell size base bytes =
-    each_at (λ k _. refused_when (option_map_or (λ c. ends_behind bytes c.bit c.width) (cell k) false) Short) 0 (head_fields base)
-    ++ refused_when (option_map_or (ends_behind bytes 0) (size base.head) false) Short
+-- by the cells of the fixed fields
+abbrev pub cut_refusals : (ℕ → Option Cell) → List FieldShape → ℕ → List Refusal
+cut_refusals cell fields bytes = each_at (λ k _. refused_when (option_map_or (λ c. ends_behind bytes c.bit c.width) (cell k) false) Short) 0 fields
+
+-- by the sizes of structures in bits
+abbrev pub head_refusals : (ℕ → Option ℕ) → ℕ → ℕ → List Refusal
+head_refusals size head bytes = refused_when (option_map_or (ends_behind bytes 0) (size head) false) Short
 
 -- ---- 2: an expression, a structure's size in bits, the end of a pool or its last code has no value
 
@@ -66,10 +68,11 @@ short_refusals cell size base bytes =
 abbrev pub is_computable : PoolNumbers → Bool
 is_computable n = nat_lt (pool_end n) (2 ^ 64) && (nat_eq n.count 0 || nat_lt (last_code n) (2 ^ 64))
 
-abbrev pub arith_refusals : (ℕ → Option ℕ) → (ℕ → Option ℕ) → StructuresShape → List Refusal
-arith_refusals fixed size base =
-    each_at (λ i _. refused_when (is_none (size i)) Arith) 0 base.structures
-    ++ each_at (λ _ p. refused_when (not (option_map_or is_computable (pool_of fixed size p) false)) Arith) 1 base.pools
+abbrev pub size_refusals : (ℕ → Option ℕ) → List StructureShape → List Refusal
+size_refusals size structures = each_at (λ i _. refused_when (is_none (size i)) Arith) 0 structures
+
+abbrev pub value_refusals : (ℕ → Option ℕ) → (ℕ → Option ℕ) → List PoolShape → List Refusal
+value_refusals fixed size pools = each_at (λ _ p. refused_when (not (option_map_or is_computable (pool_of fixed size p) false)) Arith) 1 pools
 
 -- ---- 3: a pool ends behind the image
 
@@ -90,16 +93,16 @@ share_byte a b = nat_lt (max a.first b.first) (min a.behind b.behind)
 abbrev pub pool_range : PoolNumbers → ByteRange
 pool_range n = record { first = n.start; behind = pool_end n }
 
-abbrev pub head_range : (ℕ → Option ℕ) → StructuresShape → ByteRange
-head_range size base = record { first = 0; behind = unwrap_or (bytes_of size base.head) 0 }
+abbrev pub head_range : (ℕ → Option ℕ) → ℕ → ByteRange
+head_range size head = record { first = 0; behind = unwrap_or (bytes_of size head) 0 }
 
 -- those of each range with the later ones
 abbrev pub overlaps : ℕ → List ByteRange → List Refusal
 overlaps p [] = []
 overlaps p (r ∷ rs) = each_at (λ q s. refused_when (share_byte r s) (Overlap p q)) (suc p) rs ++ overlaps (suc p) rs
 
-abbrev pub overlap_refusals : (ℕ → Option ℕ) → StructuresShape → Layout → List Refusal
-overlap_refusals size base layout = overlaps 0 (head_range size base ∷ map pool_range layout.pools)
+abbrev pub overlap_refusals : (ℕ → Option ℕ) → ℕ → Layout → List Refusal
+overlap_refusals size head layout = overlaps 0 (head_range size head ∷ map pool_range layout.pools)
 
 -- ---- 5: the structure of a pool, or of a set of the pool, is larger than a slot
 
@@ -115,8 +118,8 @@ view_refusals size layout pool structure = refused_when (is_larger size layout p
 abbrev pub set_refusals : (ℕ → Option ℕ) → Layout → ℕ → List SetDecl → List Refusal
 set_refusals size layout pool sets = each_at (λ _ s. if nat_eq s.pool pool then view_refusals size layout pool s.structure else []) 0 sets
 
-abbrev pub subtype_refusals : (ℕ → Option ℕ) → StructuresShape → Layout → List Refusal
-subtype_refusals size base layout = each_at (λ p d. view_refusals size layout p d.structure ++ set_refusals size layout p base.sets) 1 base.pools
+abbrev pub subtype_refusals : (ℕ → Option ℕ) → List SetDecl → List PoolShape → Layout → List Refusal
+subtype_refusals size sets pools layout = each_at (λ p d. view_refusals size layout p d.structure ++ set_refusals size layout p sets) 1 pools
 
 -- ---- 6: a step or a slot of 0
 
@@ -145,8 +148,8 @@ abbrev pub reference_refusals : Layout → ℕ → ℕ → FieldShape → List R
 reference_refusals layout i k f =
     option_map_or (λ p. option_map_or (λ n. refused_when (not (codes_fit (width_bits f.width) n)) (CodeTooWide p i k)) (pool_numbers layout p) []) (kind_pool f.kind) []
 
-abbrev pub code_refusals : StructuresShape → Layout → List Refusal
-code_refusals base layout = each_at (λ i s. each_at (reference_refusals layout i) 0 s.fields) 0 base.structures
+abbrev pub code_refusals : List StructureShape → Layout → List Refusal
+code_refusals structures layout = each_at (λ i s. each_at (reference_refusals layout i) 0 s.fields) 0 structures
 
 -- ---- 9: a count with which values are compared may not fit a field that gives such a value
 
@@ -234,19 +237,21 @@ instance_refusals spec layout = refused_when (nat_lt (instance_limit spec.base.v
 abbrev pub layout_refusals : (ℕ → Option ℕ) → Spec → StructuresShape → Layout → List Refusal
 layout_refusals size spec base layout =
     outside_refusals layout
-    ++ (overlap_refusals size base layout
-    ++ (subtype_refusals size base layout
+    ++ (overlap_refusals size base.head layout
+    ++ (subtype_refusals size base.sets base.pools layout
     ++ (zero_refusals layout
     ++ (none_refusals layout
-    ++ (code_refusals base layout
+    ++ (code_refusals base.structures layout
     ++ (count_refusals spec layout
     ++ instance_refusals spec layout))))))
 
 abbrev pub refusals_with : (ℕ → Option ℕ) → (ℕ → Option ℕ) → Spec → StructuresShape → ℕ → List Refusal
 refusals_with fixed size spec base bytes =
-    short_refusals (fixed_cell base) size base bytes
-    ++ (arith_refusals fixed size base
-    ++ option_map_or (layout_refusals size spec base) (layout_with fixed base bytes) [])
+    cut_refusals (fixed_cell base) (head_fields base) bytes
+    ++ (head_refusals size base.head bytes
+    ++ (size_refusals size base.structures
+    ++ (value_refusals fixed size base.pools
+    ++ option_map_or (layout_refusals size spec base) (layout_with fixed base bytes) [])))
 
 abbrev pub refusals_by : (ℕ → Option ℕ) → Spec → StructuresShape → ℕ → List Refusal
 refusals_by fixed spec base bytes = refusals_with fixed (size_of fixed base.structures) spec base bytes

@@ -1,0 +1,9 @@
+pub mod Checks
+pub mod Counts
+pub mod Ends
+pub mod FixedCells
+pub mod Pools
+pub mod Ranges
+pub mod References
+pub mod Tables
+pub mod Telling

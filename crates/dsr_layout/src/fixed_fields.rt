@@ -1,0 +1,159 @@
+// The fixed fields of `Head`: their cells and values.
+ghost use Rattle.std.specs.Prelude.{◌≡◌, ◌≤◌, ℕ, [], All, IfSome, IfOk, IfErr, length, map, option_map};
+ghost use Rattle.dsr_ir.specs.Shapes.{field_shape, structures_shape};
+ghost use Rattle.dsr_meaning.specs.Cells.{cell_value, is_bytewise};
+ghost use Rattle.dsr_meaning.specs.FixedFields.{fixed_cell, fixed_value, head_fields};
+ghost use Rattle.dsr_meaning.specs.Refusals.{cut_refusals, ends_behind};
+ghost use Rattle.dsr_meaning.specs.Typed.{AreTyped};
+ghost use Rattle.dsr_layout.specs.FixedCells.{cell_from, clipped_cell, next_bit, IsReadable};
+ghost use Rattle.dsr_layout.specs.Tables.{known, clip_cell};
+ghost use Rattle.dsr_layout.specs.Telling.{told_of, Tells};
+
+use crate::faults::LayoutFault;
+use crate::places::{bit_behind_fields, ends, start_in, width_bits};
+use dsr_ir::{Cell, Field, NoMemory, Order, Structures, Width};
+use dsr_meaning::value_of_cell;
+use std::alloc::Global;
+use std::slice;
+
+/// Whether an entry is read byte by byte.
+pub fn is_bytewise(width: Width) -> bool
+    ensures { result ≡ is_bytewise width }
+{
+    !matches!(width, Width::Bits(_))
+}
+
+// The fields that `Head` itself declares.
+fn head_fields(base: &Structures) -> &[Field]
+    ensures { map field_shape result.now ≡ head_fields (structures_shape base.now) }
+{
+    match base.structures.items().get(base.head as usize) {
+        Some(head) => head.fields.items(),
+        None => &[],
+    }
+}
+
+// The cell of a field that begins at a bit, where it is a fixed one.
+fn cell_from(order: Order, bit: Option<u64>, field: &Field) -> Option<Cell>
+    ensures { result ≡ cell_from order bit (field_shape field.now) }
+{
+    if !field.fixed || field.len.is_some() {
+        return None;
+    }
+    Some(Cell {
+        bit: bit?,
+        width: width_bits(field.width) as u8,
+        bytewise: is_bytewise(field.width),
+        order,
+    })
+}
+
+// The bit behind a field, where its length is a number.
+fn next_bit(bit: Option<u64>, field: &Field) -> Option<u64>
+    ensures { result ≡ next_bit bit (field_shape field.now) }
+{
+    bit_behind_fields(&[], bit?, slice::from_ref(field))
+}
+
+// The cells of the fixed fields among fields that follow each other from a bit on.
+fn cells_from(
+    alloc: Global,
+    order: Order,
+    start: Option<u64>,
+    fields: &[Field],
+) -> Result<Vec<Option<Cell>>, NoMemory>
+    ensures { IfOk result (λ cells. (k : ℕ) → known cells.items k ≡ clipped_cell order start (map field_shape fields.now) k) }
+{
+    let mut cells = Vec::new(alloc);
+    let mut bit = start;
+    for field in fields {
+        cells.push(cell_from(order, bit, field))?;
+        bit = next_bit(bit, field);
+    }
+    Ok(cells)
+}
+
+// The cells of the fixed fields, by their numbers among the fields of `Head`.
+fn fixed_cells(alloc: Global, base: &Structures) -> Result<Vec<Option<Cell>>, NoMemory>
+    ensures { IfOk result (λ cells. (k : ℕ) → known cells.items k ≡ option_map clip_cell (fixed_cell (structures_shape base.now) k)) }
+{
+    let structures = base.structures.items();
+    let ends = ends(alloc, &[], structures)?;
+    match structures.get(base.head as usize) {
+        Some(head) => {
+            let start = start_in(&ends, base.head as usize, head.parent);
+            cells_from(alloc, base.order, start, head.fields.items())
+        }
+        None => Ok(Vec::new(alloc)),
+    }
+}
+
+// Whether the image ends before a cell does.
+fn is_cut(cell: &Cell, length: u64) -> bool
+    requires image { length ≤ 67108864 }
+    ensures { result ≡ ends_behind length cell.now.bit cell.now.width }
+{
+    8 * length < cell.bit.saturating_add(u64::from(cell.width))
+}
+
+// `Short` where the image ends before a fixed field does.
+fn cut(cells: &[Option<Cell>], fields: &[Field], length: u64) -> Option<LayoutFault>
+    requires image { length ≤ 67108864 }
+    ensures { result ≡ told_of (cut_refusals (known cells.now) (map field_shape fields.now) length) }
+{
+    for (number, _) in fields.iter().enumerate() {
+        if let Some(Some(cell)) = cells.get(number) {
+            if is_cut(cell, length) {
+                return Some(LayoutFault::Short);
+            }
+        }
+    }
+    None
+}
+
+fn value_in(bytes: &[u8], cell: &Option<Cell>) -> Option<u64>
+    requires image { length bytes.now ≤ 67108864 }
+    requires readable { IfSome cell.now (IsReadable (length bytes.now)) }
+    ensures { result ≡ option_map (cell_value bytes.now) cell.now }
+{
+    match cell {
+        Some(cell) => Some(value_of_cell(bytes, cell)),
+        None => None,
+    }
+}
+
+fn values_in(
+    alloc: Global,
+    bytes: &[u8],
+    cells: &[Option<Cell>],
+) -> Result<Vec<Option<u64>>, NoMemory>
+    requires image { length bytes.now ≤ 67108864 }
+    requires readable { All (λ c. IfSome c (IsReadable (length bytes.now))) cells.now }
+    ensures { IfOk result (λ values. values.items ≡ map (option_map (cell_value bytes.now)) cells.now) }
+{
+    let mut values = Vec::new(alloc);
+    for cell in cells {
+        values.push(value_in(bytes, cell))?;
+    }
+    Ok(values)
+}
+
+/// The values of the fixed fields, by their numbers among the fields of `Head`; `Short` where the
+/// image ends before one of them does.
+pub fn fixed_values(
+    alloc: Global,
+    base: &Structures,
+    bytes: &[u8],
+) -> Result<Vec<Option<u64>>, LayoutFault>
+    requires typed { AreTyped (structures_shape base.now) }
+    requires image { length bytes.now ≤ 67108864 }
+    ensures values { IfOk result (λ values. (k : ℕ) → known values.items k ≡ fixed_value (structures_shape base.now) bytes.now k) }
+    ensures uncut { IfOk result (λ _. cut_refusals (fixed_cell (structures_shape base.now)) (head_fields (structures_shape base.now)) (length bytes.now) ≡ []) }
+    ensures refused { IfErr result (Tells (cut_refusals (fixed_cell (structures_shape base.now)) (head_fields (structures_shape base.now)) (length bytes.now))) }
+{
+    let cells = fixed_cells(alloc, base)?;
+    if let Some(fault) = cut(&cells, head_fields(base), bytes.len() as u64) {
+        return Err(fault);
+    }
+    Ok(values_in(alloc, bytes, &cells)?)
+}

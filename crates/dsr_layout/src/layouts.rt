@@ -1,0 +1,133 @@
+// The layout of a specification on an image.
+ghost use Rattle.std.specs.Prelude.{◌≡◌, ◌≤◌, [], All, IfOk, IfErr, Some, length};
+ghost use Rattle.dsr_ir.specs.Shapes.{structures_shape};
+ghost use Rattle.dsr_meaning.specs.Layouts.{layout_of};
+ghost use Rattle.dsr_meaning.specs.Legal.{IsLegalLayout};
+ghost use Rattle.dsr_meaning.specs.Refusals as meaning;
+ghost use Rattle.dsr_meaning.specs.Refusals.{refusals, layout_refusals};
+ghost use Rattle.dsr_meaning.specs.Typed.{IsTyped};
+ghost use Rattle.dsr_layout.specs.Checks.{place_refusals, number_refusals};
+ghost use Rattle.dsr_layout.specs.Pools.{IsComputable, HasStep};
+ghost use Rattle.dsr_layout.specs.Tables.{size_in};
+ghost use Rattle.dsr_layout.specs.Telling.{told_of, Tells};
+
+use crate::code_checks::code_too_wide;
+use crate::count_checks::count_too_wide;
+use crate::faults::LayoutFault;
+use crate::fixed_fields::fixed_values;
+use crate::instances::too_many_instances;
+use crate::places::{ends, places, size_in};
+use crate::pool_checks::{none_is_code, outside, overlap, subtype, zero};
+use crate::pools::pools_of;
+use dsr_ir::{Layout, NoMemory, Seq, Spec, Structures};
+use std::alloc::Global;
+
+// `Short` where the image ends before the head does.
+fn short_head(ends: &[Option<u64>], head: u32, length: u64) -> Option<LayoutFault>
+    requires image { length ≤ 67108864 }
+    ensures { result ≡ told_of (meaning.head_refusals (size_in ends.now) head length) }
+{
+    if 8 * length < size_in(ends, head)? {
+        Some(LayoutFault::Short)
+    } else {
+        None
+    }
+}
+
+// The first reason to refuse where pools lie.
+fn place_fault(
+    alloc: Global,
+    base: &Structures,
+    ends: &[Option<u64>],
+    layout: &Layout,
+) -> Result<Option<LayoutFault>, NoMemory>
+    requires few { length base.now.pools ≤ 32 }
+    requires few_numbers { length layout.now.pools ≤ 32 }
+    requires computable { All IsComputable layout.now.pools }
+    ensures { IfOk result (λ fault. fault ≡ told_of (place_refusals (size_in ends.now) (structures_shape base.now) layout.now)) }
+{
+    let fault = outside(layout);
+    if fault.is_some() {
+        return Ok(fault);
+    }
+    let fault = overlap(alloc, ends, base.head, layout)?;
+    if fault.is_some() {
+        return Ok(fault);
+    }
+    let fault = subtype(ends, base.sets.items(), base.pools.items(), layout);
+    if fault.is_some() {
+        return Ok(fault);
+    }
+    Ok(zero(layout))
+}
+
+// The first reason to refuse codes and counts.
+fn code_fault(spec: &Spec, layout: &Layout) -> Option<LayoutFault>
+    requires typed { IsTyped spec.now }
+    requires few { length layout.now.pools ≤ 32 }
+    requires computable { All IsComputable layout.now.pools }
+    requires steps { All HasStep layout.now.pools }
+    ensures { result ≡ told_of (number_refusals spec.now (structures_shape spec.now.base) layout.now) }
+{
+    let fault = none_is_code(layout);
+    if fault.is_some() {
+        return fault;
+    }
+    let fault = code_too_wide(layout, spec.base.structures.items());
+    if fault.is_some() {
+        return fault;
+    }
+    let fault = count_too_wide(spec, layout);
+    if fault.is_some() {
+        return fault;
+    }
+    too_many_instances(spec, layout)
+}
+
+// The first reason to refuse a layout whose numbers all have values.
+fn layout_fault(
+    alloc: Global,
+    spec: &Spec,
+    ends: &[Option<u64>],
+    layout: &Layout,
+) -> Result<Option<LayoutFault>, NoMemory>
+    requires typed { IsTyped spec.now }
+    requires few { length layout.now.pools ≤ 32 }
+    requires computable { All IsComputable layout.now.pools }
+    ensures { IfOk result (λ fault. fault ≡ told_of (layout_refusals (size_in ends.now) spec.now (structures_shape spec.now.base) layout.now)) }
+{
+    let fault = place_fault(alloc, &spec.base, ends, layout)?;
+    if fault.is_some() {
+        return Ok(fault);
+    }
+    Ok(code_fault(spec, layout))
+}
+
+/// The layout of a specification on an image: the numbers that its expressions have there. Where
+/// it is refused, the fault is the first of the least kind, by order of declaration.
+pub fn layout(alloc: Global, spec: &Spec, bytes: &[u8]) -> Result<Layout, LayoutFault>
+    requires typed { IsTyped spec.now }
+    requires image { length bytes.now ≤ 67108864 }
+    ensures numbers { IfOk result (λ layout. layout_of (structures_shape spec.now.base) bytes.now ≡ Some layout) }
+    ensures accepted { IfOk result (λ _. refusals spec.now bytes.now ≡ []) }
+    ensures legal { IfOk result IsLegalLayout }
+    ensures refused { IfErr result (Tells (refusals spec.now bytes.now)) }
+{
+    let length = bytes.len() as u64;
+    let base = &spec.base;
+    let fixed = fixed_values(alloc, base, bytes)?;
+    let ends = ends(alloc, &fixed, base.structures.items())?;
+    if let Some(fault) = short_head(&ends, base.head, length) {
+        return Err(fault);
+    }
+    let layout = Layout {
+        length,
+        order: base.order,
+        fields: Seq::new(places(alloc, &fixed, &ends, base.structures.items())?),
+        pools: Seq::new(pools_of(alloc, &fixed, &ends, base.pools.items())?),
+    };
+    match layout_fault(alloc, spec, &ends, &layout)? {
+        Some(fault) => Err(fault),
+        None => Ok(layout),
+    }
+}

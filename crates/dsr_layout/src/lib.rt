@@ -1,0 +1,23 @@
+//! The layout of a specification on an image, or why there is none; codes of slots, and cells of
+//! records. A layout is the concrete view of OOPSLA 2003: where records lie, and what references
+//! to them mean.
+#![tactic(auto)]
+
+mod cells;
+mod code_checks;
+mod count_checks;
+mod faults;
+mod fixed_fields;
+mod instances;
+mod layouts;
+mod lookups;
+mod places;
+mod pool_checks;
+mod pools;
+mod references;
+mod values;
+
+pub use cells::cell;
+pub use faults::LayoutFault;
+pub use layouts::layout;
+pub use references::{Ref, code_of, slot_of};

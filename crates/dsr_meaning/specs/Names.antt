@@ -1,11 +1,12 @@
 -- What the names of a specification stand for.
-use Rattle.std.specs.Prelude.{ℕ, Bool, true, false, ◌&&◌, ◌||◌, nat_eq, nat_lt, List, [], ◌∷◌, ◌++◌, map, length, take, codes, Option, None, Some, is_some, if◌then◌else◌, slice_get, slice_index_or, option_and_then}
+use Rattle.std.specs.Prelude.{ℕ, Bool, true, false, ◌&&◌, ◌||◌, nat_eq, nat_lt, List, [], ◌∷◌, map, length, reverse, take, codes, Option, None, Some, is_some, if◌then◌else◌, slice_get, slice_index_or, option_and_then}
 use Rattle.std.specs.List.{position_from}
 use Rattle.std.specs.Str.{bytes_eq}
 use Rattle.dsr_ir.specs.Trees.{FieldTree, named, skipped, StructureTree, TreeShape}
 use Rattle.dsr_ir.specs.declared.tree.PlacedName.{PlacedName}
 use Rattle.dsr_ir.specs.declared.tree.View.{View}
 use Rattle.dsr_ir.specs.declared.tree.View.TheVariants as views
+use Rattle.dsr_meaning.specs.Faults.{each_at}
 
 -- whether some item of a list passes a test
 abbrev pub any_of : {T : Type 0} → (T → Bool) → List T → Bool
@@ -68,15 +69,19 @@ abbrev pub parent_number : (List ℕ → Option ℕ) → ℕ → Option PlacedNa
 parent_number number i None = None
 parent_number number i (Some q) = if is_head q.name then None else before i (number q.name)
 
--- a structure's parent and the parent's ancestors, where those of the structures before it are known
-abbrev pub lineage : List (List ℕ) → Option ℕ → List ℕ
-lineage earlier None = []
-lineage earlier (Some p) = p ∷ slice_index_or earlier p []
+-- a parent, where there is one, and its ancestors
+abbrev pub with_ancestors : (ℕ → List ℕ) → Option ℕ → List ℕ
+with_ancestors ancestors None = []
+with_ancestors ancestors (Some p) = p ∷ ancestors p
 
--- the ancestors of each structure in order of declaration, the nearest first, behind those of the structures before
-abbrev pub lineages : (List ℕ → Option ℕ) → List (List ℕ) → List StructureTree → List (List ℕ)
-lineages number earlier [] = earlier
-lineages number earlier (s ∷ ss) = lineages number (earlier ++ lineage earlier (parent_number number (length earlier) s.parent) ∷ []) ss
+-- the ancestors of a structure by its number, the nearest first, among structures of which the last declared comes first
+abbrev pub ancestors_in : (List ℕ → Option ℕ) → List StructureTree → ℕ → List ℕ
+ancestors_in number [] i = []
+ancestors_in number (s ∷ earlier) i = if nat_eq i (length earlier) then with_ancestors (ancestors_in number earlier) (parent_number number i s.parent) else ancestors_in number earlier i
+
+-- those of each structure, in order of declaration
+abbrev pub all_ancestors : (List ℕ → Option ℕ) → List StructureTree → List (List ℕ)
+all_ancestors number structures = each_at (λ i _. ancestors_in number (reverse structures) i ∷ []) 0 structures
 
 -- all that conditions on declarations ask of names
 pub record Names : Type 0 where
@@ -96,7 +101,7 @@ asked_structures t = take 65 t.structures
 
 -- what the names of a tree stand for
 abbrev pub names_of : TreeShape → Names
-names_of t = record { tree = t; structure = structure_number t; fields = map field_number t.structures; ancestors = lineages (structure_number t) [] (asked_structures t); fixed = fixed_number t; pool = pool_number t; set = set_number t; relation = relation_number t; supply = supply_number t }
+names_of t = record { tree = t; structure = structure_number t; fields = map field_number t.structures; ancestors = all_ancestors (structure_number t) (asked_structures t); fixed = fixed_number t; pool = pool_number t; set = set_number t; relation = relation_number t; supply = supply_number t }
 
 -- the structure of a name as a parent, a pool's structure or a set's: `Head` is none of these
 abbrev pub used_structure : Names → List ℕ → Option ℕ

@@ -1,3 +1,4 @@
+pub mod Ancestors
 pub mod Bits
 pub mod Counted
 pub mod Empty

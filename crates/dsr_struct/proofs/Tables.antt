@@ -6,7 +6,7 @@ use Rattle.std.specs.List.{position_from}
 use Rattle.std.specs.Str.{bytes_eq}
 use Rattle.dsr_ir.specs.Trees.{pool_shape, structure_shape, tree_shape}
 use Rattle.dsr_ir.specs.declared.tree.Tree.{Tree}
-use Rattle.dsr_meaning.specs.Names.{Names, field_number, fixed_in, lineages, names_of}
+use Rattle.dsr_meaning.specs.Names.{Names, all_ancestors, field_number, fixed_in, names_of}
 use Rattle.dsr_struct.specs.Known.{is_named}
 use Rattle.dsr_struct.proofs.Numbering.{position_map}
 
@@ -15,7 +15,7 @@ pub record AreRight (tree : Tree) (told : Names) : Type 0 where
   pub tree_is : told.tree ≡ tree_shape tree
   pub structures : (q : List ℕ) → told.structure q ≡ position_from (λ s. is_named (Some s.name.name) q) 0 tree.structures
   pub fields : told.fields ≡ map (λ s. field_number (structure_shape s)) tree.structures
-  pub ancestors : told.ancestors ≡ lineages told.structure [] (map structure_shape (take 65 tree.structures))
+  pub ancestors : told.ancestors ≡ all_ancestors told.structure (map structure_shape (take 65 tree.structures))
   pub fixed : (q : List ℕ) → told.fixed q ≡ fixed_in (tree_shape tree) (told.structure (codes "Head")) q
   pub pools : (q : List ℕ) → told.pool q ≡ position_from (λ p. is_named (Some p.name.name) q) 0 tree.pools
   pub sets : (q : List ℕ) → told.set q ≡ position_from (λ s. is_named (Some s.name.name) q) 0 tree.sets
@@ -31,8 +31,8 @@ module _ (tree : Tree) (told : Names) (right : AreRight tree told) where
   ancestors_are : told.ancestors ≡ (names_of (tree_shape tree)).ancestors
   ancestors_are =
       right.ancestors
-      ∙ ap (lineages told.structure []) (sym (take-map structure_shape 65 tree.structures))
-      ∙ ap (λ number. lineages number [] (take 65 (map structure_shape tree.structures))) (λ i q. structure_is q i)
+      ∙ ap (all_ancestors told.structure) (sym (take-map structure_shape 65 tree.structures))
+      ∙ ap (λ number. all_ancestors number (take 65 (map structure_shape tree.structures))) (λ i q. structure_is q i)
 
   -- so the tables tell what the tree's names stand for
   pub tables_tell : told ≡ names_of (tree_shape tree)

@@ -1,10 +1,10 @@
 // Tables of names, from each name to the number of the first item that declares it.
-ghost use Rattle.std.specs.Prelude.{◌≡◌, ◌<◌, ℕ, List, [], map, length, vec_len, codes, IfOk, OnOk};
+ghost use Rattle.std.specs.Prelude.{◌≡◌, ◌<◌, ℕ, List, [], map, length, vec_len, slice_index_or, codes, IfOk, OnOk};
 ghost use Rattle.std.specs.List.{position_from};
 ghost use Rattle.std.specs.Str.{bytes_eq};
 ghost use Rattle.indexmap.specs.IndexMap.{get};
 ghost use Rattle.dsr_ir.specs.Trees.{field_shape, structure_shape, tree_shape};
-ghost use Rattle.dsr_meaning.specs.Names.{has_name, has_fixed_name, field_number, fixed_in, before, is_head, lineage, lineages, parent_number, names_of};
+ghost use Rattle.dsr_meaning.specs.Names.{has_name, has_fixed_name, field_number, fixed_in, before, is_head, with_ancestors, all_ancestors, parent_number, names_of};
 ghost use Rattle.dsr_struct.specs.Known.{is_named, entered, told_by};
 
 use dsr_ir::tree::{Field, Fresh, PlacedName, Pool, Relation, Set, Structure, Tree};
@@ -224,7 +224,7 @@ fn line_of(
     earlier: &[Vec<usize>],
     parent: Option<usize>,
 ) -> Result<Vec<usize>, NoMemory>
-    ensures { IfOk result (λ line. line.items ≡ lineage (map (λ v. v.items) earlier.now) parent) }
+    ensures { IfOk result (λ line. line.items ≡ with_ancestors (λ p. slice_index_or (map (λ v. v.items) earlier.now) p []) parent) }
 {
     let mut line = Vec::new(alloc);
     if let Some(parent) = parent {
@@ -242,7 +242,7 @@ fn ancestors_of(
     numbers: &IndexMap<Name, usize>,
     structures: &[Structure],
 ) -> Result<Vec<Vec<usize>>, NoMemory>
-    ensures { IfOk result (λ lines. map (λ v. v.items) lines.items ≡ lineages (get bytes_eq numbers.now) [] (map structure_shape structures.now)) }
+    ensures { IfOk result (λ lines. map (λ v. v.items) lines.items ≡ all_ancestors (get bytes_eq numbers.now) (map structure_shape structures.now)) }
 {
     let mut lines = Vec::new(alloc);
     for structure in structures {

@@ -15,7 +15,7 @@ bit_behind_in_byte bit e = elim e.entries as (λ o. bit_behind (bit % 8) (record
 ]
 
 -- behind fields, and behind one more at the end
-bit_behind_append : (bit : ℕ) (es : List Extent) (e : Extent) → bit_behind_all bit (es ++ e ∷ []) ≡ bit_behind (bit_behind_all bit es) e
+pub bit_behind_append : (bit : ℕ) (es : List Extent) (e : Extent) → bit_behind_all bit (es ++ e ∷ []) ≡ bit_behind (bit_behind_all bit es) e
 bit_behind_append bit [] e = refl
 bit_behind_append bit (f ∷ fs) e = bit_behind_append (bit_behind bit f) fs e
 

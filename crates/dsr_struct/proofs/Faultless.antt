@@ -2,19 +2,21 @@
 use Rattle.std.proofs.Common.{◌≡◌, ◌<◌, ◌≤◌, ◌+◌, ◌-◌, ◌^◌, ℕ, Bool, true, false, not, ◌&&◌, ◌||◌, nat_eq, List, [], ◌∷◌, ◌++◌, length, min, codes, Option, None, Some, IfSome, is_some, All, cond, slice_get, option_and_then, refl, sym, subst, arith}
 use Rattle.std.specs.List.{position_from}
 use Rattle.std.specs.Str.{bytes_eq}
+use Rattle.std.proofs.lemmas.Bool.{eq-eqb}
 use Rattle.std.proofs.lemmas.List.{length-take, take_all}
 use Rattle.std.proofs.lemmas.Option.{get_or_from_slice_get, slice_get_within, IfSome_then}
 use Rattle.dsr_ir.specs.Trees.{FieldTree, named, skipped, StructureTree, PoolTree, TreeShape}
+use Rattle.dsr_ir.specs.declared.tree.Relation.{Relation}
 use Rattle.dsr_ir.specs.declared.tree.Set.{Set}
 use Rattle.dsr_ir.specs.declared.faults.Condition.TheVariants as conditions
-use Rattle.dsr_meaning.specs.Declarations.{FieldPosition, is_declared_above, is_bytewise, is_misplaced, width_faults, maybe_expr_faults, content_faults, parent_faults, head_faults, field_faults, position_of, structure_faults, pool_faults, set_faults, relation_faults, supply_faults, declaration_faults}
+use Rattle.dsr_meaning.specs.Declarations.{FieldPosition, is_declared_above, is_bytewise, is_misplaced, width_faults, maybe_expr_faults, content_faults, parent_faults, source_faults, target_faults, head_faults, field_faults, position_of, structure_faults, pool_faults, set_faults, relation_faults, supply_faults, declaration_faults}
 use Rattle.dsr_meaning.specs.Faults.{when, each_at}
 use Rattle.dsr_meaning.specs.Names.{Names, names_of, is_at, structure_number, fixed_in, has_fixed_name, asked_structures}
 use Rattle.dsr_struct.specs.Known.{AllFit, HasLegalWidth, HasLegalWidths}
-use Rattle.dsr_struct.proofs.Empty.{both_empty, fourth_empty, fifth_empty, no_second, each_has, few}
+use Rattle.dsr_struct.proofs.Empty.{both_empty, second_empty, fourth_empty, fifth_empty, when_absent, no_second, each_has, few}
 
 -- the number of an item that is found is one of the list's
-position_below : {T : Type 0} (test : T → Bool) (i : ℕ) (xs : List T) → IfSome (position_from test i xs) (λ k. k < i + length xs)
+pub position_below : {T : Type 0} (test : T → Bool) (i : ℕ) (xs : List T) → IfSome (position_from test i xs) (λ k. k < i + length xs)
 position_below test i [] = tt
 position_below test i (x ∷ xs) =
     elim (test x) as (λ b. IfSome (cond b (Some i) (position_from test (i + 1) xs)) (λ k. k < i + length (x ∷ xs))) [
@@ -26,7 +28,7 @@ position_below test i (x ∷ xs) =
 position_fits : {T : Type 0} (test : T → Bool) (xs : List T) → length xs ≤ 64 → IfSome (position_from test 0 xs) (λ k. k < 2 ^ 32 - 1)
 position_fits test xs small = IfSome_then (position_from test 0 xs) (position_below test 0 xs) (λ k lt. omega (arith, lt, small))
 
-abbrev HasFewFields : StructureTree → Type 0
+abbrev pub HasFewFields : StructureTree → Type 0
 HasFewFields s = length s.fields ≤ 64
 
 -- the numbers of fixed fields fit where each structure has few fields
@@ -46,7 +48,7 @@ all_asked t small =
 
 module _ (names : Names) where
   -- a field without fault has a legal width
-  legal_width : (at : FieldPosition) (f : FieldTree) → field_faults names at f ≡ [] → HasLegalWidth f
+  pub legal_width : (at : FieldPosition) (f : FieldTree) → field_faults names at f ≡ [] → HasLegalWidth f
   legal_width at (named f) e =
       fifth_empty
       (when (is_declared_above names at f.name.name) conditions.NameTwice f.name.place)
@@ -72,8 +74,18 @@ module _ (names : Names) where
   set_limit : (s : Set) → set_faults names 64 s ≡ [] → ⊥
   set_limit s e = no_second (when (not (is_at 64 (names.set s.name.name))) conditions.NameTwice s.name.place) _ _ e
 
+  relation_limit : (i : ℕ) (r : Relation) → length names.tree.sets + i ≡ 64 → relation_faults names i r ≡ [] → ⊥
+  relation_limit i r is e =
+      let full = when_absent (nat_eq (length names.tree.sets + i) 64) conditions.Limit r.name.place (second_empty
+      (when (is_some (names.set r.name.name) || not (is_at i (names.relation r.name.name))) conditions.NameTwice r.name.place)
+      (when (nat_eq (length names.tree.sets + i) 64) conditions.Limit r.name.place)
+      (source_faults names r.source ++ target_faults names r.target)
+      e) in
+      let equal = eq-eqb (length names.tree.sets + i) 64 is in
+      absurd cc
+
   -- the fields of a structure without fault have none, hence legal widths, and there are few
-  fields_empty : (i : ℕ) (s : StructureTree) → structure_faults names i s ≡ [] → each_at (λ j f. field_faults names (position_of names i s j) f) 0 s.fields ≡ []
+  pub fields_empty : (i : ℕ) (s : StructureTree) → structure_faults names i s ≡ [] → each_at (λ j f. field_faults names (position_of names i s j) f) 0 s.fields ≡ []
   fields_empty i s e =
       fourth_empty
       (when (not (is_at i (names.structure s.name.name))) conditions.NameTwice s.name.place)
@@ -85,8 +97,50 @@ module _ (names : Names) where
   legal_widths : (i : ℕ) (s : StructureTree) → structure_faults names i s ≡ [] → HasLegalWidths s
   legal_widths i s e = each_has (λ j f. field_faults names (position_of names i s j) f) HasLegalWidth (λ j. legal_width (position_of names i s j)) 0 s.fields (fields_empty i s e)
 
-  few_fields : (i : ℕ) (s : StructureTree) → structure_faults names i s ≡ [] → HasFewFields s
+  pub few_fields : (i : ℕ) (s : StructureTree) → structure_faults names i s ≡ [] → HasFewFields s
   few_fields i s e = few (λ j f. field_faults names (position_of names i s j) f) 64 0 64 (omega arith) (field_limit i s) s.fields (fields_empty i s e)
+
+-- no declaration of a tree has a fault, and so there are few
+pub record AllEmpty (t : TreeShape) : Type 0 where
+  pub head : head_faults (names_of t) ≡ []
+  pub structures : each_at (structure_faults (names_of t)) 0 t.structures ≡ []
+  pub pools : each_at (pool_faults (names_of t)) 0 t.pools ≡ []
+  pub sets : each_at (set_faults (names_of t)) 0 t.sets ≡ []
+  pub relations : each_at (relation_faults (names_of t)) 0 t.relations ≡ []
+  pub supplies : each_at (supply_faults (names_of t)) 0 t.supplies ≡ []
+  pub few_structures : length t.structures ≤ 64
+  pub few_pools : length t.pools ≤ 32
+  pub few_sets : length t.sets ≤ 64
+  pub few_symbols : length t.sets + length t.relations ≤ 64
+
+pub all_empty : (t : TreeShape) → declaration_faults t ≡ [] → AllEmpty t
+all_empty t e =
+    let names = names_of t in
+    let others = each_at (relation_faults names) 0 t.relations ++ each_at (supply_faults names) 0 t.supplies in
+    let from_sets = each_at (set_faults names) 0 t.sets ++ others in
+    let from_pools = each_at (pool_faults names) 0 t.pools ++ from_sets in
+    let head = both_empty (head_faults names) (each_at (structure_faults names) 0 (asked_structures t) ++ from_pools) e in
+    let asked = both_empty (each_at (structure_faults names) 0 (asked_structures t)) from_pools head.1 in
+    let pools = both_empty (each_at (pool_faults names) 0 t.pools) from_sets asked.1 in
+    let sets = both_empty (each_at (set_faults names) 0 t.sets) others pools.1 in
+    let last = both_empty (each_at (relation_faults names) 0 t.relations) (each_at (supply_faults names) 0 t.supplies) sets.1 in
+    let few_asked = few (structure_faults names) 64 0 64 (omega arith) (structure_limit names) (asked_structures t) asked.0 in
+    let all = all_asked t few_asked in
+    let few_sets = few (set_faults names) 64 0 64 (omega arith) (set_limit names) t.sets sets.0 in
+    let at = 64 - length t.sets in
+    let few_relations = few (relation_faults names) at 0 at (omega arith) (λ r. relation_limit names at r (omega (arith, few_sets))) t.relations last.0 in
+    record {
+      head = head.0;
+      structures = subst (λ ss. each_at (structure_faults names) 0 ss ≡ []) all asked.0;
+      pools = pools.0;
+      sets = sets.0;
+      relations = last.0;
+      supplies = last.1;
+      few_structures = subst (λ ss. length ss ≤ 64) all few_asked;
+      few_pools = few (pool_faults names) 32 0 32 (omega arith) (pool_limit names) t.pools pools.0;
+      few_sets = few_sets;
+      few_symbols = omega (arith, few_sets, few_relations);
+    }
 
 -- what the tables need of a tree
 pub record IsSmall (t : TreeShape) : Type 0 where
@@ -97,23 +151,13 @@ pub record IsSmall (t : TreeShape) : Type 0 where
 pub faultless : (t : TreeShape) → declaration_faults t ≡ [] → IsSmall t
 faultless t e =
     let names = names_of t in
-    let others = each_at (relation_faults names) 0 t.relations ++ each_at (supply_faults names) 0 t.supplies in
-    let from_sets = each_at (set_faults names) 0 t.sets ++ others in
-    let from_pools = each_at (pool_faults names) 0 t.pools ++ from_sets in
-    let asked = both_empty (each_at (structure_faults names) 0 (asked_structures t)) from_pools (both_empty (head_faults names) _ e).1 in
-    let pools = both_empty (each_at (pool_faults names) 0 t.pools) from_sets asked.1 in
-    let sets = both_empty (each_at (set_faults names) 0 t.sets) others pools.1 in
-    let few_asked = few (structure_faults names) 64 0 64 (omega arith) (structure_limit names) (asked_structures t) asked.0 in
-    let few_pools = few (pool_faults names) 32 0 32 (omega arith) (pool_limit names) t.pools pools.0 in
-    let few_sets = few (set_faults names) 64 0 64 (omega arith) (set_limit names) t.sets sets.0 in
-    let all = all_asked t few_asked in
-    let structures = subst (λ ss. each_at (structure_faults names) 0 ss ≡ []) all asked.0 in
+    let empty = all_empty t e in
     record {
       fit = record {
-        structure = λ q. position_fits (λ s. bytes_eq s.name.name q) t.structures (subst (λ ss. length ss ≤ 64) all few_asked);
-        fixed = fixed_fits t (each_has (structure_faults names) HasFewFields (few_fields names) 0 t.structures structures) (structure_number t (codes "Head"));
-        pool = λ q. position_fits (λ p. bytes_eq p.name.name q) t.pools (omega (arith, few_pools));
-        set = λ q. position_fits (λ s. bytes_eq s.name.name q) t.sets few_sets;
+        structure = λ q. position_fits (λ s. bytes_eq s.name.name q) t.structures empty.few_structures;
+        fixed = fixed_fits t (each_has (structure_faults names) HasFewFields (few_fields names) 0 t.structures empty.structures) (structure_number t (codes "Head"));
+        pool = λ q. position_fits (λ p. bytes_eq p.name.name q) t.pools (omega (arith, empty.few_pools));
+        set = λ q. position_fits (λ s. bytes_eq s.name.name q) t.sets empty.few_sets;
       };
-      legal = each_has (structure_faults names) HasLegalWidths (legal_widths names) 0 t.structures structures;
+      legal = each_has (structure_faults names) HasLegalWidths (legal_widths names) 0 t.structures empty.structures;
     }

@@ -3,6 +3,7 @@ pub mod Bits
 pub mod Counted
 pub mod Empty
 pub mod ExprSteps
+pub mod Extents
 pub mod Faultless
 pub mod Fields
 pub mod Finding
@@ -12,4 +13,5 @@ pub mod Mapped
 pub mod Numbering
 pub mod Outcome
 pub mod Tables
+pub mod TypedTables
 pub mod Wide

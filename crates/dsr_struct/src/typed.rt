@@ -4,6 +4,7 @@ ghost use Rattle.dsr_ir.specs.Shapes.{structures_shape};
 ghost use Rattle.dsr_ir.specs.Trees.{tree_shape};
 ghost use Rattle.dsr_meaning.specs.Declarations.{declaration_faults};
 ghost use Rattle.dsr_meaning.specs.Tables.{tables, tables_with, version_of};
+ghost use Rattle.dsr_meaning.specs.Typed.{AreTyped};
 ghost use Rattle.dsr_struct.specs.Known.{known_of, AllFit, HasLegalWidths};
 ghost use Rattle.dsr_struct.specs.Refusals.{Tells};
 
@@ -55,6 +56,7 @@ impl Names<'_> {
 pub fn structures(alloc: Global, tree: &Tree) -> Result<Structures, SpecFault>
     ensures no_fault { IfOk result (λ _. declaration_faults (tree_shape tree.now) ≡ []) }
     ensures tables { IfOk result (λ s. structures_shape s ≡ tables (tree_shape tree.now)) }
+    ensures typed { IfOk result (λ s. AreTyped (structures_shape s)) }
     ensures fault { IfErr result (Tells (declaration_faults (tree_shape tree.now))) }
 {
     let tables = name_tables(alloc, tree)?;

@@ -1,9 +1,11 @@
-use Rattle.std.proofs.Common.{ap, ◌∙◌}
+use Rattle.std.proofs.Common.{sym, ap, ◌∙◌, subst}
 use Rattle.std.proofs.lemmas.Result.{err_from_is_err_and}
 use Rattle.dsr_ir.specs.Trees.{tree_shape}
 use Rattle.dsr_meaning.specs.Tables.{tables_with}
 use Rattle.dsr_struct.specs.Known.{told_by}
+use Rattle.dsr_meaning.specs.Typed.{AreTyped}
 use Rattle.dsr_struct.proofs.Outcome.{fault_told, no_fault, numbers_fit, widths_legal}
+use Rattle.dsr_struct.proofs.TypedTables.{typed_tables}
 use Rattle.dsr_struct.proofs.typed.structures.Goals as goal
 
 pub returns-in-Some-clause-fault : goal.returns-in-Some-clause-fault
@@ -23,8 +25,13 @@ pub typed-requires-clause-legal : goal.typed-requires-clause-legal
 typed-requires-clause-legal c = widths_legal (tree_shape c.args.tree.now) (told_by c.args.tree.now c.in_ok-tables.tables) c.in_ok-tables.ensures c.check.result c.check.ensures c.in_default.is
 
 pub returns : goal.returns
-returns c = record {
-  no_fault = no_fault (tree_shape c.args.tree.now) (told_by c.args.tree.now c.in_ok-tables.tables) c.in_ok-tables.ensures c.check.result c.check.ensures c.in_default.is;
-  tables = c.in_ok-typed.ensures ∙ ap tables_with c.in_ok-tables.ensures;
-  fault = tt;
-}
+returns c =
+    let tree = tree_shape c.args.tree.now in
+    let empty = no_fault tree (told_by c.args.tree.now c.in_ok-tables.tables) c.in_ok-tables.ensures c.check.result c.check.ensures c.in_default.is in
+    let made = c.in_ok-typed.ensures ∙ ap tables_with c.in_ok-tables.ensures in
+    record {
+      no_fault = empty;
+      tables = made;
+      typed = subst AreTyped (sym made) (typed_tables tree empty);
+      fault = tt;
+    }

@@ -1,5 +1,5 @@
 -- A field of the tree and the same field of the tables: their widths, and the bits that they take up.
-use Rattle.std.proofs.Common.{◌≡◌, ◌≤◌, ℕ, Bool, true, false, not, ◌&&◌, ◌||◌, nat_le, [], Option, None, Some, is_some, option_map, refl, arith}
+use Rattle.std.proofs.Common.{◌≡◌, ◌≤◌, ℕ, false, not, ◌&&◌, ◌||◌, nat_le, [], Option, None, Some, is_some, option_map, refl, arith}
 use Rattle.std.proofs.lemmas.Bool.Decides.{nat_tests}
 use Rattle.dsr_ir.specs.Trees.{FieldTree, named, skipped}
 use Rattle.dsr_ir.specs.declared.faults.Condition.TheVariants as conditions

@@ -16,7 +16,7 @@ use Rattle.dsr_struct.specs.Known.{AllFit, HasLegalWidth, HasLegalWidths}
 use Rattle.dsr_struct.proofs.Empty.{both_empty, second_empty, fourth_empty, fifth_empty, when_absent, no_second, each_has, few}
 
 -- the number of an item that is found is one of the list's
-pub position_below : {T : Type 0} (test : T → Bool) (i : ℕ) (xs : List T) → IfSome (position_from test i xs) (λ k. k < i + length xs)
+position_below : {T : Type 0} (test : T → Bool) (i : ℕ) (xs : List T) → IfSome (position_from test i xs) (λ k. k < i + length xs)
 position_below test i [] = tt
 position_below test i (x ∷ xs) =
     elim (test x) as (λ b. IfSome (cond b (Some i) (position_from test (i + 1) xs)) (λ k. k < i + length (x ∷ xs))) [

@@ -1,5 +1,5 @@
 -- The tables of a tree without faults are typed: few items, legal widths, and fields at the boundaries that they need.
-use Rattle.std.proofs.Common.{◌≡◌, ◌≤◌, ◌+◌, ◌%◌, ℕ, suc, Bool, true, false, not, ◌&&◌, ◌||◌, nat_eq, List, [], ◌∷◌, ◌++◌, map, take, length, is_some, All, refl, sym, ap, ◌∙◌, subst, append_assoc, arith}
+use Rattle.std.proofs.Common.{◌≡◌, ◌%◌, ℕ, suc, Bool, true, false, not, ◌&&◌, ◌||◌, nat_eq, List, [], ◌∷◌, ◌++◌, map, take, length, is_some, refl, sym, ap, ◌∙◌, subst, append_assoc, arith}
 use Rattle.std.specs.Prelude.{IsTrue}
 use Rattle.std.proofs.lemmas.Bool.{eqb-true}
 use Rattle.std.proofs.lemmas.List.{take_at, length-map, length-append, map-append}
@@ -16,7 +16,7 @@ use Rattle.dsr_meaning.specs.Typed.{HasLegalWidth as IsLegal, begins_byte, plain
 use Rattle.dsr_struct.proofs.Bits.{bit_behind_append}
 use Rattle.dsr_struct.proofs.Empty.{both_empty, third_empty, when_absent, each_has}
 use Rattle.dsr_struct.proofs.Extents.{begins_same, legal_field, extent_same}
-use Rattle.dsr_struct.proofs.Faultless.{AllEmpty, all_empty, legal_width, fields_empty, few_fields}
+use Rattle.dsr_struct.proofs.Faultless.{all_empty, legal_width, fields_empty, few_fields}
 
 -- what has to begin at a byte does, where it isn't so that it has to and doesn't
 begins_there : (must on_byte : Bool) → (must && not on_byte) ≡ false → must ≡ true → on_byte ≡ true

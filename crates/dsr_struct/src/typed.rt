@@ -3,6 +3,7 @@ ghost use Rattle.std.specs.Prelude.{◌≡◌, [], All, codes, unwrap_or, IfOk, 
 ghost use Rattle.dsr_ir.specs.Shapes.{structures_shape};
 ghost use Rattle.dsr_ir.specs.Trees.{tree_shape};
 ghost use Rattle.dsr_meaning.specs.Declarations.{declaration_faults};
+ghost use Rattle.dsr_meaning.specs.Resolved.{AreResolved};
 ghost use Rattle.dsr_meaning.specs.Tables.{tables, tables_with, version_of};
 ghost use Rattle.dsr_meaning.specs.Typed.{AreTyped};
 ghost use Rattle.dsr_struct.specs.Known.{known_of, AllFit, HasLegalWidths};
@@ -57,6 +58,7 @@ pub fn structures(alloc: Global, tree: &Tree) -> Result<Structures, SpecFault>
     ensures no_fault { IfOk result (λ _. declaration_faults (tree_shape tree.now) ≡ []) }
     ensures tables { IfOk result (λ s. structures_shape s ≡ tables (tree_shape tree.now)) }
     ensures typed { IfOk result (λ s. AreTyped (structures_shape s)) }
+    ensures resolved { IfOk result (λ s. AreResolved (structures_shape s)) }
     ensures fault { IfErr result (Tells (declaration_faults (tree_shape tree.now))) }
 {
     let tables = name_tables(alloc, tree)?;

@@ -11,7 +11,7 @@ use Rattle.dsr_meaning.specs.Names.{Names}
 use Rattle.dsr_meaning.specs.Tables.{typed_expr, typed_field, typed_width}
 use Rattle.dsr_meaning.specs.Typed.{IsLegalWidth, HasLegalWidth as IsLegal, plain_extent}
 use Rattle.dsr_struct.specs.Known.{HasLegalWidth}
-use Rattle.dsr_struct.proofs.Empty.{when_absent}
+use Rattle.dsr_meaning.proofs.Empty.{when_absent}
 
 legal_bits : (n : ℕ) → not (nat_le 1 n && nat_le n 32) ≡ false → (1 ≤ n) × (n ≤ 32)
 legal_bits n e = (grind (arith, nat_tests), grind (arith, nat_tests))

@@ -13,7 +13,7 @@ use Rattle.dsr_meaning.specs.Declarations.{FieldPosition, is_declared_above, is_
 use Rattle.dsr_meaning.specs.Faults.{when, each_at}
 use Rattle.dsr_meaning.specs.Names.{Names, names_of, is_at, structure_number, fixed_in, has_fixed_name, asked_structures}
 use Rattle.dsr_struct.specs.Known.{AllFit, HasLegalWidth, HasLegalWidths}
-use Rattle.dsr_struct.proofs.Empty.{both_empty, second_empty, fourth_empty, fifth_empty, when_absent, no_second, each_has, few}
+use Rattle.dsr_meaning.proofs.Empty.{both_empty, second_empty, fourth_empty, fifth_empty, when_absent, no_second, each_has, few}
 
 -- the number of an item that is found is one of the list's
 position_below : {T : Type 0} (test : T → Bool) (i : ℕ) (xs : List T) → IfSome (position_from test i xs) (λ k. k < i + length xs)

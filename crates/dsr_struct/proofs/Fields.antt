@@ -10,7 +10,7 @@ use Rattle.dsr_meaning.specs.Declarations.{extent_of, is_open, has_open, inherit
 use Rattle.dsr_meaning.specs.Extents.{bit_behind, bit_behind_all}
 use Rattle.dsr_meaning.specs.Faults.{each_at}
 use Rattle.dsr_meaning.specs.Names.{Names, is_head}
-use Rattle.dsr_struct.proofs.Bits.{bit_behind_next}
+use Rattle.dsr_meaning.proofs.Bits.{bit_behind_next}
 use Rattle.dsr_struct.proofs.Finding.{finds_nothing, finds_same, finds_next}
 use Rattle.dsr_struct.specs.Telling.{Finds}
 

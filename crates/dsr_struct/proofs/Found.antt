@@ -4,7 +4,7 @@ use Rattle.std.specs.Prelude.{IsSomeAnd, IsTrue}
 use Rattle.std.specs.List.{position_from}
 use Rattle.std.proofs.lemmas.Option.{get_or_from_slice_get, slice_get_within, slice_get-map, IfSome_then}
 use Rattle.dsr_meaning.specs.Faults.{each_at}
-use Rattle.dsr_struct.proofs.Empty.{both_empty}
+use Rattle.dsr_meaning.proofs.Empty.{both_empty}
 
 -- what holds of a value that may be there holds of the one that is
 pub known_has : (o : Option ℕ) (P : ℕ → Type 0) → is_none o ≡ false → IfSome o P → P (unwrap_or o 0)

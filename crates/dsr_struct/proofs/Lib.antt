@@ -1,7 +1,5 @@
 pub mod Ancestors
-pub mod Bits
 pub mod Counted
-pub mod Empty
 pub mod ExprSteps
 pub mod Extents
 pub mod Faultless

@@ -11,7 +11,7 @@ use Rattle.dsr_ir.specs.declared.tree.SumSign.TheVariants as sum_signs
 use Rattle.dsr_meaning.specs.Declarations.{unknown_name, expr_faults, more_terms_faults, term_faults, more_factors_faults, factor_faults, maybe_expr_faults}
 use Rattle.dsr_meaning.specs.Resolved.{IsResolvedExpr}
 use Rattle.dsr_meaning.specs.Tables.{number_in, sum_of, product_of, typed_expr, typed_sum, typed_term, typed_product, typed_factor}
-use Rattle.dsr_struct.proofs.Empty.{both_empty, when_absent}
+use Rattle.dsr_meaning.proofs.Empty.{both_empty, when_absent}
 use Rattle.dsr_struct.proofs.Found.{known_has}
 
 -- what holds of all numbers for which names stand holds of that of a name without fault

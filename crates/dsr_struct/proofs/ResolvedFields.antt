@@ -14,7 +14,7 @@ use Rattle.dsr_meaning.specs.Instances.{kind_pool}
 use Rattle.dsr_meaning.specs.Names.{names_of, is_at, used_structure}
 use Rattle.dsr_meaning.specs.Resolved.{IsPoolNumber, IsOtherStructure, IsResolvedField, IsResolvedStructure}
 use Rattle.dsr_meaning.specs.Tables.{number_in, typed_content, typed_field, typed_structure, tables}
-use Rattle.dsr_struct.proofs.Empty.{both_empty, third_empty, fourth_empty, when_absent, each_has}
+use Rattle.dsr_meaning.proofs.Empty.{both_empty, third_empty, fourth_empty, when_absent, each_has}
 use Rattle.dsr_struct.proofs.Faultless.{AllEmpty, fields_empty}
 use Rattle.dsr_struct.proofs.ResolvedExprs.{number_has, resolved_expr, resolved_maybe}
 use Rattle.dsr_struct.proofs.ResolvedFixed.{fixed_numbers}

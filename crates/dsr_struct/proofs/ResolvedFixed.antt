@@ -12,7 +12,7 @@ use Rattle.dsr_meaning.specs.Faults.{when}
 use Rattle.dsr_meaning.specs.FixedFields.{head_fields, is_fixed}
 use Rattle.dsr_meaning.specs.Names.{Names, names_of, structure_number, fixed_in, has_fixed_name}
 use Rattle.dsr_meaning.specs.Tables.{typed_expr, typed_field, typed_structure, tables}
-use Rattle.dsr_struct.proofs.Empty.{both_empty, third_empty, when_absent, each_has}
+use Rattle.dsr_meaning.proofs.Empty.{both_empty, third_empty, when_absent, each_has}
 use Rattle.dsr_struct.proofs.Faultless.{AllEmpty, fields_empty}
 use Rattle.dsr_struct.proofs.Found.{item_is, found_passes}
 

@@ -12,7 +12,7 @@ use Rattle.dsr_meaning.specs.Declarations.{unknown_name}
 use Rattle.dsr_meaning.specs.Names.{names_of, is_head, structure_number, used_structure}
 use Rattle.dsr_meaning.specs.Resolved.{IsPoolNumber, IsOtherStructure, IsSetNumber}
 use Rattle.dsr_meaning.specs.Tables.{pool_in, typed_structure, typed_pool, typed_set, tables}
-use Rattle.dsr_struct.proofs.Empty.{when_absent}
+use Rattle.dsr_meaning.proofs.Empty.{when_absent}
 use Rattle.dsr_struct.proofs.Faultless.{AllEmpty}
 use Rattle.dsr_struct.proofs.Found.{known_has, IsFound, found_passes, found_within, found_below}
 use Rattle.dsr_struct.proofs.ResolvedExprs.{number_has}

@@ -10,7 +10,7 @@ use Rattle.dsr_meaning.specs.Faults.{when, each_at}
 use Rattle.dsr_meaning.specs.Names.{names_of, is_at, used_structure, plain_number, plain_set}
 use Rattle.dsr_meaning.specs.Resolved.{IsOtherStructure, IsSetNumber, IsResolvedPool}
 use Rattle.dsr_meaning.specs.Tables.{number_in, avoided_by, avoided, typed_pool, tables}
-use Rattle.dsr_struct.proofs.Empty.{both_empty, third_empty, when_absent, each_has}
+use Rattle.dsr_meaning.proofs.Empty.{both_empty, third_empty, when_absent, each_has}
 use Rattle.dsr_struct.proofs.Faultless.{AllEmpty}
 use Rattle.dsr_struct.proofs.Found.{known_has, item_is, map_has}
 use Rattle.dsr_struct.proofs.ResolvedExprs.{number_has, resolved_expr, resolved_maybe}

@@ -16,7 +16,7 @@ use Rattle.dsr_meaning.specs.Faults.{when}
 use Rattle.dsr_meaning.specs.Names.{names_of, is_at, used_structure, pool_structure, plain_set, set_pool}
 use Rattle.dsr_meaning.specs.Resolved.{IsPoolNumber, IsOtherStructure, IsSetNumber, IsResolvedStructure, IsResolvedPool, IsResolvedSet, IsResolvedRel, AreResolved}
 use Rattle.dsr_meaning.specs.Tables.{typed_structure, typed_pool, set_structure, base_of, typed_set, typed_source, typed_target, typed_relation, tables}
-use Rattle.dsr_struct.proofs.Empty.{both_empty, third_empty, fourth_empty, when_absent, each_has}
+use Rattle.dsr_meaning.proofs.Empty.{both_empty, third_empty, fourth_empty, when_absent, each_has}
 use Rattle.dsr_struct.proofs.Faultless.{AllEmpty, all_empty}
 use Rattle.dsr_struct.proofs.Found.{item_is, mapped_is, each_is, IsFound, found_passes}
 use Rattle.dsr_struct.proofs.ResolvedExprs.{number_has}

@@ -13,8 +13,8 @@ use Rattle.dsr_meaning.specs.Faults.{when, each_at}
 use Rattle.dsr_meaning.specs.Names.{Names, names_of}
 use Rattle.dsr_meaning.specs.Tables.{typed_expr, typed_field, typed_structure, typed_pool, typed_set, typed_relation, tables}
 use Rattle.dsr_meaning.specs.Typed.{HasLegalWidth as IsLegal, begins_byte, plain_extent, AreAligned, IsTypedStructure, AreTyped}
-use Rattle.dsr_struct.proofs.Bits.{bit_behind_append}
-use Rattle.dsr_struct.proofs.Empty.{both_empty, third_empty, when_absent, each_has}
+use Rattle.dsr_meaning.proofs.Bits.{bit_behind_append}
+use Rattle.dsr_meaning.proofs.Empty.{both_empty, third_empty, when_absent, each_has}
 use Rattle.dsr_struct.proofs.Extents.{begins_same, legal_field, extent_same}
 use Rattle.dsr_struct.proofs.Faultless.{all_empty, legal_width, fields_empty, few_fields}
 

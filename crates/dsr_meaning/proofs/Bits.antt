@@ -4,11 +4,11 @@ use Rattle.std.proofs.Math.Nat.{mod-add-mod, mul-mod_left}
 use Rattle.dsr_meaning.specs.Extents.{Extent, up_to_byte, bit_behind, bit_behind_all}
 
 -- a byte begins at a byte boundary
-byte_begins : (bit : ℕ) → up_to_byte bit % 8 ≡ 0
+pub byte_begins : (bit : ℕ) → up_to_byte bit % 8 ≡ 0
 byte_begins bit = mul-mod_left ((bit + 7) / 8) 8
 
 -- where in its byte a field ends depends on where in its byte it begins
-bit_behind_in_byte : (bit : ℕ) (e : Extent) → bit_behind (bit % 8) e % 8 ≡ bit_behind bit e % 8
+pub bit_behind_in_byte : (bit : ℕ) (e : Extent) → bit_behind (bit % 8) e % 8 ≡ bit_behind bit e % 8
 bit_behind_in_byte bit e = elim e.entries as (λ o. bit_behind (bit % 8) (record { bits = e.bits; entries = o }) % 8 ≡ bit_behind bit (record { bits = e.bits; entries = o }) % 8) [
   | None ↦ mod-add-mod bit 8 e.bits
   | Some n ↦ byte_begins (bit % 8 + n * e.bits) ∙ sym (byte_begins (bit + n * e.bits))

@@ -5,7 +5,7 @@ use Rattle.dsr_ir.specs.declared.declarations.Order.{Order}
 use Rattle.dsr_ir.specs.declared.layouts.Cell.{Cell}
 use Rattle.dsr_meaning.specs.FixedFields.{is_fixed, cell_at}
 use Rattle.dsr_meaning.specs.Places.{bit_behind_fields}
-use Rattle.dsr_layout.specs.Tables.{known, clip, clip_cell}
+use Rattle.dsr_layout.specs.Tables.{known, clip}
 
 -- the cell of a field that begins at a bit, where it is a fixed one
 abbrev pub cell_from : Order → Option ℕ → FieldShape → Option Cell

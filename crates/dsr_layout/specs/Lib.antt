@@ -4,6 +4,7 @@ pub mod Ends
 pub mod FixedCells
 pub mod Pools
 pub mod Ranges
+pub mod Readings
 pub mod References
 pub mod Tables
 pub mod Telling

@@ -1,5 +1,6 @@
 // The fixed fields of `Head`: their cells and values.
-ghost use Rattle.std.specs.Prelude.{◌≡◌, ◌≤◌, ℕ, [], All, IfSome, IfOk, IfErr, length, map, option_map};
+ghost use Rattle.std.specs.Prelude.{◌≡◌, ◌≤◌, ℕ, false, [], All, IfSome, IfOk, IfErr, length, map, option_map};
+ghost use Rattle.std.specs.Option.{option_map_or};
 ghost use Rattle.dsr_ir.specs.Shapes.{field_shape, structures_shape};
 ghost use Rattle.dsr_meaning.specs.Cells.{cell_value, is_bytewise};
 ghost use Rattle.dsr_meaning.specs.FixedFields.{fixed_cell, fixed_value, head_fields};
@@ -88,6 +89,16 @@ fn fixed_cells(alloc: Global, base: &Structures) -> Result<Vec<Option<Cell>>, No
     }
 }
 
+// The cell under a number.
+fn known_cell(cells: &[Option<Cell>], number: usize) -> Option<Cell>
+    ensures { result ≡ known cells.now number }
+{
+    match cells.get(number) {
+        Some(cell) => *cell,
+        None => None,
+    }
+}
+
 // Whether the image ends before a cell does.
 fn is_cut(cell: &Cell, length: u64) -> bool
     requires image { length ≤ 67108864 }
@@ -96,16 +107,25 @@ fn is_cut(cell: &Cell, length: u64) -> bool
     8 * length < cell.bit.saturating_add(u64::from(cell.width))
 }
 
+// Whether the image ends before the cell under a number does.
+fn is_cut_at(cells: &[Option<Cell>], number: usize, length: u64) -> bool
+    requires image { length ≤ 67108864 }
+    ensures { result ≡ option_map_or (λ c. ends_behind length c.bit c.width) (known cells.now number) false }
+{
+    match known_cell(cells, number) {
+        Some(cell) => is_cut(&cell, length),
+        None => false,
+    }
+}
+
 // `Short` where the image ends before a fixed field does.
 fn cut(cells: &[Option<Cell>], fields: &[Field], length: u64) -> Option<LayoutFault>
     requires image { length ≤ 67108864 }
     ensures { result ≡ told_of (cut_refusals (known cells.now) (map field_shape fields.now) length) }
 {
     for (number, _) in fields.iter().enumerate() {
-        if let Some(Some(cell)) = cells.get(number) {
-            if is_cut(cell, length) {
-                return Some(LayoutFault::Short);
-            }
+        if is_cut_at(cells, number, length) {
+            return Some(LayoutFault::Short);
         }
     }
     None

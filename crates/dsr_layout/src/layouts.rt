@@ -1,14 +1,15 @@
 // The layout of a specification on an image.
-ghost use Rattle.std.specs.Prelude.{◌≡◌, ◌≤◌, [], All, IfOk, IfErr, Some, length};
+ghost use Rattle.std.specs.Prelude.{◌≡◌, ◌≤◌, ◌++◌, [], All, IfOk, IfErr, Some, length};
 ghost use Rattle.dsr_ir.specs.Shapes.{structures_shape};
 ghost use Rattle.dsr_meaning.specs.Layouts.{layout_of};
 ghost use Rattle.dsr_meaning.specs.Legal.{IsLegalLayout};
 ghost use Rattle.dsr_meaning.specs.Refusals as meaning;
-ghost use Rattle.dsr_meaning.specs.Refusals.{refusals, layout_refusals};
-ghost use Rattle.dsr_meaning.specs.Typed.{IsTyped};
+ghost use Rattle.dsr_meaning.specs.Refusals.{refusals, layout_refusals, size_refusals, value_refusals};
+ghost use Rattle.dsr_meaning.specs.Typed.{AreTyped, IsTyped};
 ghost use Rattle.dsr_layout.specs.Checks.{place_refusals, number_refusals};
 ghost use Rattle.dsr_layout.specs.Pools.{IsComputable, HasStep};
-ghost use Rattle.dsr_layout.specs.Tables.{size_in};
+ghost use Rattle.dsr_layout.specs.Readings.{IsRead, IsMade};
+ghost use Rattle.dsr_layout.specs.Tables.{known, size_in, HoldsEnds};
 ghost use Rattle.dsr_layout.specs.Telling.{told_of, Tells};
 
 use crate::code_checks::code_too_wide;
@@ -103,6 +104,52 @@ fn layout_fault(
     Ok(code_fault(spec, layout))
 }
 
+/// What the fixed fields of an image tell: their values, and by these where each structure ends.
+#[derive(Drop)]
+struct Readings {
+    fixed: Vec<Option<u64>>,
+    ends: Vec<Option<u64>>,
+}
+
+// The readings of an image that isn't short.
+fn read(alloc: Global, spec: &Spec, bytes: &[u8]) -> Result<Readings, LayoutFault>
+    requires typed { IsTyped spec.now }
+    requires image { length bytes.now ≤ 67108864 }
+    ensures read { IfOk result (λ r. IsRead (structures_shape spec.now.base) bytes.now r.fixed.items r.ends.items) }
+    ensures refused { IfErr result (Tells (refusals spec.now bytes.now)) }
+{
+    let base = &spec.base;
+    let fixed = fixed_values(alloc, base, bytes)?;
+    let ends = ends(alloc, &fixed, base.structures.items())?;
+    match short_head(&ends, base.head, bytes.len() as u64) {
+        Some(fault) => Err(fault),
+        None => Ok(Readings { fixed, ends }),
+    }
+}
+
+// The layout by what was read; `Arith` where a number has no value.
+fn made(
+    alloc: Global,
+    base: &Structures,
+    length: u64,
+    fixed: &[Option<u64>],
+    ends: &[Option<u64>],
+) -> Result<Layout, LayoutFault>
+    requires typed { AreTyped (structures_shape base.now) }
+    requires ends { HoldsEnds (known fixed.now) (structures_shape base.now).structures ends.now }
+    ensures made { IfOk result (IsMade (structures_shape base.now) length fixed.now ends.now) }
+    ensures refused { IfErr result (Tells (size_refusals (size_in ends.now) (structures_shape base.now).structures ++ value_refusals (known fixed.now) (size_in ends.now) (structures_shape base.now).pools)) }
+{
+    let fields = places(alloc, fixed, ends, base.structures.items())?;
+    let pools = pools_of(alloc, fixed, ends, base.pools.items())?;
+    Ok(Layout {
+        length,
+        order: base.order,
+        pools: Seq::new(pools),
+        fields: Seq::new(fields),
+    })
+}
+
 /// The layout of a specification on an image: the numbers that its expressions have there. Where
 /// it is refused, the fault is the first of the least kind, by order of declaration.
 pub fn layout(alloc: Global, spec: &Spec, bytes: &[u8]) -> Result<Layout, LayoutFault>
@@ -113,20 +160,10 @@ pub fn layout(alloc: Global, spec: &Spec, bytes: &[u8]) -> Result<Layout, Layout
     ensures legal { IfOk result IsLegalLayout }
     ensures refused { IfErr result (Tells (refusals spec.now bytes.now)) }
 {
+    let readings = read(alloc, spec, bytes)?;
     let length = bytes.len() as u64;
-    let base = &spec.base;
-    let fixed = fixed_values(alloc, base, bytes)?;
-    let ends = ends(alloc, &fixed, base.structures.items())?;
-    if let Some(fault) = short_head(&ends, base.head, length) {
-        return Err(fault);
-    }
-    let layout = Layout {
-        length,
-        order: base.order,
-        fields: Seq::new(places(alloc, &fixed, &ends, base.structures.items())?),
-        pools: Seq::new(pools_of(alloc, &fixed, &ends, base.pools.items())?),
-    };
-    match layout_fault(alloc, spec, &ends, &layout)? {
+    let layout = made(alloc, &spec.base, length, &readings.fixed, &readings.ends)?;
+    match layout_fault(alloc, spec, &readings.ends, &layout)? {
         Some(fault) => Err(fault),
         None => Ok(layout),
     }

@@ -1,0 +1,89 @@
+-- The fixed fields behind which the image ends.
+use Rattle.std.proofs.Common.{◌≡◌, ◌<◌, ◌≤◌, ◌+◌, ◌*◌, ◌-◌, ◌^◌, ℕ, zero, suc, Bool, true, false, ltb, min, List, [], ◌∷◌, ◌++◌, map, length, drop, Some, None, Option, refl, ap, ◌∙◌, arith}
+use Rattle.std.specs.Prelude.{slice_get, option_map}
+use Rattle.std.specs.Option.{option_map_or}
+use Rattle.std.proofs.lemmas.Bool.Decides.{nat_tests}
+use Rattle.dsr_ir.specs.Shapes.{FieldShape}
+use Rattle.dsr_ir.specs.declared.layouts.Cell.{Cell}
+use Rattle.dsr_meaning.specs.Faults.{each_at}
+use Rattle.dsr_meaning.specs.Refusals.{Refusal, Short, refused_when, ends_behind, cut_refusals}
+use Rattle.dsr_layout.specs.Tables.{clip_cell}
+use Rattle.dsr_layout.specs.Telling.{told_of, told_as}
+
+-- whether the image ends before a cell does
+abbrev pub cuts : ℕ → Option Cell → Bool
+cuts bytes cell = option_map_or (λ c. ends_behind bytes c.bit c.width) cell false
+
+-- what fields from a number on give
+abbrev pub cut_from : (ℕ → Option Cell) → ℕ → ℕ → List FieldShape → List Refusal
+cut_from cell bytes n fields = each_at (λ k _. refused_when (cuts bytes (cell k)) Short) n fields
+
+-- a clipped cell ends behind an image where the cell itself does
+clip_cuts : (bytes : ℕ) (o : Option Cell) → bytes ≤ 67108864 → cuts bytes (option_map clip_cell o) ≡ cuts bytes o
+clip_cuts bytes None small = refl
+clip_cuts bytes (Some c) small = same c.bit c.width where
+  same : (bit width : ℕ) → ltb (8 * bytes) (min bit (2 ^ 64 - 1) + width) ≡ ltb (8 * bytes) (bit + width)
+  same bit width = grind (arith, nat_tests)
+
+-- so the refusals are the same
+pub same_cuts : (table cell : ℕ → Option Cell) (bytes : ℕ) → bytes ≤ 67108864 → ((k : ℕ) → table k ≡ option_map clip_cell (cell k)) → (n : ℕ) (fields : List FieldShape) → cut_from table bytes n fields ≡ cut_from cell bytes n fields
+same_cuts table cell bytes small same n [] = refl
+same_cuts table cell bytes small same n (f ∷ fs) =
+    ap (λ b. refused_when b Short ++ cut_from table bytes (suc n) fs) (ap (cuts bytes) (same n) ∙ clip_cuts bytes (cell n) small)
+    ∙ ap (λ rs. refused_when (cuts bytes (cell n)) Short ++ rs) (same_cuts table cell bytes small same (suc n) fs)
+
+-- where nothing is told, nothing is refused
+pub none_refused : (rs : List Refusal) → told_of rs ≡ None → rs ≡ []
+none_refused [] e = refl
+none_refused (r ∷ rs) e = absurd cc
+
+-- where nothing is refused, no cell of a field ends behind the image
+nothing_first : (b : Bool) (rs : List Refusal) → refused_when b Short ++ rs ≡ [] → (b ≡ false) × (rs ≡ [])
+nothing_first true rs e = absurd cc
+nothing_first false rs e = (refl, e)
+
+uncut_from : (cell : ℕ → Option Cell) (bytes n : ℕ) (fields : List FieldShape) → cut_from cell bytes n fields ≡ [] → (k : ℕ) (f : FieldShape) → slice_get fields k ≡ Some f → cuts bytes (cell (n + k)) ≡ false
+uncut_from cell bytes n [] e k f is = absurd cc
+uncut_from cell bytes n (g ∷ gs) e zero f is =
+    let place : n + 0 ≡ n = omega arith in
+    ap (λ i. cuts bytes (cell i)) place ∙ (nothing_first (cuts bytes (cell n)) (cut_from cell bytes (suc n) gs) e).0
+uncut_from cell bytes n (g ∷ gs) e (suc k) f is =
+    let place : n + suc k ≡ suc n + k = omega arith in
+    ap (λ i. cuts bytes (cell i)) place ∙ uncut_from cell bytes (suc n) gs (nothing_first (cuts bytes (cell n)) (cut_from cell bytes (suc n) gs) e).1 k f is
+
+pub uncut : (cell : ℕ → Option Cell) (bytes : ℕ) (fields : List FieldShape) → cut_refusals cell fields bytes ≡ [] → (k : ℕ) (f : FieldShape) → slice_get fields k ≡ Some f → cuts bytes (cell k) ≡ false
+uncut cell bytes fields e k f is =
+    let place : k ≡ 0 + k = omega arith in
+    ap (λ i. cuts bytes (cell i)) place ∙ uncut_from cell bytes 0 fields e k f is
+
+-- what is left from an item on begins with it
+left_from : {X : Type 0} (xs : List X) (i : ℕ) → i < length xs → (x : X) × (drop i xs ≡ x ∷ drop (suc i) xs)
+left_from [] i lt = absurd (omega arith)
+left_from (x ∷ xs) zero lt = (x, refl)
+left_from (x ∷ xs) (suc i) lt = left_from xs i (omega arith)
+
+-- the next field, where its cell lies in the image
+pub cut_next : {X : Type 0} (shape : X → FieldShape) (cell : ℕ → Option Cell) (bytes : ℕ) (xs : List X) (i : ℕ) → i < length xs → cuts bytes (cell i) ≡ false → cut_from cell bytes i (map shape (drop i xs)) ≡ cut_from cell bytes (i + 1) (map shape (drop (i + 1) xs))
+cut_next shape cell bytes xs i lt whole =
+    let more : suc i ≡ i + 1 = omega arith in
+    ap (λ ys. cut_from cell bytes i (map shape ys)) (left_from xs i lt).1
+    ∙ ap (λ b. refused_when b Short ++ cut_from cell bytes (suc i) (map shape (drop (suc i) xs))) whole
+    ∙ ap (λ n. cut_from cell bytes n (map shape (drop n xs))) more
+
+-- the first field whose cell doesn't
+pub cut_here : {X : Type 0} (shape : X → FieldShape) (cell : ℕ → Option Cell) (bytes : ℕ) (xs : List X) (i : ℕ) → i < length xs → cuts bytes (cell i) ≡ true → told_of (cut_from cell bytes i (map shape (drop i xs))) ≡ Some (told_as Short)
+cut_here shape cell bytes xs i lt is =
+    ap (λ ys. told_of (cut_from cell bytes i (map shape ys))) (left_from xs i lt).1
+    ∙ ap (λ b. told_of (refused_when b Short ++ cut_from cell bytes (suc i) (map shape (drop (suc i) xs)))) is
+
+-- no field is left
+pub cut_all : {X : Type 0} (shape : X → FieldShape) (cell : ℕ → Option Cell) (bytes : ℕ) (xs : List X) (i : ℕ) → length xs ≤ i → cut_from cell bytes i (map shape (drop i xs)) ≡ []
+cut_all shape cell bytes [] zero past = refl
+cut_all shape cell bytes [] (suc i) past = refl
+cut_all shape cell bytes (x ∷ xs) zero past = absurd (omega arith)
+cut_all shape cell bytes (x ∷ xs) (suc i) past = rw (drop_past xs i (omega arith)) refl where
+  drop_past : {Y : Type 0} (ys : List Y) (j : ℕ) → length ys ≤ j → drop j ys ≡ []
+  drop_past [] zero le = refl
+  drop_past [] (suc j) le = refl
+  drop_past (y ∷ ys) zero le = absurd (omega arith)
+  drop_past (y ∷ ys) (suc j) le = drop_past ys j (omega arith)

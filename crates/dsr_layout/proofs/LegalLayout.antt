@@ -1,0 +1,62 @@
+-- A layout that isn't refused is a legal one.
+use Rattle.std.proofs.Common.{◌≡◌, ◌≤◌, ℕ, suc, List, [], ◌∷◌, ◌++◌, length, All, Option, None, Some, IfSome, option_map, option_and_then, refl, sym, ap, ◌∙◌, subst}
+use Rattle.dsr_ir.specs.Shapes.{StructureShape, PoolShape, StructuresShape}
+use Rattle.dsr_ir.specs.declared.declarations.Spec.{Spec}
+use Rattle.dsr_ir.specs.declared.layouts.FieldPlace.{FieldPlace}
+use Rattle.dsr_ir.specs.declared.layouts.Layout.{Layout}
+use Rattle.dsr_ir.specs.declared.layouts.PoolNumbers.{PoolNumbers}
+use Rattle.dsr_meaning.proofs.Empty.{both_empty}
+use Rattle.dsr_meaning.specs.Layouts.{collect_at, pool_of, pools_of, places_of, layout_with}
+use Rattle.dsr_meaning.specs.Legal.{IsLegalLayout, IsLegalPlace}
+use Rattle.dsr_meaning.specs.Places.{size_of}
+use Rattle.dsr_meaning.specs.Refusals.{outside_refusals, overlap_refusals, subtype_refusals, zero_refusals, none_refusals, code_refusals, count_refusals, instance_refusals, layout_refusals, head_range}
+use Rattle.dsr_meaning.specs.Typed.{IsTypedStructure}
+use Rattle.dsr_layout.specs.Pools.{IsComputable}
+use Rattle.dsr_layout.proofs.LegalPlaces.{legal_places}
+use Rattle.dsr_layout.proofs.LegalPools.{legal_pools, pools_apart}
+
+-- what each part of the refusals says where none is left
+pub legal_layout : (size : ℕ → Option ℕ) (spec : Spec) (base : StructuresShape) (layout : Layout) → layout.length ≤ 67108864 → All IsComputable layout.pools → All (All IsLegalPlace) layout.fields → layout_refusals size spec base layout ≡ [] → IsLegalLayout layout
+legal_layout size spec base layout small computable places e =
+    let after_codes = count_refusals spec layout ++ instance_refusals spec layout in
+    let after_none = code_refusals base.structures layout ++ after_codes in
+    let after_zero = none_refusals layout ++ after_none in
+    let after_subtype = zero_refusals layout ++ after_zero in
+    let after_overlap = subtype_refusals size base.sets base.pools layout ++ after_subtype in
+    let after_outside = overlap_refusals size base.head layout ++ after_overlap in
+    let outside = both_empty (outside_refusals layout) after_outside e in
+    let overlap = both_empty (overlap_refusals size base.head layout) after_overlap outside.1 in
+    let subtype = both_empty (subtype_refusals size base.sets base.pools layout) after_subtype overlap.1 in
+    let zero = both_empty (zero_refusals layout) after_zero subtype.1 in
+    let none = both_empty (none_refusals layout) after_none zero.1 in
+    record {
+      small = small;
+      pools = legal_pools layout computable outside.0 zero.0 none.0;
+      apart = pools_apart (head_range size base.head) layout overlap.0;
+      fields = places;
+    }
+
+-- pools and places that are there make the layout
+pub layout_is : (fixed size : ℕ → Option ℕ) (base : StructuresShape) (bytes : ℕ) (pools : List PoolNumbers) (fields : List (List FieldPlace)) → size ≡ size_of fixed base.structures → pools_of fixed size base.pools ≡ Some pools → places_of fixed base.structures ≡ Some fields → layout_with fixed base bytes ≡ Some (record { length = bytes; order = base.order; pools = pools; fields = fields })
+layout_is fixed size base bytes pools fields same is_pools is_fields =
+    ap (λ o. option_and_then (λ fields. option_map (λ pools. record { length = bytes; order = base.order; pools = pools; fields = fields }) (pools_of fixed (size_of fixed base.structures) base.pools)) o) is_fields
+    ∙ ap (λ s. option_map (λ pools. record { length = bytes; order = base.order; pools = pools; fields = fields }) (pools_of fixed s base.pools)) (sym same)
+    ∙ ap (option_map (λ pools. record { length = bytes; order = base.order; pools = pools; fields = fields })) is_pools
+
+-- there are as many numbers as pools
+collect_length : {S T : Type 0} (f : ℕ → S → Option T) (n : ℕ) (xs : List S) → IfSome (collect_at f n xs) (λ ys. length ys ≡ length xs)
+collect_length f n [] = refl
+collect_length f n (x ∷ xs) = elim (f n x) as (λ o. IfSome (option_and_then (λ y. option_map (λ ys. y ∷ ys) (collect_at f (suc n) xs)) o) (λ ys. length ys ≡ length (x ∷ xs))) [
+  | None ↦ tt
+  | Some y ↦ elim (collect_at f (suc n) xs) as (λ o. IfSome o (λ ys. length ys ≡ length xs) → IfSome (option_map (λ ys. y ∷ ys) o) (λ ys. length ys ≡ length (x ∷ xs))) [
+    | None ↦ λ _. tt
+    | Some ys ↦ λ same. ap suc same
+  ] (collect_length f (suc n) xs)
+]
+
+pub as_many : (fixed size : ℕ → Option ℕ) (ps : List PoolShape) (pools : List PoolNumbers) → pools_of fixed size ps ≡ Some pools → length pools ≡ length ps
+as_many fixed size ps pools is = subst (λ o. IfSome o (λ ys. length ys ≡ length ps)) is (collect_length (λ _ p. pool_of fixed size p) 1 ps)
+
+-- the places of typed structures are legal
+pub all_legal : (fixed : ℕ → Option ℕ) (ss : List StructureShape) (fields : List (List FieldPlace)) → All IsTypedStructure ss → places_of fixed ss ≡ Some fields → All (All IsLegalPlace) fields
+all_legal fixed ss fields typed is = subst (λ o. IfSome o (All (All IsLegalPlace))) is (legal_places fixed ss typed)

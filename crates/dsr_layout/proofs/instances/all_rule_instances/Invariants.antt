@@ -1,0 +1,7 @@
+use Rattle.std.proofs.Common.{◌≡◌, true, take}
+use Rattle.dsr_layout.specs.Tables.{clip}
+use Rattle.dsr_meaning.specs.Refusals.{instances_where}
+use Rattle.dsr_layout.proofs.instances.all_rule_instances.Given as goal
+
+abbrev pub invariant-loop-rule : goal.invariant-loop-rule
+invariant-loop-rule l = l.total ≡ clip (instances_where l.spec l.layout (λ _. true) (take l.rule-index l.spec.rules))

@@ -4,13 +4,22 @@ ghost use Rattle.std.specs.Prelude.{◌≡◌, ◌≤◌, vec_len, take, IfOk, I
 use crate::outside::{Missed, Shelf, ShelfFault, Sink, SinkFault};
 use std::alloc::Global;
 use std::fs;
-use std::io::{self, Read, Write};
+use std::io::{self, ErrorKind, Read, Write};
 use std::rt::Files;
 
 // How many bytes one read asks for at most.
 const CHUNK: usize = 4096;
 
-// The first bytes that a reader gives, at most `cap`. A read that gives nothing is its end.
+// What an error of the system is told as.
+fn fault_of(error: &io::Error) -> ShelfFault {
+    match error.kind() {
+        ErrorKind::OutOfMemory => ShelfFault::NoMemory,
+        _ => ShelfFault::Failed,
+    }
+}
+
+// The first bytes that a reader gives, at most `cap`. A read that gives nothing is its end, and one
+// that is interrupted is tried again.
 fn read_front<F: Read>(alloc: Global, file: &mut F, cap: u64) -> Result<Vec<u8>, ShelfFault>
     ensures capped { IfOk result (λ bytes. vec_len bytes ≤ cap) }
     ensures front { IfOk result (λ bytes. IfSome (F.remaining file.old) (λ whole. bytes.items ≡ take cap whole)) }
@@ -26,11 +35,11 @@ fn read_front<F: Read>(alloc: Global, file: &mut F, cap: u64) -> Result<Vec<u8>,
         match file.read(&mut chunk[..want]) {
             Ok(0) => return Ok(bytes),
             Ok(count) => bytes.extend_from_slice(&chunk[..count])?,
-            Err(_) => return Err(ShelfFault::Failed),
+            Err(error) if error.kind() == ErrorKind::Interrupted => (),
+            Err(error) => return Err(fault_of(&error)),
         }
     }
-    // Each turn gave a byte at least, so these are as many as the cap.
-    Ok(bytes)
+    Err(ShelfFault::Failed)
 }
 
 // The first bytes of a file, at most `cap`.
@@ -39,7 +48,7 @@ fn load_front<R: Files>(alloc: Global, rt: &R, name: &str, cap: u64) -> Result<V
 {
     match fs::open(rt, name) {
         Ok(mut file) => read_front(alloc, &mut file, cap),
-        Err(_) => Err(ShelfFault::Failed),
+        Err(error) => Err(fault_of(&error)),
     }
 }
 

@@ -1,5 +1,5 @@
 -- A list of what items have, which grows at its end.
-use Rattle.std.proofs.Common.{◌≡◌, ◌<◌, ◌+◌, ℕ, suc, List, [], ◌∷◌, ◌++◌, map, take, length, get_or, Option, None, Some, option_map, option_and_then, refl, sym, ap, ◌∙◌, add-one}
+use Rattle.std.proofs.Common.{◌≡◌, ◌<◌, ◌+◌, ℕ, zero, suc, List, [], ◌∷◌, ◌++◌, map, take, length, get_or, Option, None, Some, option_map, option_and_then, slice_get, refl, sym, ap, ◌∙◌, add-one, arith}
 use Rattle.std.proofs.Math.Seq.{take-suc}
 use Rattle.std.proofs.lemmas.List.{map-append}
 use Rattle.dsr_meaning.specs.Layouts.{collect_at}
@@ -26,3 +26,33 @@ module _ {S T : Type 0} (f : S → Option T) where
       ap (λ zs. collect_at (λ _ s. f s) n (map g zs)) more
       ∙ ap (collect_at (λ _ s. f s) n) (map-append g (take i xs) (x ∷ []))
       ∙ collected_push n (map g (take i xs)) (g x) e has
+
+-- what a list has under a number is what an item has
+pub record IsOf {S T : Type 0} (f : ℕ → S → Option T) (xs : List S) (k m : ℕ) (y : T) : Type 0 where
+  pub item : S
+  pub item_is : slice_get xs k ≡ Some item
+  pub has : f m item ≡ Some y
+
+module _ {S T : Type 0} (f : ℕ → S → Option T) where
+  -- the first one, or one of those behind it
+  either_item : (n : ℕ) (x : S) (xs : List S) (z : T) (zs : List T) (m : ℕ) (y : T) → f n x ≡ Some z → ((j : ℕ) → m ≡ suc n + j → slice_get zs j ≡ Some y → IsOf f xs j m y) → (k : ℕ) → m ≡ n + k → slice_get (z ∷ zs) k ≡ Some y → IsOf f (x ∷ xs) k m y
+  either_item n x xs z zs m y first others zero at is =
+      let here : m ≡ n = omega arith in
+      record { item = x; item_is = refl; has = ap (λ j. f j x) here ∙ first ∙ is }
+  either_item n x xs z zs m y first others (suc k) at is =
+      let rest = others k (omega arith) is in
+      record { item = rest.item; item_is = rest.item_is; has = rest.has }
+
+  pub collected_item : (n : ℕ) (xs : List S) (ys : List T) → collect_at f n xs ≡ Some ys → (k m : ℕ) (y : T) → m ≡ n + k → slice_get ys k ≡ Some y → IsOf f xs k m y
+  collected_item n [] ys e k m y at found =
+      let none : [] ≡ ys = cc in
+      absurd (let both : None ≡ Some y = ap (λ zs. slice_get zs k) none ∙ found in cc)
+  collected_item n (x ∷ xs) ys e k m y at found = elim (f n x) as (λ o. f n x ≡ o → option_and_then (λ z. option_map (λ zs. z ∷ zs) (collect_at f (suc n) xs)) o ≡ Some ys → IsOf f (x ∷ xs) k m y) [
+    | None ↦ λ _ h. absurd cc
+    | Some z ↦ λ first h. elim (collect_at f (suc n) xs) as (λ o. collect_at f (suc n) xs ≡ o → option_map (λ zs. z ∷ zs) o ≡ Some ys → IsOf f (x ∷ xs) k m y) [
+      | None ↦ λ _ g. absurd cc
+      | Some zs ↦ λ others g.
+          let made : ys ≡ z ∷ zs = cc in
+          either_item n x xs z zs m y first (λ j. collected_item (suc n) xs zs others j m y) k at (sym (ap (λ ws. slice_get ws k) made) ∙ found)
+    ] refl h
+  ] refl e

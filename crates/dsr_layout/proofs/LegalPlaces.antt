@@ -14,7 +14,7 @@ use Rattle.dsr_meaning.specs.Places.{lineage_in, lineage, entries_of, extent_of,
 use Rattle.dsr_meaning.specs.Typed.{HasLegalWidth, plain_extent, AreAligned, IsTypedStructure}
 
 -- what holds of each item, by the items one after the other
-abbrev Each : {T : Type 0} → (T → Type 0) → List T → Type 0
+abbrev pub Each : {T : Type 0} → (T → Type 0) → List T → Type 0
 Each P [] = Unit {0}
 Each P (x ∷ xs) = P x × Each P xs
 
@@ -23,7 +23,7 @@ module _ {T : Type 0} (P : T → Type 0) where
   each_of [] all = tt
   each_of (x ∷ xs) all = (all zero x (omega arith), each_of xs (λ k d lt. all (suc k) d (omega (arith, lt))))
 
-  all_of : (xs : List T) → Each P xs → All P xs
+  pub all_of : (xs : List T) → Each P xs → All P xs
   all_of [] each k d lt = absurd (omega (arith, lt))
   all_of (x ∷ xs) each zero d lt = each.0
   all_of (x ∷ xs) each (suc k) d lt = all_of xs each.1 k d (omega (arith, lt))
@@ -67,7 +67,7 @@ placed_legal fixed bit plain (f ∷ fs) same widths aligned =
     ] (plain_behind fixed bit f)
 
 -- a structure ends at a byte
-ends_at_byte : (fixed : ℕ → Option ℕ) (line : List StructureShape) → IfSome (end_of fixed line) (λ e. e % 8 ≡ 0)
+pub ends_at_byte : (fixed : ℕ → Option ℕ) (line : List StructureShape) → IfSome (end_of fixed line) (λ e. e % 8 ≡ 0)
 ends_at_byte fixed [] = refl
 ends_at_byte fixed (s ∷ line) = elim (end_of fixed line) as (λ o. IfSome (option_and_then (λ start. option_map up_to_byte (bit_behind_fields fixed start s.fields)) o) (λ e. e % 8 ≡ 0)) [
   | None ↦ tt

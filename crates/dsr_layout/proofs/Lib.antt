@@ -3,6 +3,8 @@ pub mod Codes
 pub mod Collecting
 pub mod Composed
 pub mod Cutting
+pub mod Enclosed
+pub mod Fitting
 pub mod FixedBits
 pub mod FixedHeads
 pub mod FixedReads

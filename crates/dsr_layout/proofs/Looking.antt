@@ -1,9 +1,10 @@
 -- Refusals that are looked for one item after another: the first one is told.
-use Rattle.std.proofs.Common.{◌≡◌, ◌<◌, ◌+◌, ℕ, suc, Bool, true, false, List, [], ◌∷◌, ◌++◌, map, drop, length, get_or, Option, None, Some, is_some, refl, sym, ap, ◌∙◌, add-one}
+use Rattle.std.proofs.Common.{◌≡◌, ◌<◌, ◌+◌, ℕ, zero, suc, Bool, true, false, List, [], ◌∷◌, ◌++◌, map, drop, length, get_or, Option, None, Some, is_some, slice_get, refl, sym, ap, ◌∙◌, add-one, arith}
 use Rattle.std.proofs.lemmas.List.{drop_more, get_or_default}
 use Rattle.std.specs.Option.{option_or}
 use Rattle.dsr_layout.specs.Telling.{told_as, told_of}
 use Rattle.dsr_layout.specs.declared.faults.LayoutFault.{LayoutFault}
+use Rattle.dsr_meaning.proofs.Empty.{both_empty}
 use Rattle.dsr_meaning.specs.Faults.{each_at}
 use Rattle.dsr_meaning.specs.Refusals.{Refusal, refused_when}
 
@@ -39,6 +40,15 @@ none_where r e = rw (← e) refl
 pub is_none : {T : Type 0} {o : Option T} → false ≡ is_some o → None ≡ o
 is_none {o = None} e = refl
 is_none {o = Some x} e = absurd cc
+
+-- where no item gives anything, one that is found gives nothing
+pub each_item : {S T : Type 0} (f : ℕ → S → List T) (n : ℕ) (xs : List S) → each_at f n xs ≡ [] → (k m : ℕ) (x : S) → m ≡ n + k → slice_get xs k ≡ Some x → f m x ≡ []
+each_item f n [] e k m x at is = absurd cc
+each_item f n (y ∷ ys) e zero m x at is =
+    let here : m ≡ n = omega arith in
+    let same : y ≡ x = cc in
+    ap (λ j. f j x) here ∙ ap (f n) (sym same) ∙ (both_empty (f n y) (each_at f (suc n) ys) e).0
+each_item f n (y ∷ ys) e (suc k) m x at is = each_item f (suc n) ys (both_empty (f n y) (each_at f (suc n) ys) e).1 k m x (omega arith) is
 
 -- items that are seen by their shapes
 pub each_at_map : {X S : Type 0} (f : ℕ → S → List Refusal) (g : X → S) (n : ℕ) (xs : List X) → each_at (λ k x. f k (g x)) n xs ≡ each_at f n (map g xs)

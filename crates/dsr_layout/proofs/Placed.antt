@@ -19,7 +19,7 @@ use Rattle.dsr_layout.proofs.Clipping.{clipped_first, none_clipped, one_more, no
 use Rattle.dsr_layout.proofs.Lineages.{lineage_at, lineage_before}
 use Rattle.dsr_layout.proofs.Sizes.{size_at, size_below, start_is, end_same}
 
-byte_behind : (b : ℕ) → b ≤ up_to_byte b
+pub byte_behind : (b : ℕ) → b ≤ up_to_byte b
 byte_behind b = omega arith
 
 -- a field ends at no lower bit than it begins
@@ -30,7 +30,7 @@ behind_from b e = elim e.entries as (λ o. b ≤ option_map_or (λ n. up_to_byte
 ]
 
 module _ (fixed : ℕ → Option ℕ) where
-  rising : (fs : List FieldShape) (b e : ℕ) → bit_behind_fields fixed b fs ≡ Some e → b ≤ e
+  pub rising : (fs : List FieldShape) (b e : ℕ) → bit_behind_fields fixed b fs ≡ Some e → b ≤ e
   rising [] b e is = let q : b ≡ e = cc in omega arith
   rising (f ∷ fs) b e is = elim (extent_of fixed f) as (λ o. option_and_then (λ x. bit_behind_fields fixed (bit_behind b x) fs) o ≡ Some e → b ≤ e) [
     | None ↦ λ h. absurd cc

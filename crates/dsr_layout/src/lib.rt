@@ -9,6 +9,7 @@ mod count_checks;
 mod faults;
 mod fixed_fields;
 mod instances;
+mod laws;
 mod layouts;
 mod lookups;
 mod places;
@@ -19,5 +20,9 @@ mod values;
 
 pub use cells::cell;
 pub use faults::LayoutFault;
+pub use laws::{
+    fields_lie_in_structures, heads_fit_their_images, parents_are_no_larger,
+    records_fit_their_slots,
+};
 pub use layouts::layout;
 pub use references::{Ref, code_of, slot_of};

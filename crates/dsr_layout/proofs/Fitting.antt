@@ -1,0 +1,95 @@
+-- What fits where nothing is refused: the head its image, and structures the slots that they describe.
+use Rattle.std.proofs.Common.{◌≡◌, ◌≢◌, ◌≤◌, ◌+◌, ◌-◌, ◌*◌, ◌/◌, ◌%◌, ℕ, true, false, nat_eq, nat_lt, List, [], ◌++◌, length, Option, None, Some, IfSome, option_map, slice_get, if◌then◌else◌, refl, sym, ap, ◌∙◌, subst, arith}
+use Rattle.std.specs.Option.{option_map_or}
+use Rattle.std.proofs.lemmas.Bool.{eq-eqb}
+use Rattle.std.proofs.lemmas.Bool.Decides.{nat_tests}
+use Rattle.dsr_ir.specs.Layouts.{pool_numbers}
+use Rattle.dsr_ir.specs.Shapes.{PoolShape, StructuresShape, structures_shape}
+use Rattle.dsr_ir.specs.declared.declarations.SetDecl.{SetDecl}
+use Rattle.dsr_ir.specs.declared.declarations.Spec.{Spec}
+use Rattle.dsr_ir.specs.declared.layouts.Layout.{Layout}
+use Rattle.dsr_ir.specs.declared.layouts.PoolNumbers.{PoolNumbers}
+use Rattle.dsr_meaning.proofs.Empty.{both_empty, second_empty, third_empty, fourth_empty}
+use Rattle.dsr_meaning.specs.FixedFields.{head_fields, fixed_cell, fixed_value}
+use Rattle.dsr_meaning.specs.Layouts.{bytes_of, pool_of, layout_with, layout_of}
+use Rattle.dsr_meaning.specs.Places.{lineage, size_of}
+use Rattle.dsr_meaning.specs.Refusals.{Short, Subtype, ends_behind, cut_refusals, head_refusals, size_refusals, value_refusals, is_larger, view_refusals, set_refusals, outside_refusals, overlap_refusals, subtype_refusals, zero_refusals, none_refusals, code_refusals, count_refusals, instance_refusals, layout_refusals, refusals}
+use Rattle.dsr_layout.proofs.Collecting.{IsOf, collected_item}
+use Rattle.dsr_layout.proofs.Enclosed.{sized_end}
+use Rattle.dsr_layout.proofs.LegalLayout.{built}
+use Rattle.dsr_layout.proofs.LegalPlaces.{ends_at_byte}
+use Rattle.dsr_layout.proofs.LegalPools.{quiet}
+use Rattle.dsr_layout.proofs.Looking.{each_item}
+
+-- a declared pool's number counts from 1
+counted : (layout : Layout) (p : ℕ) (n : PoolNumbers) → pool_numbers layout p ≡ Some n → (p ≡ 1 + (p - 1)) × (slice_get layout.pools (p - 1) ≡ Some n)
+counted layout p n is = elim (nat_eq p 0) as (λ b. nat_eq p 0 ≡ b → (if b then None else slice_get layout.pools (p - 1)) ≡ Some n → (p ≡ 1 + (p - 1)) × (slice_get layout.pools (p - 1) ≡ Some n)) [
+  | true ↦ λ _ h. absurd cc
+  | false ↦ λ some h.
+      let positive : p ≢ 0 = grind (arith, nat_tests) in
+      (omega (arith, positive), h)
+] refl is
+
+-- a structure by which a pool is read fits its slot, where that isn't refused
+view_fits : (size : ℕ → Option ℕ) (layout : Layout) (p structure : ℕ) (n : PoolNumbers) (bits : ℕ) → view_refusals size layout p structure ≡ [] → pool_numbers layout p ≡ Some n → size structure ≡ Some bits → bits % 8 ≡ 0 → bits ≤ 8 * n.slot
+view_fits size layout p structure n bits none numbers sized whole =
+    let small : nat_lt n.slot (bits / 8) ≡ false =
+    sym (ap (λ o. option_map_or (λ m. option_map_or (nat_lt m.slot) (bytes_of size structure) false) o false) numbers
+    ∙ ap (λ o. option_map_or (nat_lt n.slot) (option_map (λ b. b / 8) o) false) sized)
+    ∙ quiet (is_larger size layout p structure) (Subtype p structure) none in
+    let below : bits / 8 ≤ n.slot = grind (arith, nat_tests) in
+    omega (arith, below, whole)
+
+module _ (spec : Spec) (bytes : List ℕ) (none : refusals spec bytes ≡ []) where
+  abbrev base : StructuresShape
+  base = structures_shape spec.base
+
+  abbrev fixed : ℕ → Option ℕ
+  fixed = fixed_value base bytes
+
+  abbrev size : ℕ → Option ℕ
+  size = size_of fixed base.structures
+
+  pub head_fits : (bits : ℕ) → size spec.base.head ≡ Some bits → bits ≤ 8 * length bytes
+  head_fits bits sized =
+      let rest = size_refusals size base.structures ++ (value_refusals fixed size base.pools ++ option_map_or (layout_refusals size spec base) (layout_with fixed base (length bytes)) []) in
+      let whole = second_empty (cut_refusals (fixed_cell base) (head_fields base) (length bytes)) (head_refusals size base.head (length bytes)) rest none in
+      let inside : nat_lt (8 * length bytes) (0 + bits) ≡ false =
+      sym (ap (λ o. option_map_or (ends_behind (length bytes) 0) o false) sized)
+      ∙ quiet (option_map_or (ends_behind (length bytes) 0) (size base.head) false) Short whole in
+      grind (arith, nat_tests)
+
+  size_whole : (structure bits : ℕ) → size structure ≡ Some bits → bits % 8 ≡ 0
+  size_whole structure bits sized = subst (λ o. IfSome o (λ e. e % 8 ≡ 0)) (sized_end fixed base.structures structure bits sized) (ends_at_byte fixed (lineage base.structures structure))
+
+  module _ (layout : Layout) (is : layout_of base bytes ≡ Some layout) where
+    views_empty : subtype_refusals size base.sets base.pools layout ≡ []
+    views_empty =
+        let cut = cut_refusals (fixed_cell base) (head_fields base) (length bytes) in
+        let head = head_refusals size base.head (length bytes) in
+        let sizes = size_refusals size base.structures in
+        let values = value_refusals fixed size base.pools in
+        let last = option_map_or (layout_refusals size spec base) (layout_with fixed base (length bytes)) [] in
+        let all = sym (ap (λ o. option_map_or (layout_refusals size spec base) o []) is) ∙ fourth_empty head sizes values last (both_empty cut (head ++ (sizes ++ (values ++ last))) none).1 in
+        let rest = zero_refusals layout ++ (none_refusals layout ++ (code_refusals base.structures layout ++ (count_refusals spec layout ++ instance_refusals spec layout))) in
+        third_empty (outside_refusals layout) (overlap_refusals size base.head layout) (subtype_refusals size base.sets base.pools layout) rest all
+
+    module _ (p : ℕ) (n : PoolNumbers) (numbers : pool_numbers layout p ≡ Some n) where
+      pool_empty : (d : PoolShape) → slice_get base.pools (p - 1) ≡ Some d → (view_refusals size layout p d.structure ≡ []) × (set_refusals size layout p base.sets ≡ [])
+      pool_empty d found = both_empty (view_refusals size layout p d.structure) (set_refusals size layout p base.sets) (each_item (λ q e. view_refusals size layout q e.structure ++ set_refusals size layout q base.sets) 1 base.pools views_empty (p - 1) p d (counted layout p n numbers).0 found)
+
+      pub pool_fits : (d : PoolShape) (bits : ℕ) → slice_get base.pools (p - 1) ≡ Some d → size d.structure ≡ Some bits → bits ≤ 8 * n.slot
+      pool_fits d bits found sized = view_fits size layout p d.structure n bits (pool_empty d found).0 numbers sized (size_whole d.structure bits sized)
+
+      -- the pool is declared
+      declared : IsOf (λ _ d. pool_of fixed size d) base.pools (p - 1) p n
+      declared =
+          let at = counted layout p n numbers in
+          collected_item (λ _ d. pool_of fixed size d) 1 base.pools layout.pools (built fixed base (length bytes) layout is).1 (p - 1) p n at.0 at.1
+
+      pub set_fits : (k : ℕ) (s : SetDecl) (bits : ℕ) → slice_get base.sets k ≡ Some s → s.pool ≡ p → size s.structure ≡ Some bits → bits ≤ 8 * n.slot
+      set_fits k s bits found of sized =
+          let sets = (pool_empty declared.item declared.item_is).1 in
+          let one = each_item (λ _ t. if nat_eq t.pool p then view_refusals size layout p t.structure else []) 0 base.sets sets k k s (omega arith) found in
+          let own : view_refusals size layout p s.structure ≡ [] = sym (ap (λ b. if b then view_refusals size layout p s.structure else []) (eq-eqb s.pool p of)) ∙ one in
+          view_fits size layout p s.structure n bits own numbers sized (size_whole s.structure bits sized)

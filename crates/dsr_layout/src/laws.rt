@@ -1,0 +1,40 @@
+// Laws on layouts, each the contract of a function. With them, those who use a layout show that
+// a record has a field's entry, as `cell` requires.
+ghost use Rattle.std.specs.Prelude.{◌≡◌, ◌<◌, ◌≤◌, ◌+◌, ◌-◌, ◌*◌, [], ℕ, List, length, slice_get, Option, Some};
+ghost use Rattle.dsr_ir.specs.Layouts.{field_place, pool_numbers};
+ghost use Rattle.dsr_ir.specs.Shapes.{PoolShape, StructureShape, StructuresShape, structures_shape};
+ghost use Rattle.dsr_ir.specs.declared.declarations.FieldRef.{FieldRef};
+ghost use Rattle.dsr_ir.specs.declared.declarations.SetDecl.{SetDecl};
+ghost use Rattle.dsr_ir.specs.declared.declarations.Spec.{Spec};
+ghost use Rattle.dsr_ir.specs.declared.layouts.FieldPlace.{FieldPlace};
+ghost use Rattle.dsr_ir.specs.declared.layouts.Layout.{Layout};
+ghost use Rattle.dsr_ir.specs.declared.layouts.PoolNumbers.{PoolNumbers};
+ghost use Rattle.dsr_meaning.specs.Cells.{width_bits};
+ghost use Rattle.dsr_meaning.specs.FixedFields.{fixed_value};
+ghost use Rattle.dsr_meaning.specs.Layouts.{layout_of};
+ghost use Rattle.dsr_meaning.specs.Legal.{entry_count};
+ghost use Rattle.dsr_meaning.specs.Places.{size_of};
+ghost use Rattle.dsr_meaning.specs.Refusals.{refusals};
+
+/// Each entry of a field lies in the bytes of the structure that declares the field.
+pub fn fields_lie_in_structures()
+    ensures { (base : StructuresShape) (bytes : List ℕ) (layout : Layout) → layout_of base bytes ≡ Some layout → (field : FieldRef) (place : FieldPlace) (index bits : ℕ) → field_place layout field ≡ Some place → index < entry_count place → size_of (fixed_value base bytes) base.structures field.structure ≡ Some bits → place.bit + (index + 1) * width_bits place.width ≤ bits }
+{}
+
+/// A structure is at least as large as the one that it extends, so that the fields of its
+/// ancestors lie in its bytes, too.
+pub fn parents_are_no_larger()
+    ensures { (fixed : ℕ → Option ℕ) (structures : List StructureShape) (i p : ℕ) (s : StructureShape) (larger smaller : ℕ) → slice_get structures i ≡ Some s → s.parent ≡ Some p → p < i → size_of fixed structures i ≡ Some larger → size_of fixed structures p ≡ Some smaller → smaller ≤ larger }
+{}
+
+/// Where nothing is refused, a slot has room for the structure of its pool, and for the structure
+/// of each set whose records are slots of that pool.
+pub fn records_fit_their_slots()
+    ensures pools { (spec : Spec) (bytes : List ℕ) (layout : Layout) → layout_of (structures_shape spec.base) bytes ≡ Some layout → refusals spec bytes ≡ [] → (p : ℕ) (numbers : PoolNumbers) (d : PoolShape) (bits : ℕ) → pool_numbers layout p ≡ Some numbers → slice_get (structures_shape spec.base).pools (p - 1) ≡ Some d → size_of (fixed_value (structures_shape spec.base) bytes) (structures_shape spec.base).structures d.structure ≡ Some bits → bits ≤ 8 * numbers.slot }
+    ensures sets { (spec : Spec) (bytes : List ℕ) (layout : Layout) → layout_of (structures_shape spec.base) bytes ≡ Some layout → refusals spec bytes ≡ [] → (p : ℕ) (numbers : PoolNumbers) (k : ℕ) (s : SetDecl) (bits : ℕ) → pool_numbers layout p ≡ Some numbers → slice_get spec.base.sets k ≡ Some s → s.pool ≡ p → size_of (fixed_value (structures_shape spec.base) bytes) (structures_shape spec.base).structures s.structure ≡ Some bits → bits ≤ 8 * numbers.slot }
+{}
+
+/// Where nothing is refused, the image has all bytes of the head.
+pub fn heads_fit_their_images()
+    ensures { (spec : Spec) (bytes : List ℕ) (bits : ℕ) → refusals spec bytes ≡ [] → size_of (fixed_value (structures_shape spec.base) bytes) (structures_shape spec.base).structures spec.base.head ≡ Some bits → bits ≤ 8 * length bytes }
+{}

@@ -1,7 +1,7 @@
 -- Bits and places where sums and products stop at the last number of 64 bits.
 use Rattle.std.proofs.Common.{◌≡◌, ◌<◌, ◌≤◌, ◌+◌, ◌*◌, ◌^◌, ℕ, List, [], ◌∷◌, ◌++◌, map, drop, length, get_or, Option, None, Some, option_map, Result, Err, ok_or, refl, sym, ap, ◌∙◌, arith}
 use Rattle.std.specs.Option.{option_and_then, option_map_or}
-use Rattle.std.proofs.lemmas.List.{append_assoc, append-nil, drop_more, drop_all}
+use Rattle.std.proofs.lemmas.List.{append_assoc, append-nil, drop_all}
 use Rattle.dsr_ir.specs.Shapes.{FieldShape, field_shape, expr_shape}
 use Rattle.dsr_ir.specs.declared.declarations.Field.{Field}
 use Rattle.dsr_ir.specs.declared.layouts.FieldPlace.{FieldPlace}
@@ -10,6 +10,7 @@ use Rattle.dsr_meaning.specs.Extents.{Extent, up_to_byte, bit_behind}
 use Rattle.dsr_meaning.specs.Places.{entries_of, extent_of, bit_behind_fields, placed}
 use Rattle.dsr_layout.specs.Tables.{clip, clip_place}
 use Rattle.dsr_layout.specs.declared.faults.LayoutFault.{LayoutFault}
+use Rattle.dsr_layout.proofs.Items.{drop_item}
 
 clip_sum : (b n : ℕ) → clip (clip b + n) ≡ clip (b + n)
 clip_sum b n = omega arith
@@ -45,6 +46,10 @@ pub none_clipped : (o : Option (List FieldPlace)) → option_map (map clip_place
 none_clipped None e = refl
 none_clipped (Some ps) e = absurd cc
 
+-- a number of 64 bits is its own clip
+pub clip_small : (n : ℕ) → n < 2 ^ 64 → clip n ≡ n
+clip_small n small = omega arith
+
 pub clip_twice : (b : ℕ) → clip b ≡ clip (clip b)
 clip_twice b = omega arith
 
@@ -70,7 +75,7 @@ module _ (fixed : ℕ → Option ℕ) where
   -- what is left of the fields, where one more is done
   module _ (xs : List Field) (i : ℕ) (x : Field) (lt : i < length xs) (is : x ≡ get_or xs i x) where
     left : drop i xs ≡ x ∷ drop (i + 1) xs
-    left = drop_more xs i x lt ∙ ap (λ y. y ∷ drop (i + 1) xs) (sym is)
+    left = drop_item xs i x lt is
 
     pub behind_next : (bit : ℕ) {new : ℕ} {entries : Option ℕ} {all : Option ℕ} → entries_of fixed (option_map expr_shape x.len) ≡ Some entries → new ≡ clip (bit_behind bit (record { bits = width_bits x.width; entries = entries })) → option_map clip (bit_behind_fields fixed bit (map field_shape (drop i xs))) ≡ all → option_map clip (bit_behind_fields fixed new (map field_shape (drop (i + 1) xs))) ≡ all
     behind_next bit {new} {entries} {all} known made before =
@@ -90,11 +95,10 @@ module _ (fixed : ℕ → Option ℕ) where
     placed_next bit old {new} {entries} {places} {all} small known pushed made before =
         let behind = bit_behind bit (record { bits = width_bits x.width; entries = entries }) in
         let rest = map field_shape (drop (i + 1) xs) in
-        let whole : clip bit ≡ bit = omega arith in
         ap (λ qs. option_map (λ ps. qs ++ ps) (option_map (map clip_place) (placed fixed new rest))) pushed
         ∙ ap (option_map (λ ps. (old ++ record { bit = bit; width = x.width; length = entries } ∷ []) ++ ps)) (placed_same rest new behind (ap clip made ∙ sym (clip_twice behind)))
         ∙ sym (one_more old (record { bit = bit; width = x.width; length = entries }) (option_map (map clip_place) (placed fixed behind rest)))
-        ∙ ap (λ b. option_map (λ ps. old ++ ps) (option_map (λ ps. record { bit = b; width = x.width; length = entries } ∷ ps) (option_map (map clip_place) (placed fixed behind rest)))) (sym whole)
+        ∙ ap (λ b. option_map (λ ps. old ++ ps) (option_map (λ ps. record { bit = b; width = x.width; length = entries } ∷ ps) (option_map (map clip_place) (placed fixed behind rest)))) (sym (clip_small bit small))
         ∙ ap (option_map (λ ps. old ++ ps)) (sym (clipped_first (record { bit = bit; width = x.width; length = entries }) (placed fixed behind rest)))
         ∙ sym (ap (λ o. option_map (λ ps. old ++ ps) (option_map (map clip_place) (option_and_then (λ e. option_map (λ ps. record { bit = bit; width = x.width; length = e.entries } ∷ ps) (placed fixed (bit_behind bit e) rest)) (option_map (λ n. record { bits = width_bits x.width; entries = n }) o)))) known)
         ∙ sym (ap (λ ys. option_map (λ ps. old ++ ps) (option_map (map clip_place) (placed fixed bit (map field_shape ys)))) left)
@@ -109,8 +113,7 @@ module _ (fixed : ℕ → Option ℕ) where
   -- nothing is left
   pub behind_last : (bit : ℕ) {all : Option ℕ} (xs : List Field) (i : ℕ) → length xs ≤ i → bit < 2 ^ 64 → option_map clip (bit_behind_fields fixed bit (map field_shape (drop i xs))) ≡ all → Some bit ≡ all
   behind_last bit {all} xs i past small before =
-      let whole : bit ≡ clip bit = omega arith in
-      ap Some whole ∙ sym (ap (λ ys. option_map clip (bit_behind_fields fixed bit (map field_shape ys))) (drop_all i xs past)) ∙ before
+      ap Some (sym (clip_small bit small)) ∙ sym (ap (λ ys. option_map clip (bit_behind_fields fixed bit (map field_shape ys))) (drop_all i xs past)) ∙ before
 
   pub placed_last : (bit : ℕ) {places : List FieldPlace} {all : Option (List FieldPlace)} (xs : List Field) (i : ℕ) → length xs ≤ i → option_map (λ ps. places ++ ps) (option_map (map clip_place) (placed fixed bit (map field_shape (drop i xs)))) ≡ all → all ≡ Some places
   placed_last bit {places} {all} xs i past before =

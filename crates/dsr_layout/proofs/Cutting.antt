@@ -3,10 +3,12 @@ use Rattle.std.proofs.Common.{◌≡◌, ◌<◌, ◌≤◌, ◌+◌, ◌*◌, �
 use Rattle.std.specs.Prelude.{slice_get, option_map}
 use Rattle.std.specs.Option.{option_map_or}
 use Rattle.std.proofs.lemmas.Bool.Decides.{nat_tests}
+use Rattle.std.proofs.lemmas.List.{drop_all}
 use Rattle.dsr_ir.specs.Shapes.{FieldShape}
 use Rattle.dsr_ir.specs.declared.layouts.Cell.{Cell}
 use Rattle.dsr_meaning.specs.Faults.{each_at}
 use Rattle.dsr_meaning.specs.Refusals.{Refusal, Short, refused_when, ends_behind, cut_refusals}
+use Rattle.dsr_layout.proofs.Looking.{each_item, quiet}
 use Rattle.dsr_layout.specs.Tables.{clip_cell}
 use Rattle.dsr_layout.specs.Telling.{told_of, told_as}
 
@@ -32,29 +34,9 @@ same_cuts table cell bytes small same n (f ∷ fs) =
     ap (λ b. refused_when b Short ++ cut_from table bytes (suc n) fs) (ap (cuts bytes) (same n) ∙ clip_cuts bytes (cell n) small)
     ∙ ap (λ rs. refused_when (cuts bytes (cell n)) Short ++ rs) (same_cuts table cell bytes small same (suc n) fs)
 
--- where nothing is told, nothing is refused
-pub none_refused : (rs : List Refusal) → told_of rs ≡ None → rs ≡ []
-none_refused [] e = refl
-none_refused (r ∷ rs) e = absurd cc
-
 -- where nothing is refused, no cell of a field ends behind the image
-nothing_first : (b : Bool) (rs : List Refusal) → refused_when b Short ++ rs ≡ [] → (b ≡ false) × (rs ≡ [])
-nothing_first true rs e = absurd cc
-nothing_first false rs e = (refl, e)
-
-uncut_from : (cell : ℕ → Option Cell) (bytes n : ℕ) (fields : List FieldShape) → cut_from cell bytes n fields ≡ [] → (k : ℕ) (f : FieldShape) → slice_get fields k ≡ Some f → cuts bytes (cell (n + k)) ≡ false
-uncut_from cell bytes n [] e k f is = absurd cc
-uncut_from cell bytes n (g ∷ gs) e zero f is =
-    let place : n + 0 ≡ n = omega arith in
-    ap (λ i. cuts bytes (cell i)) place ∙ (nothing_first (cuts bytes (cell n)) (cut_from cell bytes (suc n) gs) e).0
-uncut_from cell bytes n (g ∷ gs) e (suc k) f is =
-    let place : n + suc k ≡ suc n + k = omega arith in
-    ap (λ i. cuts bytes (cell i)) place ∙ uncut_from cell bytes (suc n) gs (nothing_first (cuts bytes (cell n)) (cut_from cell bytes (suc n) gs) e).1 k f is
-
 pub uncut : (cell : ℕ → Option Cell) (bytes : ℕ) (fields : List FieldShape) → cut_refusals cell fields bytes ≡ [] → (k : ℕ) (f : FieldShape) → slice_get fields k ≡ Some f → cuts bytes (cell k) ≡ false
-uncut cell bytes fields e k f is =
-    let place : k ≡ 0 + k = omega arith in
-    ap (λ i. cuts bytes (cell i)) place ∙ uncut_from cell bytes 0 fields e k f is
+uncut cell bytes fields e k f is = quiet (cuts bytes (cell k)) Short (each_item (λ j _. refused_when (cuts bytes (cell j)) Short) 0 fields e k k f (omega arith) is)
 
 -- what is left from an item on begins with it
 left_from : {X : Type 0} (xs : List X) (i : ℕ) → i < length xs → (x : X) × (drop i xs ≡ x ∷ drop (suc i) xs)
@@ -78,12 +60,4 @@ cut_here shape cell bytes xs i lt is =
 
 -- no field is left
 pub cut_all : {X : Type 0} (shape : X → FieldShape) (cell : ℕ → Option Cell) (bytes : ℕ) (xs : List X) (i : ℕ) → length xs ≤ i → cut_from cell bytes i (map shape (drop i xs)) ≡ []
-cut_all shape cell bytes [] zero past = refl
-cut_all shape cell bytes [] (suc i) past = refl
-cut_all shape cell bytes (x ∷ xs) zero past = absurd (omega arith)
-cut_all shape cell bytes (x ∷ xs) (suc i) past = rw (drop_past xs i (omega arith)) refl where
-  drop_past : {Y : Type 0} (ys : List Y) (j : ℕ) → length ys ≤ j → drop j ys ≡ []
-  drop_past [] zero le = refl
-  drop_past [] (suc j) le = refl
-  drop_past (y ∷ ys) zero le = absurd (omega arith)
-  drop_past (y ∷ ys) (suc j) le = drop_past ys j (omega arith)
+cut_all shape cell bytes xs i past = ap (λ ys. cut_from cell bytes i (map shape ys)) (drop_all i xs past)

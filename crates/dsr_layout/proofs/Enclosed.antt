@@ -1,5 +1,5 @@
 -- The entries of fields lie in their structures, and structures in those that extend them.
-use Rattle.std.proofs.Common.{◌≡◌, ◌<◌, ◌≤◌, ◌+◌, ◌*◌, ◌^◌, ℕ, true, false, nat_lt, List, [], ◌∷◌, reverse, length, All, Option, None, Some, IfSome, option_map, option_and_then, slice_get, unwrap_or, if◌then◌else◌, refl, sym, ap, ◌∙◌, subst, arith}
+use Rattle.std.proofs.Common.{◌≡◌, ◌<◌, ◌≤◌, ◌+◌, ◌*◌, ◌^◌, ℕ, true, false, nat_lt, List, [], ◌∷◌, length, All, Option, None, Some, IfSome, option_map, option_and_then, slice_get, unwrap_or, if◌then◌else◌, refl, sym, ap, ◌∙◌, subst, arith}
 use Rattle.std.proofs.lemmas.Bool.{lt-ltb}
 use Rattle.std.proofs.lemmas.Nat.{mul-le}
 use Rattle.std.proofs.lemmas.Option.{IfSome_then}
@@ -16,7 +16,7 @@ use Rattle.dsr_meaning.specs.Layouts.{layout_of, places_of}
 use Rattle.dsr_meaning.specs.Legal.{entry_count}
 use Rattle.dsr_meaning.specs.Places.{lineage, entries_of, bit_behind_fields, placed, end_of, size_of, own_places}
 use Rattle.dsr_layout.proofs.Collecting.{collected_item}
-use Rattle.dsr_layout.proofs.HeadLineage.{ancestors_in, lineage_of}
+use Rattle.dsr_layout.proofs.Lineages.{ancestors, lineage_of}
 use Rattle.dsr_layout.proofs.LegalLayout.{built}
 use Rattle.dsr_layout.proofs.LegalPlaces.{Each, all_of}
 use Rattle.dsr_layout.proofs.Meanings.{found_holds}
@@ -62,39 +62,37 @@ module _ (fixed : ℕ → Option ℕ) where
         ] (placed_within fs behind last end h within)
   ] is
 
+  -- a structure ends at the bit behind its last field or behind it
+  last_bit : (fs : List FieldShape) (start end : ℕ) → option_map up_to_byte (bit_behind_fields fixed start fs) ≡ Some end → (last : ℕ) × ((bit_behind_fields fixed start fs ≡ Some last) × (last ≤ end))
+  last_bit fs start end is = elim (bit_behind_fields fixed start fs) as (λ o. option_map up_to_byte o ≡ Some end → (last : ℕ) × ((o ≡ Some last) × (last ≤ end))) [
+    | None ↦ λ e. absurd cc
+    | Some last ↦ λ e.
+        let whole : up_to_byte last ≡ end = cc in
+        let within : last ≤ end = omega (arith, byte_behind last, whole) in
+        (last, (refl, within))
+  ] is
+
   -- the own fields of a structure lie before its end
   own_within : (line : List StructureShape) (end : ℕ) → end_of fixed line ≡ Some end → IfSome (own_places fixed line) (All (EndsBy end))
   own_within [] end is = tt
   own_within (s ∷ line) end is = elim (end_of fixed line) as (λ o. option_and_then (λ start. option_map up_to_byte (bit_behind_fields fixed start s.fields)) o ≡ Some end → IfSome (option_and_then (λ start. placed fixed start s.fields) o) (All (EndsBy end))) [
     | None ↦ λ _. tt
-    | Some start ↦ λ h. elim (bit_behind_fields fixed start s.fields) as (λ o. bit_behind_fields fixed start s.fields ≡ o → option_map up_to_byte o ≡ Some end → IfSome (placed fixed start s.fields) (All (EndsBy end))) [
-      | None ↦ λ _ e. absurd cc
-      | Some last ↦ λ behind e.
-          let whole : up_to_byte last ≡ end = cc in
-          let within : last ≤ end = omega (arith, byte_behind last, whole) in
-          IfSome_then (placed fixed start s.fields) (placed_within s.fields start last end behind within) (all_of (EndsBy end))
-    ] refl h
+    | Some start ↦ λ h.
+        let behind = last_bit s.fields start end h in
+        IfSome_then (placed fixed start s.fields) (placed_within s.fields start behind.0 end behind.1.0 behind.1.1) (all_of (EndsBy end))
   ] is
-
-  -- fields end no lower than they begin
-  grows : (fs : List FieldShape) (start end : ℕ) → option_map up_to_byte (bit_behind_fields fixed start fs) ≡ Some end → start ≤ end
-  grows fs start end is = elim (bit_behind_fields fixed start fs) as (λ o. bit_behind_fields fixed start fs ≡ o → option_map up_to_byte o ≡ Some end → start ≤ end) [
-    | None ↦ λ _ e. absurd cc
-    | Some last ↦ λ behind e.
-        let whole : up_to_byte last ≡ end = cc in
-        omega (arith, rising fixed fs start last behind, byte_behind last, whole)
-  ] refl is
 
   pub parent_within : (structures : List StructureShape) (i p : ℕ) (s : StructureShape) (larger smaller : ℕ) → slice_get structures i ≡ Some s → s.parent ≡ Some p → p < i → size_of fixed structures i ≡ Some larger → size_of fixed structures p ≡ Some smaller → smaller ≤ larger
   parent_within structures i p s larger smaller found parent before large small =
       let line : lineage structures i ≡ s ∷ lineage structures p =
       lineage_of structures i s found
-      ∙ ap (λ o. s ∷ ancestors_in (reverse structures) i o) parent
+      ∙ ap (λ o. s ∷ ancestors structures i o) parent
       ∙ ap (λ b. s ∷ (if b then lineage structures p else [])) (lt-ltb p i before) in
-      grows s.fields smaller larger (
+      let behind = last_bit s.fields smaller larger (
       sym (ap (option_and_then (λ start. option_map up_to_byte (bit_behind_fields fixed start s.fields))) (sized_end structures p smaller small))
       ∙ sym (ap (end_of fixed) line)
-      ∙ sized_end structures i larger large)
+      ∙ sized_end structures i larger large) in
+      omega (arith, rising fixed s.fields smaller behind.0 behind.1.0, behind.1.1)
 
   -- a place in the table of places
   place_within : (structures : List StructureShape) (fields : List (List FieldPlace)) (i k : ℕ) (places : List FieldPlace) (place : FieldPlace) (bits : ℕ) → places_of fixed structures ≡ Some fields → slice_get fields i ≡ Some places → slice_get places k ≡ Some place → size_of fixed structures i ≡ Some bits → EndsBy bits place

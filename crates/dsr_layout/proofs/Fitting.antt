@@ -1,5 +1,5 @@
 -- What fits where nothing is refused: the head its image, and structures the slots that they describe.
-use Rattle.std.proofs.Common.{◌≡◌, ◌≢◌, ◌≤◌, ◌+◌, ◌-◌, ◌*◌, ◌/◌, ◌%◌, ℕ, true, false, nat_eq, nat_lt, List, [], ◌++◌, length, Option, None, Some, IfSome, option_map, slice_get, if◌then◌else◌, refl, sym, ap, ◌∙◌, subst, arith}
+use Rattle.std.proofs.Common.{◌≡◌, ◌≤◌, ◌+◌, ◌-◌, ◌*◌, ◌/◌, ◌%◌, ℕ, false, nat_eq, nat_lt, List, [], ◌++◌, length, Option, Some, IfSome, option_map, slice_get, if◌then◌else◌, sym, ap, ◌∙◌, subst, arith}
 use Rattle.std.specs.Option.{option_map_or}
 use Rattle.std.proofs.lemmas.Bool.{eq-eqb}
 use Rattle.std.proofs.lemmas.Bool.Decides.{nat_tests}
@@ -18,17 +18,8 @@ use Rattle.dsr_layout.proofs.Collecting.{IsOf, collected_item}
 use Rattle.dsr_layout.proofs.Enclosed.{sized_end}
 use Rattle.dsr_layout.proofs.LegalLayout.{built}
 use Rattle.dsr_layout.proofs.LegalPlaces.{ends_at_byte}
-use Rattle.dsr_layout.proofs.LegalPools.{quiet}
-use Rattle.dsr_layout.proofs.Looking.{each_item}
-
--- a declared pool's number counts from 1
-counted : (layout : Layout) (p : ℕ) (n : PoolNumbers) → pool_numbers layout p ≡ Some n → (p ≡ 1 + (p - 1)) × (slice_get layout.pools (p - 1) ≡ Some n)
-counted layout p n is = elim (nat_eq p 0) as (λ b. nat_eq p 0 ≡ b → (if b then None else slice_get layout.pools (p - 1)) ≡ Some n → (p ≡ 1 + (p - 1)) × (slice_get layout.pools (p - 1) ≡ Some n)) [
-  | true ↦ λ _ h. absurd cc
-  | false ↦ λ some h.
-      let positive : p ≢ 0 = grind (arith, nat_tests) in
-      (omega (arith, positive), h)
-] refl is
+use Rattle.dsr_layout.proofs.LegalPools.{counted}
+use Rattle.dsr_layout.proofs.Looking.{each_item, quiet}
 
 -- a structure by which a pool is read fits its slot, where that isn't refused
 view_fits : (size : ℕ → Option ℕ) (layout : Layout) (p structure : ℕ) (n : PoolNumbers) (bits : ℕ) → view_refusals size layout p structure ≡ [] → pool_numbers layout p ≡ Some n → size structure ≡ Some bits → bits % 8 ≡ 0 → bits ≤ 8 * n.slot

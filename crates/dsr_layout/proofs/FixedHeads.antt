@@ -1,5 +1,5 @@
 -- The cells of the fixed fields of `Head`, by the table of ends.
-use Rattle.std.proofs.Common.{◌≡◌, ℕ, true, false, ltb, List, [], ◌∷◌, reverse, take, Some, None, Option, if◌then◌else◌, refl, sym, ap, ◌∙◌}
+use Rattle.std.proofs.Common.{◌≡◌, ℕ, true, false, List, [], ◌∷◌, take, Some, None, Option, if◌then◌else◌, refl, sym, ap, ◌∙◌}
 use Rattle.std.specs.Prelude.{slice_get, option_map}
 use Rattle.std.specs.Option.{option_and_then}
 use Rattle.dsr_ir.specs.Shapes.{FieldShape, StructureShape, StructuresShape}
@@ -9,10 +9,11 @@ use Rattle.dsr_meaning.specs.FixedFields.{own_bit, head_fields, is_fixed, cell_a
 use Rattle.dsr_meaning.specs.Places.{lineage, end_of, bit_behind_fields}
 use Rattle.dsr_layout.specs.Ends.{start_in}
 use Rattle.dsr_layout.specs.FixedCells.{cell_from, clipped_cell}
-use Rattle.dsr_layout.specs.Tables.{known, clip, clip_cell, end_in, HoldsEnds}
-use Rattle.dsr_layout.proofs.FixedBits.{clip_start}
+use Rattle.dsr_layout.specs.Tables.{known, clip, clip_cell, HoldsEnds}
+use Rattle.dsr_layout.proofs.Clipping.{behind_same, clip_twice}
 use Rattle.dsr_layout.proofs.FixedTables.{bit_at}
-use Rattle.dsr_layout.proofs.HeadLineage.{ancestors_in, lineage_of}
+use Rattle.dsr_layout.proofs.Lineages.{ancestors, lineage_of}
+use Rattle.dsr_layout.proofs.Sizes.{start_is}
 
 -- the fields that `Head` declares
 pub head_is : (base : StructuresShape) (s : StructureShape) → slice_get base.structures base.head ≡ Some s → head_fields base ≡ s.fields
@@ -22,18 +23,10 @@ head_is base s e = rw e refl
 pub no_head : (base : StructuresShape) → slice_get base.structures base.head ≡ None → head_fields base ≡ []
 no_head base e = rw e refl
 
--- the clipped start of own fields is that of the end of the ancestors
-start_is : (structures : List StructureShape) (ends : List (Option ℕ)) (i : ℕ) (parent : Option ℕ) → HoldsEnds (known []) structures ends → start_in ends i parent ≡ option_map clip (end_of (known []) (ancestors_in (reverse structures) i parent))
-start_is structures ends i None holds = refl
-start_is structures ends i (Some p) holds = elim (ltb p i) as (λ b. (if b then end_in ends p else Some 0) ≡ option_map clip (end_of (known []) (if b then lineage structures p else []))) [
-  | true ↦ holds p
-  | false ↦ refl
-]
-
 -- behind fields from a clipped start
 bit_at_clipped : (fields : List FieldShape) (k : ℕ) (o : Option ℕ) → bit_at (option_map clip o) fields k ≡ option_map clip (option_and_then (λ s. bit_behind_fields (known []) s (take k fields)) o)
 bit_at_clipped fields k None = refl
-bit_at_clipped fields k (Some s) = clip_start (known []) s (take k fields)
+bit_at_clipped fields k (Some s) = behind_same (known []) (take k fields) (clip s) s (sym (clip_twice s))
 
 -- the cell from a clipped bit
 cell_clipped : (order : Order) (f : FieldShape) (o : Option ℕ) → cell_from order (option_map clip o) f ≡ option_map clip_cell (if is_fixed f then option_map (cell_at order f) o else None)
@@ -56,7 +49,7 @@ from_clipped order fields k start = ap (λ b. option_and_then (λ f. cell_from o
   each (Some f) = cell_clipped order f bit
 
 -- the cell of a fixed field, by the ancestors of `Head`
-cell_is : (base : StructuresShape) (s : StructureShape) (k : ℕ) → slice_get base.structures base.head ≡ Some s → fixed_cell base k ≡ option_and_then (λ f. if is_fixed f then option_map (cell_at base.order f) (own_bit (s ∷ ancestors_in (reverse base.structures) base.head s.parent) k) else None) (slice_get s.fields k)
+cell_is : (base : StructuresShape) (s : StructureShape) (k : ℕ) → slice_get base.structures base.head ≡ Some s → fixed_cell base k ≡ option_and_then (λ f. if is_fixed f then option_map (cell_at base.order f) (own_bit (s ∷ ancestors base.structures base.head s.parent) k) else None) (slice_get s.fields k)
 cell_is base s k e =
     ap (λ fs. option_and_then (λ f. if is_fixed f then option_map (cell_at base.order f) (own_bit (lineage base.structures base.head) k) else None) (slice_get fs k)) (head_is base s e)
     ∙ ap (λ ss. option_and_then (λ f. if is_fixed f then option_map (cell_at base.order f) (own_bit ss k) else None) (slice_get s.fields k)) (lineage_of base.structures base.head s e)
@@ -64,8 +57,8 @@ cell_is base s k e =
 -- the clipped cells of the fixed fields
 pub head_cells : (base : StructuresShape) (ends : List (Option ℕ)) (s : StructureShape) → HoldsEnds (known []) base.structures ends → slice_get base.structures base.head ≡ Some s → (k : ℕ) → clipped_cell base.order (start_in ends base.head s.parent) s.fields k ≡ option_map clip_cell (fixed_cell base k)
 head_cells base ends s holds e k =
-    ap (λ o. clipped_cell base.order o s.fields k) (start_is base.structures ends base.head s.parent holds)
-    ∙ from_clipped base.order s.fields k (end_of (known []) (ancestors_in (reverse base.structures) base.head s.parent))
+    ap (λ o. clipped_cell base.order o s.fields k) (start_is (known []) ends base.structures base.head s.parent holds)
+    ∙ from_clipped base.order s.fields k (end_of (known []) (ancestors base.structures base.head s.parent))
     ∙ ap (option_map clip_cell) (sym (cell_is base s k e))
 
 -- none where there is no `Head`

@@ -1,18 +1,39 @@
 -- The table of the cells of fixed fields.
-use Rattle.std.proofs.Common.{◌≡◌, ◌<◌, ◌≤◌, ◌+◌, ◌^◌, ℕ, zero, suc, true, false, eqb, ltb, List, [], ◌∷◌, ◌++◌, map, length, take, get_or, Some, None, Option, refl, sym, ap, ◌∙◌, add-one, arith}
+use Rattle.std.proofs.Common.{◌≡◌, ◌<◌, ◌≤◌, ◌+◌, ◌^◌, ℕ, zero, suc, true, false, eqb, ltb, List, [], ◌∷◌, ◌++◌, length, take, Some, None, Option, refl, sym, ap, ◌∙◌, arith}
 use Rattle.std.specs.Prelude.{IfSome, slice_get, option_map}
 use Rattle.std.specs.Option.{option_and_then}
-use Rattle.std.proofs.Math.Seq.{take-suc}
 use Rattle.std.proofs.lemmas.Bool.Decides.{nat_tests}
-use Rattle.std.proofs.lemmas.Option.{slice_get_past, slice_get_within, slice_get-map, slice_get-get_or, get_or_from_slice_get}
-use Rattle.std.proofs.lemmas.List.{length-map}
+use Rattle.std.proofs.lemmas.Option.{slice_get_past}
 use Rattle.std.proofs.lemmas.Grind.{common_steps}
 use Rattle.dsr_ir.specs.Shapes.{FieldShape}
 use Rattle.dsr_ir.specs.declared.declarations.Order.{Order}
 use Rattle.dsr_ir.specs.declared.layouts.Cell.{Cell}
+use Rattle.dsr_meaning.specs.Extents.{bit_behind}
+use Rattle.dsr_meaning.specs.Places.{extent_of, bit_behind_fields}
 use Rattle.dsr_layout.specs.FixedCells.{cell_from, clipped_cell, next_bit}
-use Rattle.dsr_layout.specs.Tables.{known}
-use Rattle.dsr_layout.proofs.FixedBits.{behind, behind_next, clip_small}
+use Rattle.dsr_layout.specs.Tables.{known, clip}
+use Rattle.dsr_layout.proofs.Clipping.{behind_same, clip_small, clip_twice}
+use Rattle.dsr_layout.proofs.Items.{take_found}
+
+module _ (fixed : ℕ → Option ℕ) where
+  -- the clipped bit behind fields
+  abbrev behind : ℕ → List FieldShape → Option ℕ
+  behind s fs = option_map clip (bit_behind_fields fixed s fs)
+
+  -- behind fields and one more
+  behind_more : (s : ℕ) (fs : List FieldShape) (f : FieldShape) → bit_behind_fields fixed s (fs ++ f ∷ []) ≡ option_and_then (λ b. bit_behind_fields fixed b (f ∷ [])) (bit_behind_fields fixed s fs)
+  behind_more s [] f = refl
+  behind_more s (g ∷ gs) f = elim (extent_of fixed g) as (λ o. option_and_then (λ e. bit_behind_fields fixed (bit_behind s e) (gs ++ f ∷ [])) o ≡ option_and_then (λ b. bit_behind_fields fixed b (f ∷ [])) (option_and_then (λ e. bit_behind_fields fixed (bit_behind s e) gs) o)) [
+    | None ↦ refl
+    | Some e ↦ behind_more (bit_behind s e) gs f
+  ]
+
+  -- the clipped bit behind them, by the clipped bit before the last
+  behind_pushed : (s : ℕ) (fs : List FieldShape) (f : FieldShape) → behind s (fs ++ f ∷ []) ≡ option_and_then (λ b. behind b (f ∷ [])) (behind s fs)
+  behind_pushed s fs f = ap (option_map clip) (behind_more s fs f) ∙ last (bit_behind_fields fixed s fs) where
+    last : (o : Option ℕ) → option_map clip (option_and_then (λ b. bit_behind_fields fixed b (f ∷ [])) o) ≡ option_and_then (λ b. behind b (f ∷ [])) (option_map clip o)
+    last None = refl
+    last (Some b) = behind_same fixed (f ∷ []) b (clip b) (clip_twice b)
 
 -- the clipped bit at which a field begins
 abbrev pub bit_at : Option ℕ → List FieldShape → ℕ → Option ℕ
@@ -45,22 +66,8 @@ known_last : {T : Type 0} (xs : List (Option T)) (x : Option T) → known (xs ++
 known_last [] x = refl
 known_last (y ∷ ys) x = known_last ys x
 
-pub known_past : {T : Type 0} (xs : List (Option T)) (k : ℕ) → length xs ≤ k → known xs k ≡ None
-known_past [] k le = refl
-known_past (y ∷ ys) zero le = absurd (omega arith)
-known_past (y ∷ ys) (suc k) le = known_past ys k (omega arith)
-
--- an item seen by its shape
-pub shape_at : {X S : Type 0} (shape : X → S) (xs : List X) (i : ℕ) (x : X) → i < length xs → x ≡ get_or xs i x → slice_get (map shape xs) i ≡ Some (shape x)
-shape_at shape xs i x lt is = slice_get-map shape xs i ∙ ap (option_map shape) (slice_get-get_or xs i x lt) ∙ ap (λ y. Some (shape y)) (sym is)
-
--- as many shapes as items
-pub all_shapes : {X S : Type 0} (shape : X → S) (xs : List X) {i : ℕ} → length xs ≤ i → length (map shape xs) ≤ i
-all_shapes shape xs le = omega (arith, le, length-map xs shape)
-
--- the fields up to one
-take_next : {X : Type 0} (xs : List X) (i : ℕ) (x : X) → slice_get xs i ≡ Some x → take (i + 1) xs ≡ take i xs ++ x ∷ []
-take_next xs i x is = rw add-one (take-suc xs i x (slice_get_within xs i x is) ∙ ap (λ y. take i xs ++ y ∷ []) (get_or_from_slice_get xs i x x is))
+known_past : {T : Type 0} (xs : List (Option T)) (k : ℕ) → length xs ≤ k → known xs k ≡ None
+known_past xs k past = ap (option_and_then (λ v. v)) (slice_get_past xs k past)
 
 -- one field more
 pub holds_more : (order : Order) (start : Option ℕ) (fields : List FieldShape) (i : ℕ) (bit : Option ℕ) (cells : List (Option Cell)) (f : FieldShape) → slice_get fields i ≡ Some f → HoldsCells order start fields i bit cells → HoldsCells order start fields (i + 1) (next_bit bit f) (cells ++ cell_from order bit f ∷ [])
@@ -78,7 +85,7 @@ holds_more order start fields i bit cells f is h = record {
 } where
   bit_more : (o : Option ℕ) → next_bit (bit_at o fields i) f ≡ bit_at o fields (i + 1)
   bit_more None = refl
-  bit_more (Some s) = sym (behind_next (known []) s (take i fields) f) ∙ ap (behind (known []) s) (sym (take_next fields i f is))
+  bit_more (Some s) = sym (behind_pushed (known []) s (take i fields) f) ∙ ap (behind (known []) s) (sym (take_found fields i f is))
 
 -- behind the last field
 pub holds_all : (order : Order) (start : Option ℕ) (fields : List FieldShape) (i : ℕ) (bit : Option ℕ) (cells : List (Option Cell)) → length fields ≤ i → HoldsCells order start fields i bit cells → (k : ℕ) → known cells k ≡ clipped_cell order start fields k

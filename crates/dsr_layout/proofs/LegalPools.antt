@@ -1,5 +1,5 @@
 -- What is known of pools where none of them is refused.
-use Rattle.std.proofs.Common.{◌≡◌, ◌≢◌, ◌<◌, ◌≤◌, ◌+◌, ◌-◌, ◌*◌, ◌^◌, ℕ, zero, suc, min, max, Bool, true, false, ◌&&◌, ◌||◌, nat_eq, nat_lt, List, [], ◌∷◌, map, length, get_or, All, None, Some, slice_get, if◌then◌else◌, refl, sym, ap, ◌∙◌, subst, arith}
+use Rattle.std.proofs.Common.{◌≡◌, ◌≢◌, ◌<◌, ◌≤◌, ◌+◌, ◌-◌, ◌*◌, ◌^◌, ℕ, zero, suc, min, max, Bool, true, false, ◌&&◌, ◌||◌, nat_eq, nat_lt, List, [], ◌∷◌, map, length, get_or, All, None, Some, slice_get, if◌then◌else◌, refl, ap, ◌∙◌, subst, arith}
 use Rattle.std.proofs.Math.Nat.{mul-le-mul_right}
 use Rattle.std.proofs.lemmas.Bool.Decides.{nat_tests}
 use Rattle.std.proofs.lemmas.List.{get_or-map, length-map}
@@ -11,13 +11,9 @@ use Rattle.dsr_meaning.proofs.Empty.{both_empty, each_has}
 use Rattle.dsr_meaning.specs.Faults.{each_at}
 use Rattle.dsr_meaning.specs.Layouts.{pool_end, last_code}
 use Rattle.dsr_meaning.specs.Legal.{IsLegalPool, AreApart}
-use Rattle.dsr_meaning.specs.Refusals.{Refusal, Outside, Overlap, Zero, NoneIsCode, refused_when, outside_refusals, overlaps, zero_refusals, none_refusals, is_code_below, ByteRange, pool_range, share_byte}
+use Rattle.dsr_meaning.specs.Refusals.{Outside, Overlap, Zero, NoneIsCode, refused_when, outside_refusals, overlaps, zero_refusals, none_refusals, is_code_below, ByteRange, pool_range, share_byte}
+use Rattle.dsr_layout.proofs.Looking.{quiet}
 use Rattle.dsr_layout.specs.Pools.{IsComputable, HasStep}
-
--- a test that refuses nothing fails
-pub quiet : (b : Bool) (r : Refusal) → refused_when b r ≡ [] → b ≡ false
-quiet true r e = absurd cc
-quiet false r e = refl
 
 neither : (a b : Bool) → (a || b) ≡ false → (a ≡ false) × (b ≡ false)
 neither true b e = absurd cc
@@ -91,17 +87,20 @@ no_byte a b e at from before from' before' =
     absurd (grind (arith, nat_tests))
 
 -- pools are counted from 1
-pool_at : (layout : Layout) (p : ℕ) → pool_numbers layout (suc p) ≡ slice_get layout.pools p
-pool_at layout p =
-    let some : nat_eq (suc p) 0 ≡ false = grind (arith, nat_tests) in
-    let before : suc p - 1 ≡ p = omega arith in
-    ap (λ b. if b then None else slice_get layout.pools (suc p - 1)) some ∙ ap (slice_get layout.pools) before
+pub counted : (layout : Layout) (p : ℕ) (n : PoolNumbers) → pool_numbers layout p ≡ Some n → (p ≡ 1 + (p - 1)) × (slice_get layout.pools (p - 1) ≡ Some n)
+counted layout p n is = elim (nat_eq p 0) as (λ b. nat_eq p 0 ≡ b → (if b then None else slice_get layout.pools (p - 1)) ≡ Some n → (p ≡ 1 + (p - 1)) × (slice_get layout.pools (p - 1) ≡ Some n)) [
+  | true ↦ λ _ h. absurd cc
+  | false ↦ λ some h.
+      let positive : p ≢ 0 = grind (arith, nat_tests) in
+      (omega (arith, positive), h)
+] refl is
 
 -- the numbers of a pool stand behind the head's bytes among the ranges
 range_at : (head : ByteRange) (layout : Layout) (p : ℕ) (n : PoolNumbers) (d : ByteRange) → pool_numbers layout p ≡ Some n → (get_or (head ∷ map pool_range layout.pools) p d ≡ pool_range n) × (p < length (head ∷ map pool_range layout.pools))
 range_at head layout zero n d e = absurd cc
 range_at head layout (suc p) n d is =
-    let e = sym (pool_at layout p) ∙ is in
+    let before : p ≡ suc p - 1 = omega arith in
+    let e = ap (slice_get layout.pools) before ∙ (counted layout (suc p) n is).1 in
     let below = slice_get_within layout.pools p n e in
     let many = length-map layout.pools pool_range in
     (get_or-map pool_range layout.pools p n d below ∙ ap pool_range (get_or_from_slice_get layout.pools p n n e), omega (arith, below, many))

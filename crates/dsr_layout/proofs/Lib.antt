@@ -5,12 +5,11 @@ pub mod Composed
 pub mod Cutting
 pub mod Enclosed
 pub mod Fitting
-pub mod FixedBits
 pub mod FixedHeads
 pub mod FixedReads
 pub mod FixedTables
-pub mod HeadLineage
 pub mod HeldCells
+pub mod Items
 pub mod LegalLayout
 pub mod LegalPlaces
 pub mod LegalPools

@@ -1,11 +1,12 @@
 -- The ancestors of structures, where more structures are declared behind them.
-use Rattle.std.proofs.Common.{◌≡◌, ◌<◌, ◌≤◌, ◌+◌, ℕ, nat_eq, List, [], ◌∷◌, ◌++◌, take, drop, length, reverse, get_or, refl, sym, ap, ◌∙◌, add-one, arith}
+use Rattle.std.proofs.Common.{◌≡◌, ◌<◌, ◌≤◌, ◌+◌, ℕ, true, false, nat_eq, nat_lt, List, [], ◌∷◌, ◌++◌, take, drop, length, reverse, inl, inr, Option, None, Some, slice_get, if◌then◌else◌, refl, sym, ap, ◌∙◌, arith}
 use Rattle.std.specs.Option.{option_map_or}
-use Rattle.std.proofs.Math.Seq.{take-suc}
-use Rattle.std.proofs.lemmas.Bool.{cond-true, cond-false, eq-eqb, ne_eqb}
+use Rattle.std.proofs.lemmas.Bool.{cases_lt, cond-true, cond-false, eq-eqb, ne_eqb, lt-ltb, le-ltb, ltb-true}
 use Rattle.std.proofs.lemmas.List.{length-append, length-reverse, length-take-le, reverse-append, take-append-drop}
+use Rattle.std.proofs.lemmas.Option.{slice_get_within}
 use Rattle.dsr_ir.specs.Shapes.{StructureShape}
 use Rattle.dsr_meaning.specs.Places.{lineage_in, lineage}
+use Rattle.dsr_layout.proofs.Items.{take_found}
 
 -- a structure changes nothing for the others
 of_other : (s : StructureShape) (earlier : List StructureShape) (i : ℕ) → (i ≡ length earlier → ⊥) → lineage_in (s ∷ earlier) i ≡ lineage_in earlier i
@@ -38,28 +39,50 @@ lineage_other ss s i other =
     ap (λ rs. lineage_in rs i) (reverse-append ss (s ∷ []))
     ∙ of_other s (reverse ss) i (λ e. other (e ∙ length-reverse ss))
 
-pub lineage_last : (ss : List StructureShape) (s : StructureShape) (i : ℕ) → i ≡ length ss → lineage (ss ++ s ∷ []) i ≡ s ∷ option_map_or (lineage ss) s.parent []
+-- the ancestors of a structure by its parent, which is declared before it
+abbrev pub ancestors : List StructureShape → ℕ → Option ℕ → List StructureShape
+ancestors ss i parent = option_map_or (λ p. if nat_lt p i then lineage ss p else []) parent []
+
+-- those of the next structure
+ancestors_next : (ss : List StructureShape) (parent : Option ℕ) → option_map_or (lineage ss) parent [] ≡ ancestors ss (length ss) parent
+ancestors_next ss None = refl
+ancestors_next ss (Some p) = elim (cases_lt p (length ss)) [
+  | inl lt ↦ sym (cond-true (nat_lt p (length ss)) (lineage ss p) [] (lt-ltb p (length ss) lt))
+  | inr past ↦ lineage_none ss p past ∙ sym (cond-false (nat_lt p (length ss)) (lineage ss p) [] (le-ltb p (length ss) past))
+]
+
+pub lineage_last : (ss : List StructureShape) (s : StructureShape) (i : ℕ) → i ≡ length ss → lineage (ss ++ s ∷ []) i ≡ s ∷ ancestors ss (length ss) s.parent
 lineage_last ss s i is =
     ap (λ rs. lineage_in rs i) (reverse-append ss (s ∷ []))
     ∙ of_last s (reverse ss) i (is ∙ sym (length-reverse ss))
+    ∙ ap (λ line. s ∷ line) (ancestors_next ss s.parent)
 
--- the lineage of a structure by those before it
-module _ (ss : List StructureShape) (i : ℕ) (s : StructureShape) (lt : i < length ss) (is : s ≡ get_or ss i s) where
+-- a structure and its ancestors
+module _ (ss : List StructureShape) (i : ℕ) (s : StructureShape) (found : slice_get ss i ≡ Some s) where
+  within : i < length ss
+  within = slice_get_within ss i s found
+
+  many : length (take i ss) ≡ i
+  many = length-take-le i ss (omega (arith, within))
+
+  -- the ancestors are among those before it
+  ancestors_before : (parent : Option ℕ) → ancestors (take i ss) i parent ≡ ancestors ss i parent
+  ancestors_before None = refl
+  ancestors_before (Some p) = elim (nat_lt p i) as (λ b. nat_lt p i ≡ b → (if b then lineage (take i ss) p else []) ≡ (if b then lineage ss p else [])) [
+    | true ↦ λ e.
+        let before = ltb-true p i e in
+        sym (lineage_front (take i ss) (drop i ss) p (omega (arith, before, many))) ∙ ap (λ xs. lineage xs p) (take-append-drop i ss)
+    | false ↦ λ _. refl
+  ] refl
+
   split : ss ≡ (take i ss ++ s ∷ []) ++ drop (i + 1) ss
-  split =
-      let more : take (i + 1) ss ≡ take i ss ++ s ∷ [] = rw add-one (take-suc ss i s lt ∙ ap (λ y. take i ss ++ y ∷ []) (sym is)) in
-      sym (take-append-drop (i + 1) ss) ∙ ap (λ xs. xs ++ drop (i + 1) ss) more
+  split = sym (take-append-drop (i + 1) ss) ∙ ap (λ xs. xs ++ drop (i + 1) ss) (take_found ss i s found)
 
-  pub lineage_at : lineage ss i ≡ s ∷ option_map_or (lineage (take i ss)) s.parent []
-  lineage_at =
-      let many : length (take i ss) ≡ i = length-take-le i ss (omega arith) in
+  pub lineage_of : lineage ss i ≡ s ∷ ancestors ss i s.parent
+  lineage_of =
       let more : length (take i ss ++ s ∷ []) ≡ length (take i ss) + 1 = length-append (take i ss) (s ∷ []) in
       ap (λ xs. lineage xs i) split
-      ∙ lineage_front (take i ss ++ s ∷ []) (drop (i + 1) ss) i (omega arith)
+      ∙ lineage_front (take i ss ++ s ∷ []) (drop (i + 1) ss) i (omega (arith, more, many))
       ∙ lineage_last (take i ss) s i (sym many)
-
-  pub lineage_before : (p : ℕ) → p < i → lineage ss p ≡ lineage (take i ss) p
-  lineage_before p before =
-      let many : length (take i ss) ≡ i = length-take-le i ss (omega arith) in
-      ap (λ xs. lineage xs p) (sym (take-append-drop i ss))
-      ∙ lineage_front (take i ss) (drop i ss) p (omega arith)
+      ∙ ap (λ n. s ∷ ancestors (take i ss) n s.parent) many
+      ∙ ap (λ line. s ∷ line) (ancestors_before s.parent)

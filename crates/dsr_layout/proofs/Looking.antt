@@ -1,12 +1,12 @@
 -- Refusals that are looked for one item after another: the first one is told.
 use Rattle.std.proofs.Common.{◌≡◌, ◌<◌, ◌+◌, ℕ, zero, suc, Bool, true, false, List, [], ◌∷◌, ◌++◌, map, drop, length, get_or, Option, None, Some, is_some, slice_get, refl, sym, ap, ◌∙◌, add-one, arith}
-use Rattle.std.proofs.lemmas.List.{drop_more, get_or_default}
 use Rattle.std.specs.Option.{option_or}
 use Rattle.dsr_layout.specs.Telling.{told_as, told_of}
 use Rattle.dsr_layout.specs.declared.faults.LayoutFault.{LayoutFault}
 use Rattle.dsr_meaning.proofs.Empty.{both_empty}
 use Rattle.dsr_meaning.specs.Faults.{each_at}
 use Rattle.dsr_meaning.specs.Refusals.{Refusal, refused_when}
+use Rattle.dsr_layout.proofs.Items.{drop_item}
 
 -- of two lists the first one tells, where it tells anything
 pub told_first : (a b : List Refusal) {o : Option LayoutFault} → true ≡ is_some o → o ≡ told_of a → o ≡ told_of (a ++ b)
@@ -36,6 +36,11 @@ told_where r e = rw (← e) refl
 pub none_where : {b : Bool} (r : Refusal) → false ≡ b → None ≡ told_of (refused_when b r)
 none_where r e = rw (← e) refl
 
+-- a test that refuses nothing fails
+pub quiet : (b : Bool) (r : Refusal) → refused_when b r ≡ [] → b ≡ false
+quiet true r e = absurd cc
+quiet false r e = refl
+
 -- what isn't some is none
 pub is_none : {T : Type 0} {o : Option T} → false ≡ is_some o → None ≡ o
 is_none {o = None} e = refl
@@ -55,25 +60,16 @@ pub each_at_map : {X S : Type 0} (f : ℕ → S → List Refusal) (g : X → S) 
 each_at_map f g n [] = refl
 each_at_map f g n (x ∷ xs) = ap (λ rs. f n (g x) ++ rs) (each_at_map f g (suc n) xs)
 
-module _ {X : Type 0} where
-  -- what is left of a list, from an item on
-  pub drop_item : (xs : List X) (i : ℕ) (x : X) → i < length xs → x ≡ get_or xs i x → drop i xs ≡ x ∷ drop (i + 1) xs
-  drop_item xs i x lt is = drop_more xs i x lt ∙ ap (λ y. y ∷ drop (i + 1) xs) (sym is)
+module _ {X : Type 0} (f : ℕ → X → List Refusal) where
+  -- an item of which nothing is told
+  pub goes_on : (xs : List X) (i : ℕ) (x : X) (n m : ℕ) → i < length xs → x ≡ get_or xs i x → m ≡ n + 1 → None ≡ told_of (f n x) → told_of (each_at f m (drop (i + 1) xs)) ≡ told_of (each_at f n (drop i xs))
+  goes_on xs i x n m lt is next none =
+      ap (λ k. told_of (each_at f k (drop (i + 1) xs))) (next ∙ add-one n)
+      ∙ sym (told_second (f n x) (each_at f (suc n) (drop (i + 1) xs)) none)
+      ∙ sym (ap (λ ys. told_of (each_at f n ys)) (drop_item xs i x lt is))
 
-  -- an item that is read with a default
-  pub item_is : (xs : List X) (i : ℕ) (d : X) → i < length xs → get_or xs i d ≡ get_or xs i (get_or xs i d)
-  item_is xs i d lt = get_or_default xs i d (get_or xs i d) lt
-
-  module _ (f : ℕ → X → List Refusal) where
-    -- an item of which nothing is told
-    pub goes_on : (xs : List X) (i : ℕ) (x : X) (n m : ℕ) → i < length xs → x ≡ get_or xs i x → m ≡ n + 1 → None ≡ told_of (f n x) → told_of (each_at f m (drop (i + 1) xs)) ≡ told_of (each_at f n (drop i xs))
-    goes_on xs i x n m lt is next none =
-        ap (λ k. told_of (each_at f k (drop (i + 1) xs))) (next ∙ add-one n)
-        ∙ sym (told_second (f n x) (each_at f (suc n) (drop (i + 1) xs)) none)
-        ∙ sym (ap (λ ys. told_of (each_at f n ys)) (drop_item xs i x lt is))
-
-    -- the first item of which something is told
-    pub is_told : (xs : List X) (i : ℕ) (x : X) (n : ℕ) {o : Option LayoutFault} → i < length xs → x ≡ get_or xs i x → true ≡ is_some o → o ≡ told_of (f n x) → o ≡ told_of (each_at f n (drop i xs))
-    is_told xs i x n lt is some e =
-        told_first (f n x) (each_at f (suc n) (drop (i + 1) xs)) some e
-        ∙ sym (ap (λ ys. told_of (each_at f n ys)) (drop_item xs i x lt is))
+  -- the first item of which something is told
+  pub is_told : (xs : List X) (i : ℕ) (x : X) (n : ℕ) {o : Option LayoutFault} → i < length xs → x ≡ get_or xs i x → true ≡ is_some o → o ≡ told_of (f n x) → o ≡ told_of (each_at f n (drop i xs))
+  is_told xs i x n lt is some e =
+      told_first (f n x) (each_at f (suc n) (drop (i + 1) xs)) some e
+      ∙ sym (ap (λ ys. told_of (each_at f n ys)) (drop_item xs i x lt is))

@@ -1,6 +1,6 @@
 -- What the values of references mean in a legal layout.
-use Rattle.std.proofs.Common.{◌≡◌, ◌≢◌, ◌<◌, ◌≤◌, ◌*◌, ◌-◌, ℕ, true, false, eqb, List, Some, None, refl, sym, ap, ◌∙◌, subst, arith}
-use Rattle.std.specs.Prelude.{All, slice_get, if◌then◌else◌}
+use Rattle.std.proofs.Common.{◌≡◌, ◌≢◌, ◌<◌, ◌≤◌, ◌*◌, ◌-◌, ℕ, false, List, Some, refl, sym, ap, ◌∙◌, subst, arith}
+use Rattle.std.specs.Prelude.{All, slice_get}
 use Rattle.std.proofs.lemmas.Bool.{false≢true}
 use Rattle.std.proofs.lemmas.Nat.{mul-le}
 use Rattle.std.proofs.lemmas.Option.{slice_get_within, get_or_from_slice_get}
@@ -14,6 +14,7 @@ use Rattle.dsr_layout.specs.References.{Means}
 use Rattle.dsr_layout.specs.declared.references.Ref.{Ref}
 use Rattle.dsr_layout.specs.declared.references.Ref.TheVariants as refs
 use Rattle.dsr_layout.proofs.Codes.{code_at, code_below, one_slot}
+use Rattle.dsr_layout.proofs.LegalPools.{counted}
 
 -- what holds of each item holds of one that is found
 pub found_holds : {A : Type 0} (P : A → Type 0) (xs : List A) (k : ℕ) (x : A) → All P xs → slice_get xs k ≡ Some x → P x
@@ -21,10 +22,7 @@ found_holds P xs k x all e = subst P (get_or_from_slice_get xs k x x e) (all k x
 
 -- a declared pool is a legal one
 pub legal_pool : (layout : Layout) (pool : ℕ) (n : PoolNumbers) → IsLegalLayout layout → pool_numbers layout pool ≡ Some n → IsLegalPool layout.length n
-legal_pool layout pool n legal e = elim (eqb pool 0) as (λ b. (if b then None else slice_get layout.pools (pool - 1)) ≡ Some n → IsLegalPool layout.length n) [
-  | true ↦ λ h. absurd cc
-  | false ↦ λ h. found_holds (IsLegalPool layout.length) layout.pools (pool - 1) n legal.pools h
-] e
+legal_pool layout pool n legal e = found_holds (IsLegalPool layout.length) layout.pools (pool - 1) n legal.pools (counted layout pool n e).1
 
 -- a pool has no more slots than the image has bytes
 pub few_slots : (layout : Layout) (pool : ℕ) (n : PoolNumbers) → IsLegalLayout layout → pool_numbers layout pool ≡ Some n → n.count ≤ 67108864

@@ -1,7 +1,7 @@
 -- The places of the fields of structures that have a size.
-use Rattle.std.proofs.Common.{◌≡◌, ◌<◌, ◌≤◌, ◌+◌, ◌*◌, ◌^◌, ◌⊎◌, ℕ, suc, List, [], ◌∷◌, ◌++◌, map, take, drop, length, get_or, inl, inr, Option, None, Some, IsSome, is_none, option_map, refl, sym, ap, ◌∙◌, subst, add-one, arith}
+use Rattle.std.proofs.Common.{◌≡◌, ◌<◌, ◌≤◌, ◌+◌, ◌*◌, ◌^◌, ◌⊎◌, ℕ, suc, List, [], ◌∷◌, ◌++◌, map, drop, length, get_or, inl, inr, Option, None, Some, IsSome, is_none, option_map, slice_get, refl, sym, ap, ◌∙◌, subst, add-one, arith}
 use Rattle.std.specs.Option.{option_and_then, option_map_or}
-use Rattle.std.proofs.lemmas.List.{append-nil, drop_more, drop_all, get_or-map, length-map, length-take-le}
+use Rattle.std.proofs.lemmas.List.{append-nil, drop_all}
 use Rattle.dsr_ir.specs.Shapes.{FieldShape, StructureShape, structure_shape}
 use Rattle.dsr_ir.specs.declared.declarations.Structure.{Structure}
 use Rattle.dsr_ir.specs.declared.layouts.FieldPlace.{FieldPlace}
@@ -16,7 +16,8 @@ use Rattle.dsr_layout.specs.Telling.{Tells, told_of}
 use Rattle.dsr_layout.specs.declared.faults.LayoutFault.{LayoutFault}
 use Rattle.dsr_layout.specs.declared.faults.LayoutFault.TheVariants as faults
 use Rattle.dsr_layout.proofs.Clipping.{clipped_first, none_clipped, one_more, nothing_before}
-use Rattle.dsr_layout.proofs.Lineages.{lineage_at, lineage_before}
+use Rattle.dsr_layout.proofs.Items.{drop_item, shape_at}
+use Rattle.dsr_layout.proofs.Lineages.{ancestors, lineage_of}
 use Rattle.dsr_layout.proofs.Sizes.{size_at, size_below, start_is, end_same}
 
 pub byte_behind : (b : ℕ) → b ≤ up_to_byte b
@@ -80,28 +81,26 @@ module _ (fixed : ℕ → Option ℕ) where
         ap (λ k. option_map (map clip_place) (placed fixed k fs)) whole ∙ unclipped fs b e is (omega arith)
   ] refl sized
 
-  module _ (ends : List (Option ℕ)) (ss : List StructureShape) (holds : HoldsEnds fixed ss ends) (i : ℕ) (s : StructureShape) (lt : i < length ss) (is : s ≡ get_or ss i s) where
-    begins : start_in ends i s.parent ≡ option_map clip (end_of fixed (option_map_or (lineage (take i ss)) s.parent []))
-    begins =
-        let many : length (take i ss) ≡ i = length-take-le i ss (omega arith) in
-        start_is fixed ends (take i ss) i many (λ p before. holds p ∙ ap (λ line. option_map clip (end_of fixed line)) (lineage_before ss i s lt is p before)) s.parent
+  module _ (ends : List (Option ℕ)) (ss : List StructureShape) (holds : HoldsEnds fixed ss ends) (i : ℕ) (s : StructureShape) (found : slice_get ss i ≡ Some s) where
+    begins : start_in ends i s.parent ≡ option_map clip (end_of fixed (ancestors ss i s.parent))
+    begins = start_is fixed ends ss i s.parent holds
 
-    ends_at : end_in ends i ≡ option_map clip (end_of fixed (s ∷ option_map_or (lineage (take i ss)) s.parent []))
-    ends_at = holds i ∙ ap (λ line. option_map clip (end_of fixed line)) (lineage_at ss i s lt is)
+    ends_at : end_in ends i ≡ option_map clip (end_of fixed (s ∷ ancestors ss i s.parent))
+    ends_at = holds i ∙ ap (λ line. option_map clip (end_of fixed line)) (lineage_of ss i s found)
 
     -- where a structure has a size, its places in the table are its own
     own_found : IsSome (size_in ends i) → clipped_places fixed (start_in ends i s.parent) s.fields ≡ own_places fixed (lineage ss i)
     own_found sized =
         ap (λ start. clipped_places fixed start s.fields) begins
-        ∙ sized_places (end_of fixed (option_map_or (lineage (take i ss)) s.parent [])) s.fields (subst (λ end. IsSome (size_at end)) ends_at sized)
-        ∙ sym (ap (own_places fixed) (lineage_at ss i s lt is))
+        ∙ sized_places (end_of fixed (ancestors ss i s.parent)) s.fields (subst (λ end. IsSome (size_at end)) ends_at sized)
+        ∙ sym (ap (own_places fixed) (lineage_of ss i s found))
 
     -- where it has none, or no places, it has no size
     own_missing : (size_in ends i ≡ None) ⊎ (clipped_places fixed (start_in ends i s.parent) s.fields ≡ None) → size_in ends i ≡ None
     own_missing (inl none) = none
     own_missing (inr none) =
         ap size_at (ends_at
-        ∙ sym (end_same fixed (end_of fixed (option_map_or (lineage (take i ss)) s.parent [])) s.fields)
+        ∙ sym (end_same fixed (end_of fixed (ancestors ss i s.parent)) s.fields)
         ∙ ap (λ start. end_behind fixed start s.fields) (sym begins)
         ∙ endless_behind (start_in ends i s.parent) s.fields none)
 
@@ -132,19 +131,16 @@ module _ (fixed : ℕ → Option ℕ) (ends : List (Option ℕ)) (xs : List Stru
 
   module _ (holds : HoldsEnds fixed (map structure_shape xs) ends) (i : ℕ) (x : Structure) (lt : i < length xs) (is : x ≡ get_or xs i x) where
     left : drop i xs ≡ x ∷ drop (i + 1) xs
-    left = drop_more xs i x lt ∙ ap (λ y. y ∷ drop (i + 1) xs) (sym is)
+    left = drop_item xs i x lt is
 
-    shape_is : structure_shape x ≡ get_or (map structure_shape xs) i (structure_shape x)
-    shape_is = ap structure_shape is ∙ sym (get_or-map structure_shape xs i x (structure_shape x) lt)
-
-    within : i < length (map structure_shape xs)
-    within = rw (length-map xs structure_shape) lt
+    found_is : slice_get (map structure_shape xs) i ≡ Some (structure_shape x)
+    found_is = shape_at structure_shape xs i x lt is
 
     pub places_next : (old : List (List FieldPlace)) (own : List FieldPlace) {places : List (List FieldPlace)} → PlacesSoFar fixed ends xs i old → IsSome (size_in ends i) → clipped_places fixed (start_in ends i x.parent) (structure_shape x).fields ≡ Some own → places ≡ old ++ own ∷ [] → PlacesSoFar fixed ends xs (i + 1) places
     places_next old own {places} before sized found pushed =
         let ss = map structure_shape xs in
         let rest = map structure_shape (drop (i + 1) xs) in
-        let owned : own_places fixed (lineage ss i) ≡ Some own = sym (own_found fixed ends ss holds i (structure_shape x) within shape_is sized) ∙ found in
+        let owned : own_places fixed (lineage ss i) ≡ Some own = sym (own_found fixed ends ss holds i (structure_shape x) found_is sized) ∙ found in
         let next : i + 1 ≡ suc i = add-one i in
         record {
           placed =
@@ -166,7 +162,7 @@ module _ (fixed : ℕ → Option ℕ) (ends : List (Option ℕ)) (xs : List Stru
     places_refused old e before (inl memory) = inl memory
     places_refused old e before (inr told) =
         let rest = each_at (λ k _. refused_when (is_none (size_in ends k)) Arith) (suc i) (map structure_shape (drop (i + 1) xs)) in
-        let none = own_missing fixed ends (map structure_shape xs) holds i (structure_shape x) within shape_is told.1 in
+        let none = own_missing fixed ends (map structure_shape xs) holds i (structure_shape x) found_is told.1 in
         inr (ap told_of (
         sym before.sized
         ∙ ap (λ ys. each_at (λ k _. refused_when (is_none (size_in ends k)) Arith) i (map structure_shape ys)) left

@@ -1,7 +1,6 @@
 -- The ends and sizes of structures by the table of their ends.
-use Rattle.std.proofs.Common.{◌≡◌, ◌<◌, ◌≤◌, ◌+◌, ◌-◌, ◌^◌, ℕ, true, false, nat_lt, List, [], ◌∷◌, ◌++◌, map, take, length, get_or, inl, inr, Option, None, Some, IsSome, option_map, if◌then◌else◌, refl, sym, ap, ◌∙◌, add-one, arith}
-use Rattle.std.specs.Option.{option_and_then, option_map_or}
-use Rattle.std.proofs.Math.Seq.{take-suc}
+use Rattle.std.proofs.Common.{◌≡◌, ◌<◌, ◌≤◌, ◌+◌, ◌-◌, ◌^◌, ℕ, true, false, nat_lt, List, [], ◌∷◌, ◌++◌, map, take, length, get_or, inl, inr, Option, None, Some, IsSome, option_map, if◌then◌else◌, refl, sym, ap, ◌∙◌, arith}
+use Rattle.std.specs.Option.{option_and_then}
 use Rattle.std.proofs.lemmas.Bool.{cases_lt, cases_order, lt-ltb, le-ltb, ltb-true, cond-true, cond-false}
 use Rattle.std.proofs.lemmas.List.{get_or_append_left, get_or_at, get_or_past, length-append, length-map, length-take-le, map-append}
 use Rattle.dsr_ir.specs.Shapes.{FieldShape, StructureShape, structure_shape}
@@ -12,7 +11,8 @@ use Rattle.dsr_meaning.specs.Places.{lineage, bit_behind_fields, end_of, size_of
 use Rattle.dsr_layout.specs.Ends.{start_in, end_behind}
 use Rattle.dsr_layout.specs.Tables.{clip, end_in, size_in, HoldsEnds}
 use Rattle.dsr_layout.proofs.Clipping.{behind_same, clip_byte, clip_twice}
-use Rattle.dsr_layout.proofs.Lineages.{lineage_none, lineage_other, lineage_last}
+use Rattle.dsr_layout.proofs.Items.{take_item}
+use Rattle.dsr_layout.proofs.Lineages.{ancestors, lineage_other, lineage_last}
 
 -- the size that an end in the table gives
 abbrev pub size_at : Option ℕ → Option ℕ
@@ -72,13 +72,11 @@ module _ (fixed : ℕ → Option ℕ) where
       outside (Some e) = ap Some (clip_byte e)
 
   -- the own fields of a structure begin at the end of its parent, if that is declared before it
-  pub start_is : (ends : List (Option ℕ)) (ss : List StructureShape) (n : ℕ) → length ss ≡ n → ((p : ℕ) → p < n → end_in ends p ≡ option_map clip (end_of fixed (lineage ss p))) → (parent : Option ℕ) → start_in ends n parent ≡ option_map clip (end_of fixed (option_map_or (lineage ss) parent []))
-  start_is ends ss n many holds None = refl
-  start_is ends ss n many holds (Some p) = elim (cases_lt p n) [
-    | inl lt ↦ cond-true (nat_lt p n) (end_in ends p) (Some 0) (lt-ltb p n lt) ∙ holds p lt
-    | inr past ↦
-        cond-false (nat_lt p n) (end_in ends p) (Some 0) (le-ltb p n past)
-        ∙ sym (ap (λ line. option_map clip (end_of fixed line)) (lineage_none ss p (rw many past)))
+  pub start_is : (ends : List (Option ℕ)) (ss : List StructureShape) (i : ℕ) (parent : Option ℕ) → HoldsEnds fixed ss ends → start_in ends i parent ≡ option_map clip (end_of fixed (ancestors ss i parent))
+  start_is ends ss i None holds = refl
+  start_is ends ss i (Some p) holds = elim (nat_lt p i) as (λ b. (if b then end_in ends p else Some 0) ≡ option_map clip (end_of fixed (if b then lineage ss p else []))) [
+    | true ↦ holds p
+    | false ↦ refl
   ]
 
   -- the ends of structures, where one more stands behind
@@ -87,8 +85,8 @@ module _ (fixed : ℕ → Option ℕ) where
     | inl last ↦
         get_or_at ends end [] (Some 0) i (many ∙ sym last)
         ∙ is
-        ∙ ap (λ start. end_behind fixed start s.fields) (start_is ends ss (length ss) refl (λ p lt. holds p) s.parent)
-        ∙ end_same (end_of fixed (option_map_or (lineage ss) s.parent [])) s.fields
+        ∙ ap (λ start. end_behind fixed start s.fields) (start_is ends ss (length ss) s.parent holds)
+        ∙ end_same (end_of fixed (ancestors ss (length ss) s.parent)) s.fields
         ∙ sym (ap (λ line. option_map clip (end_of fixed line)) (lineage_last ss s i last))
     | inr (inl lt) ↦
         get_or_append_left ends (end ∷ []) (Some 0) i (rw many lt)
@@ -107,9 +105,8 @@ module _ (fixed : ℕ → Option ℕ) where
   ends_next xs i x lt is old {ends} {end} many holds pushed made =
       let ss = map structure_shape (take i xs) in
       let taken : length ss ≡ i = length-map (take i xs) structure_shape ∙ length-take-le i xs (omega arith) in
-      let more : take (i + 1) xs ≡ take i xs ++ x ∷ [] = rw add-one (take-suc xs i x lt ∙ ap (λ y. take i xs ++ y ∷ []) (sym is)) in
       let made_at = made ∙ ap (λ n. end_behind fixed (start_in old n x.parent) (structure_shape x).fields) (many ∙ sym taken) in
-      let shapes : map structure_shape (take (i + 1) xs) ≡ ss ++ structure_shape x ∷ [] = ap (map structure_shape) more ∙ map-append structure_shape (take i xs) (x ∷ []) in (
+      let shapes : map structure_shape (take (i + 1) xs) ≡ ss ++ structure_shape x ∷ [] = ap (map structure_shape) (take_item xs i x lt is) ∙ map-append structure_shape (take i xs) (x ∷ []) in (
         ap length pushed ∙ length-append old (end ∷ []) ∙ ap (λ n. n + 1) many,
         λ k. ap (λ es. end_in es k) pushed ∙ ends_push old ss (structure_shape x) end (many ∙ sym taken) holds made_at k ∙ sym (ap (λ ys. option_map clip (end_of fixed (lineage ys k))) shapes),
       )

@@ -1,7 +1,8 @@
 use Rattle.std.proofs.Common.{◌+◌, [], ◌∷◌, ◌++◌, map, sym, ap, ◌∙◌, subst}
 use Rattle.dsr_ir.specs.Shapes.{field_shape}
 use Rattle.dsr_layout.specs.FixedCells.{next_bit}
-use Rattle.dsr_layout.proofs.FixedTables.{HoldsCells, holds_more, holds_all, shape_at, all_shapes}
+use Rattle.dsr_layout.proofs.Items.{shape_at, all_shapes}
+use Rattle.dsr_layout.proofs.FixedTables.{HoldsCells, holds_more, holds_all}
 use Rattle.dsr_layout.proofs.fixed_fields.cells_from.Goals as goal
 
 pub loop-field-preserved : goal.loop-field-preserved

@@ -7,7 +7,7 @@ use Rattle.dsr_meaning.specs.FixedFields.{fixed_cell}
 use Rattle.dsr_layout.specs.FixedCells.{clipped_cell}
 use Rattle.dsr_layout.specs.Tables.{known, clip_cell, HoldsEnds}
 use Rattle.dsr_layout.proofs.FixedHeads.{head_table, no_cells}
-use Rattle.dsr_layout.proofs.FixedTables.{all_shapes, shape_at}
+use Rattle.dsr_layout.proofs.Items.{all_shapes, shape_at}
 use Rattle.dsr_layout.proofs.fixed_fields.fixed_cells.Goals as goal
 
 pub returns-in-Some : goal.returns-in-Some

@@ -5,7 +5,7 @@ use Rattle.dsr_meaning.specs.FixedFields.{fixed_cell, head_fields}
 use Rattle.dsr_meaning.specs.Refusals.{cut_refusals}
 use Rattle.dsr_layout.specs.Tables.{known, clip_cell}
 use Rattle.dsr_layout.specs.Telling.{told_of}
-use Rattle.dsr_layout.proofs.Cutting.{none_refused}
+use Rattle.dsr_layout.proofs.Looking.{told_none}
 use Rattle.dsr_layout.proofs.FixedReads.{all_readable, read_cell, read_values, same_told}
 use Rattle.dsr_layout.proofs.fixed_fields.fixed_values.Goals as goal
 
@@ -21,7 +21,7 @@ values_in-requires-clause-readable c =
     let base = structures_shape c.args.base.now in
     let held : (k : ℕ) → known c.deref.result.now k ≡ option_map clip_cell (fixed_cell base k) = λ k. ap (λ cs. known cs k) c.deref.ensures.value ∙ c.in_ok-cells.ensures k in
     let same = same_told base (length c.args.bytes.now) c.deref.result.now (map field_shape c.head_fields.result.now) c.requires.image held c.head_fields.ensures in
-    let whole = none_refused (cut_refusals (fixed_cell base) (head_fields base) (length c.args.bytes.now)) (sym (ap told_of same) ∙ sym c.cut.ensures ∙ c.in_default.is) in
+    let whole = told_none (cut_refusals (fixed_cell base) (head_fields base) (length c.args.bytes.now)) (sym c.in_default.is ∙ c.cut.ensures ∙ ap told_of same) in
     let read : (k : ℕ) → known c.deref-2.result.now k ≡ option_map clip_cell (fixed_cell base k) = λ k. ap (λ cs. known cs k) c.deref-2.ensures.value ∙ c.in_ok-cells.ensures k in
     all_readable base (length c.args.bytes.now) c.deref-2.result.now c.requires.typed c.requires.image whole read
 
@@ -30,7 +30,7 @@ returns-clause-uncut c =
     let base = structures_shape c.args.base.now in
     let held : (k : ℕ) → known c.deref.result.now k ≡ option_map clip_cell (fixed_cell base k) = λ k. ap (λ cs. known cs k) c.deref.ensures.value ∙ c.in_ok-cells.ensures k in
     let same = same_told base (length c.args.bytes.now) c.deref.result.now (map field_shape c.head_fields.result.now) c.requires.image held c.head_fields.ensures in
-    let whole = none_refused (cut_refusals (fixed_cell base) (head_fields base) (length c.args.bytes.now)) (sym (ap told_of same) ∙ sym c.cut.ensures ∙ c.in_default.is) in
+    let whole = told_none (cut_refusals (fixed_cell base) (head_fields base) (length c.args.bytes.now)) (sym c.in_default.is ∙ c.cut.ensures ∙ ap told_of same) in
     whole
 
 pub returns-clause-values : goal.returns-clause-values
@@ -38,6 +38,6 @@ returns-clause-values c =
     let base = structures_shape c.args.base.now in
     let held : (k : ℕ) → known c.deref.result.now k ≡ option_map clip_cell (fixed_cell base k) = λ k. ap (λ cs. known cs k) c.deref.ensures.value ∙ c.in_ok-cells.ensures k in
     let same = same_told base (length c.args.bytes.now) c.deref.result.now (map field_shape c.head_fields.result.now) c.requires.image held c.head_fields.ensures in
-    let whole = none_refused (cut_refusals (fixed_cell base) (head_fields base) (length c.args.bytes.now)) (sym (ap told_of same) ∙ sym c.cut.ensures ∙ c.in_default.is) in
+    let whole = told_none (cut_refusals (fixed_cell base) (head_fields base) (length c.args.bytes.now)) (sym c.in_default.is ∙ c.cut.ensures ∙ ap told_of same) in
     let read : (k : ℕ) → known c.deref-2.result.now k ≡ option_map clip_cell (fixed_cell base k) = λ k. ap (λ cs. known cs k) c.deref-2.ensures.value ∙ c.in_ok-cells.ensures k in
     read_values base c.args.bytes.now c.deref-2.result.now c.in_ok-values_in.field-0.items (read_cell base (length c.args.bytes.now) c.deref-2.result.now c.requires.typed c.requires.image whole read) c.in_ok-values_in.ensures

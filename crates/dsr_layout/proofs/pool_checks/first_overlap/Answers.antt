@@ -6,7 +6,8 @@ use Rattle.dsr_layout.specs.Ranges.{range_of}
 use Rattle.dsr_layout.specs.Telling.{told_of}
 use Rattle.dsr_layout.specs.declared.faults.LayoutFault.{LayoutFault}
 use Rattle.dsr_layout.specs.declared.pool_checks.ByteRange.{ByteRange}
-use Rattle.dsr_layout.proofs.Looking.{drop_item, item_is, is_none, told_first, told_second}
+use Rattle.dsr_layout.proofs.Items.{drop_item, item_is}
+use Rattle.dsr_layout.proofs.Looking.{is_none, told_first, told_second}
 use Rattle.dsr_layout.proofs.pool_checks.first_overlap.Goals as goal
 
 module _ (ranges : List ByteRange) (i : ℕ) (range : ByteRange) (lt : i < length ranges) (is : range ≡ get_or ranges i range) {o : Option LayoutFault} (found : o ≡ told_of (each_at (λ q r. refused_when (share_byte (range_of range) r) (Overlap i q)) (suc i) (map range_of (take (length ranges - (i + 1)) (drop (i + 1) ranges))))) where

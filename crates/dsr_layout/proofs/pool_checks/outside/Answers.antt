@@ -1,6 +1,7 @@
 use Rattle.std.proofs.Common.{◌≡◌, ◌≤◌, ◌+◌, ℕ, false, nat_lt, refl, ap, ◌∙◌, arith}
 use Rattle.std.proofs.lemmas.Bool.Decides.{nat_tests}
-use Rattle.dsr_layout.proofs.Looking.{goes_on, item_is, none_where}
+use Rattle.dsr_layout.proofs.Items.{item_is}
+use Rattle.dsr_layout.proofs.Looking.{goes_on, none_where}
 use Rattle.dsr_layout.proofs.pool_checks.outside.Goals as goal
 
 not_below : (a b : ℕ) → b ≤ a → false ≡ nat_lt a b

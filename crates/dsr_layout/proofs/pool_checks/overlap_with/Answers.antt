@@ -3,7 +3,8 @@ use Rattle.dsr_meaning.specs.Faults.{each_at}
 use Rattle.dsr_meaning.specs.Refusals.{Overlap, refused_when, share_byte}
 use Rattle.dsr_layout.specs.Ranges.{range_of}
 use Rattle.dsr_layout.specs.Telling.{told_of}
-use Rattle.dsr_layout.proofs.Looking.{each_at_map, goes_on, item_is, none_where}
+use Rattle.dsr_layout.proofs.Items.{item_is}
+use Rattle.dsr_layout.proofs.Looking.{each_at_map, goes_on, none_where}
 use Rattle.dsr_layout.proofs.pool_checks.overlap_with.Goals as goal
 
 pub loop-i-init : goal.loop-i-init

@@ -57,6 +57,10 @@ pub tells_first : (a b : List Refusal) (e : LayoutFault) → Tells a e → Tells
 tells_first a b e (inl is) = inl is
 tells_first a b e (inr is) = inr (sym (told_first a b {o = Some e} refl (sym is)))
 
+-- tables that are equal to those that were read
+pub read_as : {base : StructuresShape} {bytes : List ℕ} {fixed ends same_fixed same_ends : List (Option ℕ)} → same_fixed ≡ fixed → same_ends ≡ ends → IsRead base bytes fixed ends → IsRead base bytes same_fixed same_ends
+read_as {base} {bytes} {ends} {same_fixed} fixed_is ends_is read = subst (IsRead base bytes same_fixed) (sym ends_is) (subst (λ t. IsRead base bytes t ends) (sym fixed_is) read)
+
 -- the refusals behind those of cut fields, by what tables of values and ends tell
 module _ (spec : Spec) (bytes : List ℕ) (fixed ends : List (Option ℕ)) where
   abbrev head_part : List Refusal

@@ -103,5 +103,5 @@ module _ (fixed : ℕ → Option ℕ) where
 pub field_within : (base : StructuresShape) (bytes : List ℕ) (layout : Layout) → layout_of base bytes ≡ Some layout → (field : FieldRef) (place : FieldPlace) (index bits : ℕ) → field_place layout field ≡ Some place → index < entry_count place → size_of (fixed_value base bytes) base.structures field.structure ≡ Some bits → place.bit + (index + 1) * width_bits place.width ≤ bits
 field_within base bytes layout is field place index bits found below sized = elim (slice_get layout.fields field.structure) as (λ o. slice_get layout.fields field.structure ≡ o → option_and_then (λ places. slice_get places field.field) o ≡ Some place → place.bit + (index + 1) * width_bits place.width ≤ bits) [
   | None ↦ λ _ h. absurd cc
-  | Some places ↦ λ at h. place_within (fixed_value base bytes) base.structures layout.fields field.structure field.field places place bits (built (fixed_value base bytes) base (length bytes) layout is).0 at h sized index below
+  | Some places ↦ λ at h. place_within (fixed_value base bytes) base.structures layout.fields field.structure field.field places place bits (built (fixed_value base bytes) base (length bytes) layout is).fields_are at h sized index below
 ] refl found

@@ -1,10 +1,10 @@
 -- What fits where nothing is refused: the head its image, and structures the slots that they describe.
-use Rattle.std.proofs.Common.{◌≡◌, ◌≤◌, ◌+◌, ◌-◌, ◌*◌, ◌/◌, ◌%◌, ℕ, false, nat_eq, nat_lt, List, [], ◌++◌, length, Option, Some, IfSome, option_map, slice_get, if◌then◌else◌, sym, ap, ◌∙◌, subst, arith}
+use Rattle.std.proofs.Common.{◌≡◌, ◌≤◌, ◌+◌, ◌-◌, ◌*◌, ◌/◌, ◌%◌, ℕ, false, nat_eq, nat_lt, List, [], ◌++◌, length, Option, None, Some, IfSome, IsSome, is_none, option_map, slice_get, if◌then◌else◌, refl, sym, ap, ◌∙◌, subst, arith}
 use Rattle.std.specs.Option.{option_map_or}
 use Rattle.std.proofs.lemmas.Bool.{eq-eqb}
 use Rattle.std.proofs.lemmas.Bool.Decides.{nat_tests}
 use Rattle.dsr_ir.specs.Layouts.{pool_numbers}
-use Rattle.dsr_ir.specs.Shapes.{PoolShape, StructuresShape, structures_shape}
+use Rattle.dsr_ir.specs.Shapes.{PoolShape, StructureShape, StructuresShape, structures_shape}
 use Rattle.dsr_ir.specs.declared.declarations.SetDecl.{SetDecl}
 use Rattle.dsr_ir.specs.declared.declarations.Spec.{Spec}
 use Rattle.dsr_ir.specs.declared.layouts.Layout.{Layout}
@@ -13,7 +13,7 @@ use Rattle.dsr_meaning.proofs.Empty.{both_empty, second_empty, third_empty, four
 use Rattle.dsr_meaning.specs.FixedFields.{head_fields, fixed_cell, fixed_value}
 use Rattle.dsr_meaning.specs.Layouts.{bytes_of, pool_of, layout_with, layout_of}
 use Rattle.dsr_meaning.specs.Places.{lineage, size_of}
-use Rattle.dsr_meaning.specs.Refusals.{Short, Subtype, ends_behind, cut_refusals, head_refusals, size_refusals, value_refusals, is_larger, view_refusals, set_refusals, outside_refusals, overlap_refusals, subtype_refusals, zero_refusals, none_refusals, code_refusals, count_refusals, instance_refusals, layout_refusals, refusals}
+use Rattle.dsr_meaning.specs.Refusals.{Arith, refused_when, Short, Subtype, ends_behind, cut_refusals, head_refusals, size_refusals, value_refusals, is_larger, view_refusals, set_refusals, outside_refusals, overlap_refusals, subtype_refusals, zero_refusals, none_refusals, code_refusals, count_refusals, instance_refusals, layout_refusals, refusals}
 use Rattle.dsr_layout.proofs.Collecting.{IsOf, collected_item}
 use Rattle.dsr_layout.proofs.Enclosed.{sized_end}
 use Rattle.dsr_layout.proofs.LegalLayout.{built}
@@ -30,6 +30,11 @@ view_fits size layout p structure n bits none numbers sized whole =
     ∙ quiet (is_larger size layout p structure) (Subtype p structure) none in
     let below : bits / 8 ≤ n.slot = grind (arith, nat_tests) in
     omega (arith, below, whole)
+
+-- what isn't missing is there
+is_there : (o : Option ℕ) → is_none o ≡ false → IsSome o
+is_there None e = absurd cc
+is_there (Some n) e = refl
 
 module _ (spec : Spec) (bytes : List ℕ) (none : refusals spec bytes ≡ []) where
   abbrev base : StructuresShape
@@ -50,10 +55,20 @@ module _ (spec : Spec) (bytes : List ℕ) (none : refusals spec bytes ≡ []) wh
       ∙ quiet (option_map_or (ends_behind (length bytes) 0) (size base.head) false) Short whole in
       grind (arith, nat_tests)
 
+  -- each structure has a size
+  pub has_size : (i : ℕ) (s : StructureShape) → slice_get base.structures i ≡ Some s → IsSome (size i)
+  has_size i s found =
+      let rest = value_refusals fixed size base.pools ++ option_map_or (layout_refusals size spec base) (layout_with fixed base (length bytes)) [] in
+      let sized = third_empty (cut_refusals (fixed_cell base) (head_fields base) (length bytes)) (head_refusals size base.head (length bytes)) (size_refusals size base.structures) rest none in
+      is_there (size i) (quiet (is_none (size i)) Arith (each_item (λ j _. refused_when (is_none (size j)) Arith) 0 base.structures sized i i s (omega arith) found))
+
   size_whole : (structure bits : ℕ) → size structure ≡ Some bits → bits % 8 ≡ 0
   size_whole structure bits sized = subst (λ o. IfSome o (λ e. e % 8 ≡ 0)) (sized_end fixed base.structures structure bits sized) (ends_at_byte fixed (lineage base.structures structure))
 
   module _ (layout : Layout) (is : layout_of base bytes ≡ Some layout) where
+    pub head_fits_layout : (bits : ℕ) → size spec.base.head ≡ Some bits → bits ≤ 8 * layout.length
+    head_fits_layout bits sized = omega (arith, head_fits bits sized, (built fixed base (length bytes) layout is).bytes_are)
+
     views_empty : subtype_refusals size base.sets base.pools layout ≡ []
     views_empty =
         let cut = cut_refusals (fixed_cell base) (head_fields base) (length bytes) in
@@ -76,7 +91,7 @@ module _ (spec : Spec) (bytes : List ℕ) (none : refusals spec bytes ≡ []) wh
       declared : IsOf (λ _ d. pool_of fixed size d) base.pools (p - 1) p n
       declared =
           let at = counted layout p n numbers in
-          collected_item (λ _ d. pool_of fixed size d) 1 base.pools layout.pools (built fixed base (length bytes) layout is).1 (p - 1) p n at.0 at.1
+          collected_item (λ _ d. pool_of fixed size d) 1 base.pools layout.pools (built fixed base (length bytes) layout is).pools_are (p - 1) p n at.0 at.1
 
       pub set_fits : (k : ℕ) (s : SetDecl) (bits : ℕ) → slice_get base.sets k ≡ Some s → s.pool ≡ p → size s.structure ≡ Some bits → bits ≤ 8 * n.slot
       set_fits k s bits found of sized =

@@ -15,6 +15,8 @@ use Rattle.dsr_meaning.specs.Refusals.{cut_refusals}
 use Rattle.dsr_meaning.specs.Typed.{AreTyped, IsLegalWidth, HasLegalWidth, IsTypedStructure}
 use Rattle.dsr_layout.specs.FixedCells.{IsReadable}
 use Rattle.dsr_layout.specs.Tables.{known, clip, clip_cell}
+use Rattle.dsr_layout.specs.Telling.{told_of}
+use Rattle.dsr_layout.specs.declared.faults.LayoutFault.{LayoutFault}
 use Rattle.dsr_layout.proofs.Cutting.{cuts, uncut, same_cuts}
 use Rattle.dsr_layout.proofs.FixedHeads.{head_is, no_head}
 use Rattle.dsr_layout.proofs.Meanings.{found_holds}
@@ -77,8 +79,15 @@ all_readable base bytes cells typed small whole held i d lt =
     subst (λ o. IfSome o (IsReadable bytes)) (sym (read_cell base bytes cells typed small whole held i) ∙ here) (fixed_read base bytes typed small whole i).readable
 
 -- what is told of the table is told of the cells
-pub same_told : (base : StructuresShape) (bytes : ℕ) (cells : List (Option Cell)) (fields : List FieldShape) → bytes ≤ 67108864 → ((k : ℕ) → known cells k ≡ option_map clip_cell (fixed_cell base k)) → fields ≡ head_fields base → cut_refusals (known cells) fields bytes ≡ cut_refusals (fixed_cell base) (head_fields base) bytes
+same_told : (base : StructuresShape) (bytes : ℕ) (cells : List (Option Cell)) (fields : List FieldShape) → bytes ≤ 67108864 → ((k : ℕ) → known cells k ≡ option_map clip_cell (fixed_cell base k)) → fields ≡ head_fields base → cut_refusals (known cells) fields bytes ≡ cut_refusals (fixed_cell base) (head_fields base) bytes
 same_told base bytes cells fields small held is = ap (λ fs. cut_refusals (known cells) fs bytes) is ∙ same_cuts (known cells) (fixed_cell base) bytes small held 0 (head_fields base)
+
+-- the same where the code's table is equal to one that has them
+pub cut_told : (base : StructuresShape) (bytes : ℕ) {table cells : List (Option Cell)} {fields : List FieldShape} {told : Option LayoutFault} → bytes ≤ 67108864 → table ≡ cells → ((k : ℕ) → known cells k ≡ option_map clip_cell (fixed_cell base k)) → fields ≡ head_fields base → told ≡ told_of (cut_refusals (known table) fields bytes) → told ≡ told_of (cut_refusals (fixed_cell base) (head_fields base) bytes)
+cut_told base bytes {table} {cells} {fields} small same held are is =
+    is
+    ∙ ap (λ cs. told_of (cut_refusals (known cs) fields bytes)) same
+    ∙ ap told_of (same_told base bytes cells fields small held are)
 
 -- the table of values
 pub read_values : (base : StructuresShape) (bytes : List ℕ) (cells : List (Option Cell)) (values : List (Option ℕ)) → ((k : ℕ) → known cells k ≡ fixed_cell base k) → values ≡ map (option_map (cell_value bytes)) cells → (k : ℕ) → known values k ≡ fixed_value base bytes k

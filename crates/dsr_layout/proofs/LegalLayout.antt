@@ -44,16 +44,21 @@ layout_is fixed size base bytes pools fields same is_pools is_fields =
     ∙ ap (option_map (λ pools. record { length = bytes; order = base.order; pools = pools; fields = fields })) is_pools
 
 -- and the other way round, a layout has them
-pub built : (fixed : ℕ → Option ℕ) (base : StructuresShape) (bytes : ℕ) (layout : Layout) → layout_with fixed base bytes ≡ Some layout → (places_of fixed base.structures ≡ Some layout.fields) × (pools_of fixed (size_of fixed base.structures) base.pools ≡ Some layout.pools)
-built fixed base bytes layout is = elim (places_of fixed base.structures) as (λ o. option_and_then (λ fields. option_map (λ pools. record { length = bytes; order = base.order; pools = pools; fields = fields }) (pools_of fixed (size_of fixed base.structures) base.pools)) o ≡ Some layout → (o ≡ Some layout.fields) × (pools_of fixed (size_of fixed base.structures) base.pools ≡ Some layout.pools)) [
-  | None ↦ λ h. absurd cc
-  | Some fields ↦ elim (pools_of fixed (size_of fixed base.structures) base.pools) as (λ o. option_map (λ pools. record { length = bytes; order = base.order; pools = pools; fields = fields }) o ≡ Some layout → (Some fields ≡ Some layout.fields) × (o ≡ Some layout.pools)) [
-    | None ↦ λ h. absurd cc
-    | Some pools ↦ λ h.
+pub record IsBuilt (fixed : ℕ → Option ℕ) (base : StructuresShape) (bytes : ℕ) (layout : Layout) : Type 0 where
+  pub fields_are : places_of fixed base.structures ≡ Some layout.fields
+  pub pools_are : pools_of fixed (size_of fixed base.structures) base.pools ≡ Some layout.pools
+  pub bytes_are : bytes ≡ layout.length
+
+pub built : (fixed : ℕ → Option ℕ) (base : StructuresShape) (bytes : ℕ) (layout : Layout) → layout_with fixed base bytes ≡ Some layout → IsBuilt fixed base bytes layout
+built fixed base bytes layout is = elim (places_of fixed base.structures) as (λ o. places_of fixed base.structures ≡ o → option_and_then (λ fields. option_map (λ pools. record { length = bytes; order = base.order; pools = pools; fields = fields }) (pools_of fixed (size_of fixed base.structures) base.pools)) o ≡ Some layout → IsBuilt fixed base bytes layout) [
+  | None ↦ λ _ h. absurd cc
+  | Some fields ↦ λ placed h. elim (pools_of fixed (size_of fixed base.structures) base.pools) as (λ o. pools_of fixed (size_of fixed base.structures) base.pools ≡ o → option_map (λ pools. record { length = bytes; order = base.order; pools = pools; fields = fields }) o ≡ Some layout → IsBuilt fixed base bytes layout) [
+    | None ↦ λ _ e. absurd cc
+    | Some pools ↦ λ numbered e.
         let made : ◌≡◌ {A = Layout} (record { length = bytes; order = base.order; pools = pools; fields = fields }) layout = cc in
-        (ap (λ l. Some l.fields) made, ap (λ l. Some l.pools) made)
-  ]
-] is
+        record { fields_are = placed ∙ ap (λ l. Some l.fields) made; pools_are = numbered ∙ ap (λ l. Some l.pools) made; bytes_are = ap (λ l. l.length) made }
+  ] refl h
+] refl is
 
 -- there are as many numbers as pools
 collect_length : {S T : Type 0} (f : ℕ → S → Option T) (n : ℕ) (xs : List S) → IfSome (collect_at f n xs) (λ ys. length ys ≡ length xs)

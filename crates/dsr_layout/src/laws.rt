@@ -1,6 +1,6 @@
 // Laws on layouts, each the contract of a function. With them, those who use a layout show that
 // a record has a field's entry, as `cell` requires.
-ghost use Rattle.std.specs.Prelude.{◌≡◌, ◌<◌, ◌≤◌, ◌+◌, ◌-◌, ◌*◌, [], ℕ, List, length, slice_get, Option, Some};
+ghost use Rattle.std.specs.Prelude.{◌≡◌, ◌<◌, ◌≤◌, ◌+◌, ◌-◌, ◌*◌, [], ℕ, List, length, slice_get, Option, Some, IsSome};
 ghost use Rattle.dsr_ir.specs.Layouts.{field_place, pool_numbers};
 ghost use Rattle.dsr_ir.specs.Shapes.{PoolShape, StructureShape, StructuresShape, structures_shape};
 ghost use Rattle.dsr_ir.specs.declared.declarations.FieldRef.{FieldRef};
@@ -36,5 +36,11 @@ pub fn records_fit_their_slots()
 
 /// Where nothing is refused, the image has all bytes of the head.
 pub fn heads_fit_their_images()
-    ensures { (spec : Spec) (bytes : List ℕ) (bits : ℕ) → refusals spec bytes ≡ [] → size_of (fixed_value (structures_shape spec.base) bytes) (structures_shape spec.base).structures spec.base.head ≡ Some bits → bits ≤ 8 * length bytes }
+    ensures image { (spec : Spec) (bytes : List ℕ) (bits : ℕ) → refusals spec bytes ≡ [] → size_of (fixed_value (structures_shape spec.base) bytes) (structures_shape spec.base).structures spec.base.head ≡ Some bits → bits ≤ 8 * length bytes }
+    ensures layout { (spec : Spec) (bytes : List ℕ) (layout : Layout) (bits : ℕ) → layout_of (structures_shape spec.base) bytes ≡ Some layout → refusals spec bytes ≡ [] → size_of (fixed_value (structures_shape spec.base) bytes) (structures_shape spec.base).structures spec.base.head ≡ Some bits → bits ≤ 8 * layout.length }
+{}
+
+/// Where nothing is refused, each structure has a size.
+pub fn structures_have_sizes()
+    ensures { (spec : Spec) (bytes : List ℕ) → refusals spec bytes ≡ [] → (i : ℕ) (s : StructureShape) → slice_get (structures_shape spec.base).structures i ≡ Some s → IsSome (size_of (fixed_value (structures_shape spec.base) bytes) (structures_shape spec.base).structures i) }
 {}

@@ -22,7 +22,7 @@ pub use cells::cell;
 pub use faults::LayoutFault;
 pub use laws::{
     fields_lie_in_structures, heads_fit_their_images, parents_are_no_larger,
-    records_fit_their_slots,
+    records_fit_their_slots, structures_have_sizes,
 };
 pub use layouts::layout;
 pub use references::{Ref, code_of, slot_of};

@@ -2,10 +2,9 @@ use Rattle.std.proofs.Common.{◌≤◌, sym, ap, subst, ◌++◌, ◌∙◌}
 use Rattle.std.proofs.lemmas.Result.{err_from_is_err_and}
 use Rattle.dsr_ir.specs.Shapes.{structures_shape}
 use Rattle.dsr_meaning.specs.Refusals.{refusals, size_refusals, value_refusals, layout_refusals}
-use Rattle.dsr_layout.specs.Readings.{IsRead}
 use Rattle.dsr_layout.specs.Tables.{known, size_in}
 use Rattle.dsr_layout.specs.Telling.{told_of, Tells}
-use Rattle.dsr_layout.proofs.Composed.{value_told, layout_told, accepted, layout_made}
+use Rattle.dsr_layout.proofs.Composed.{read_as, value_told, layout_told, accepted, layout_made}
 use Rattle.dsr_layout.proofs.LegalLayout.{legal_layout}
 use Rattle.dsr_layout.proofs.Looking.{told_none}
 use Rattle.dsr_layout.proofs.layouts.layout.Goals as goal
@@ -24,36 +23,24 @@ pub returns-in-Some-clause-refused : goal.returns-in-Some-clause-refused
 returns-in-Some-clause-refused c =
     let spec = c.args.spec.now in
     let base = structures_shape spec.base in
-    let fixed = c.deref.result.now in
-    let ends = c.deref-2.result.now in
-    let read = subst (λ t. IsRead base c.args.bytes.now fixed t) (sym c.deref-2.ensures.value) (subst (λ t. IsRead base c.args.bytes.now t c.in_ok-readings.readings.ends.items) (sym c.deref.ensures.value) c.in_ok-readings.ensures.read) in
-    let made = c.in_ok-layout.ensures.made in
+    let read = read_as c.deref.ensures.value c.deref-2.ensures.value c.in_ok-readings.ensures.read in
     let layout = c.in_ok-layout.layout in
     let told = ap (λ t. told_of (layout_refusals (size_in t) spec base layout)) (c.deref-3.ensures.value ∙ sym c.deref-2.ensures.value) in
-    layout_told spec c.args.bytes.now fixed ends read layout made c.in-Some.fault (sym c.in-Some.is ∙ c.in_ok-fault.ensures ∙ told)
+    layout_told spec c.args.bytes.now c.deref.result.now c.deref-2.result.now read layout c.in_ok-layout.ensures.made c.in-Some.fault (sym c.in-Some.is ∙ c.in_ok-fault.ensures ∙ told)
 
 pub returns-clause-numbers : goal.returns-clause-numbers
 returns-clause-numbers c =
-    let spec = c.args.spec.now in
-    let base = structures_shape spec.base in
-    let fixed = c.deref.result.now in
-    let ends = c.deref-2.result.now in
-    let read = subst (λ t. IsRead base c.args.bytes.now fixed t) (sym c.deref-2.ensures.value) (subst (λ t. IsRead base c.args.bytes.now t c.in_ok-readings.readings.ends.items) (sym c.deref.ensures.value) c.in_ok-readings.ensures.read) in
-    let made = c.in_ok-layout.ensures.made in
-    let layout = c.in_ok-layout.layout in
-    layout_made spec c.args.bytes.now fixed ends read layout made
+    let read = read_as c.deref.ensures.value c.deref-2.ensures.value c.in_ok-readings.ensures.read in
+    layout_made c.args.spec.now c.args.bytes.now c.deref.result.now c.deref-2.result.now read c.in_ok-layout.layout c.in_ok-layout.ensures.made
 
 pub returns-clause-accepted : goal.returns-clause-accepted
 returns-clause-accepted c =
     let spec = c.args.spec.now in
     let base = structures_shape spec.base in
-    let fixed = c.deref.result.now in
-    let ends = c.deref-2.result.now in
-    let read = subst (λ t. IsRead base c.args.bytes.now fixed t) (sym c.deref-2.ensures.value) (subst (λ t. IsRead base c.args.bytes.now t c.in_ok-readings.readings.ends.items) (sym c.deref.ensures.value) c.in_ok-readings.ensures.read) in
-    let made = c.in_ok-layout.ensures.made in
+    let read = read_as c.deref.ensures.value c.deref-2.ensures.value c.in_ok-readings.ensures.read in
     let layout = c.in_ok-layout.layout in
     let told = ap (λ t. told_of (layout_refusals (size_in t) spec base layout)) (c.deref-3.ensures.value ∙ sym c.deref-2.ensures.value) in
-    accepted spec c.args.bytes.now fixed ends read layout made (sym c.in-None.is ∙ c.in_ok-fault.ensures ∙ told)
+    accepted spec c.args.bytes.now c.deref.result.now c.deref-2.result.now read layout c.in_ok-layout.ensures.made (sym c.in-None.is ∙ c.in_ok-fault.ensures ∙ told)
 
 pub returns-clause-legal : goal.returns-clause-legal
 returns-clause-legal c =

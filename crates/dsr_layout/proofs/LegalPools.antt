@@ -1,5 +1,5 @@
 -- What is known of pools where none of them is refused.
-use Rattle.std.proofs.Common.{◌≡◌, ◌≢◌, ◌<◌, ◌≤◌, ◌+◌, ◌-◌, ◌*◌, ◌^◌, ℕ, zero, suc, min, max, Bool, true, false, ◌&&◌, ◌||◌, nat_eq, nat_lt, List, [], ◌∷◌, map, length, get_or, All, None, Some, slice_get, if◌then◌else◌, refl, ap, ◌∙◌, subst, arith}
+use Rattle.std.proofs.Common.{◌≡◌, ◌≢◌, ◌<◌, ◌≤◌, ◌+◌, ◌-◌, ◌*◌, ◌^◌, ℕ, zero, suc, Bool, true, false, ◌&&◌, ◌||◌, nat_eq, nat_lt, List, [], ◌∷◌, map, length, get_or, All, None, Some, slice_get, if◌then◌else◌, refl, sym, ap, ◌∙◌, subst, arith}
 use Rattle.std.proofs.Math.Nat.{mul-le-mul_right}
 use Rattle.std.proofs.lemmas.Bool.Decides.{nat_tests}
 use Rattle.std.proofs.lemmas.List.{get_or-map, length-map}
@@ -12,6 +12,7 @@ use Rattle.dsr_meaning.specs.Faults.{each_at}
 use Rattle.dsr_meaning.specs.Layouts.{pool_end, last_code}
 use Rattle.dsr_meaning.specs.Legal.{IsLegalPool, AreApart}
 use Rattle.dsr_meaning.specs.Refusals.{Outside, Overlap, Zero, NoneIsCode, refused_when, outside_refusals, overlaps, zero_refusals, none_refusals, is_code_below, ByteRange, pool_range, share_byte}
+use Rattle.dsr_layout.proofs.SharedBytes.{byte_shared}
 use Rattle.dsr_layout.proofs.Looking.{quiet}
 use Rattle.dsr_layout.specs.Pools.{IsComputable, HasStep}
 
@@ -82,9 +83,8 @@ apart_in p (r ∷ rs) e (suc i) (suc j) d lt within =
 -- no byte is in two ranges that share none
 no_byte : (a b : ByteRange) → share_byte a b ≡ false → (at : ℕ) → a.first ≤ at → at < a.behind → b.first ≤ at → at < b.behind → ⊥
 no_byte a b e at from before from' before' =
-    let low : max a.first b.first ≤ at = omega (arith, from, from') in
-    let high : at < min a.behind b.behind = omega (arith, before, before') in
-    absurd (grind (arith, nat_tests))
+    let shared : false ≡ true = sym e ∙ byte_shared a b at from before from' before' in
+    absurd cc
 
 -- pools are counted from 1
 pub counted : (layout : Layout) (p : ℕ) (n : PoolNumbers) → pool_numbers layout p ≡ Some n → (p ≡ 1 + (p - 1)) × (slice_get layout.pools (p - 1) ≡ Some n)

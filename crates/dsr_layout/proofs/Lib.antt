@@ -17,4 +17,5 @@ pub mod Lineages
 pub mod Looking
 pub mod Meanings
 pub mod Placed
+pub mod SharedBytes
 pub mod Sizes

@@ -1,6 +1,6 @@
 // Laws on layouts, each the contract of a function. With them, those who use a layout show that
 // a record has a field's entry, as `cell` requires.
-ghost use Rattle.std.specs.Prelude.{◌≡◌, ◌<◌, ◌≤◌, ◌+◌, ◌-◌, ◌*◌, [], ℕ, List, length, slice_get, Option, Some, IsSome};
+ghost use Rattle.std.specs.Prelude.{◌≡◌, ◌↔◌, ◌<◌, ◌≤◌, ◌+◌, ◌-◌, ◌*◌, [], ℕ, List, length, slice_get, Option, Some, IsSome, IsTrue};
 ghost use Rattle.dsr_ir.specs.Layouts.{field_place, pool_numbers};
 ghost use Rattle.dsr_ir.specs.Shapes.{PoolShape, StructureShape, StructuresShape, structures_shape};
 ghost use Rattle.dsr_ir.specs.declared.declarations.FieldRef.{FieldRef};
@@ -14,7 +14,7 @@ ghost use Rattle.dsr_meaning.specs.FixedFields.{fixed_value};
 ghost use Rattle.dsr_meaning.specs.Layouts.{layout_of};
 ghost use Rattle.dsr_meaning.specs.Legal.{entry_count};
 ghost use Rattle.dsr_meaning.specs.Places.{size_of};
-ghost use Rattle.dsr_meaning.specs.Refusals.{refusals};
+ghost use Rattle.dsr_meaning.specs.Refusals.{ByteRange, share_byte, is_code_below, refusals};
 
 /// Each entry of a field lies in the bytes of the structure that declares the field.
 pub fn fields_lie_in_structures()
@@ -43,4 +43,14 @@ pub fn heads_fit_their_images()
 /// Where nothing is refused, each structure has a size.
 pub fn structures_have_sizes()
     ensures { (spec : Spec) (bytes : List ℕ) → refusals spec bytes ≡ [] → (i : ℕ) (s : StructureShape) → slice_get (structures_shape spec.base).structures i ≡ Some s → IsSome (size_of (fixed_value (structures_shape spec.base) bytes) (structures_shape spec.base).structures i) }
+{}
+
+/// Two ranges of bytes are told to share one exactly where some byte lies in both.
+pub fn ranges_share_bytes()
+    ensures { (a b : ByteRange) → IsTrue (share_byte a b) ↔ (at : ℕ) × (a.first ≤ at) × (at < a.behind) × (b.first ≤ at) × (at < b.behind) }
+{}
+
+/// A value is told to be a code exactly where it is the code of some slot of the pool.
+pub fn codes_are_of_slots()
+    ensures { (n : PoolNumbers) (value : ℕ) → IsTrue (is_code_below n value n.count) ↔ (slot : ℕ) × (slot < n.count) × (value ≡ n.code + slot * n.step) }
 {}

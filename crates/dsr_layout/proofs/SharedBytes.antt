@@ -1,0 +1,15 @@
+-- Bytes that lie in two ranges.
+use Rattle.std.proofs.Common.{◌≡◌, ◌<◌, ◌≤◌, ℕ, true, min, max, arith}
+use Rattle.std.proofs.lemmas.Bool.Decides.{nat_tests}
+use Rattle.dsr_meaning.specs.Refusals.{ByteRange, share_byte}
+
+-- the later start is such a byte
+pub shared_byte : (a b : ByteRange) → share_byte a b ≡ true → (at : ℕ) × (a.first ≤ at) × (at < a.behind) × (b.first ≤ at) × (at < b.behind)
+shared_byte a b e =
+    let lt : max a.first b.first < min a.behind b.behind = grind (arith, nat_tests) in
+    (max a.first b.first, omega arith, omega (arith, lt), omega arith, omega (arith, lt))
+
+pub byte_shared : (a b : ByteRange) (at : ℕ) → a.first ≤ at → at < a.behind → b.first ≤ at → at < b.behind → share_byte a b ≡ true
+byte_shared a b at from before from' before' =
+    let lt : max a.first b.first < min a.behind b.behind = omega (arith, from, before, from', before') in
+    grind (arith, nat_tests)

@@ -1,5 +1,5 @@
 // What is told of declarations on an image.
-use crate::building::{image_of, spec_of, told_of};
+use crate::building::{spec_of, told_of};
 use crate::pool_tables::{
     CODE, CODE_ORDER, CODE_WIDTHS, NONE, OUTSIDE, OVERLAP, SUBTYPE, SUBTYPE_ORDER, ZERO,
 };

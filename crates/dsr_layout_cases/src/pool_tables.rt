@@ -305,12 +305,13 @@ pub const SUBTYPE_ORDER: [Row; 7] = [
 
 /// A step or a slot of 0.
 pub const ZERO: [Row; 13] = [
+    // the step
     (
         "structure Head{}structure R{u8 a;}pool p:R[1]at 0 codes 0 step 0 none 9;",
         &[0],
         "6 zero 1",
     ),
-    // R and E have no byte
+    // the slot: neither E nor R has a byte, and 1 - 1 is 0
     (
         "structure Head{}structure E{}pool p:E[1]at 0 codes 0 step 1 none 9;",
         &[],
@@ -379,6 +380,7 @@ pub const ZERO: [Row; 13] = [
 
 /// A code of no slot that is one of a slot.
 pub const NONE: [Row; 16] = [
+    // 0 is the only code
     (
         "structure Head{}structure R{u8 a;}pool p:R[1]at 0 codes 0 step 1 none 0;",
         &[0],
@@ -544,6 +546,7 @@ pub const CODE: [Row; 12] = [
 
 /// The last code that fits a width, and the first that doesn't.
 pub const CODE_WIDTHS: [Row; 9] = [
+    // 2^16 - 1 and 2^16 as none
     (
         "structure Head{u16 f->p;}structure R{u8 a;}pool p:R[1]at 2 codes 0 step 1 none 65535;",
         &[0, 0, 0],
@@ -554,6 +557,7 @@ pub const CODE_WIDTHS: [Row; 9] = [
         &[0, 0, 0],
         "8 code 1 0 0",
     ),
+    // 2^32 - 1 and 2^32 as the only code
     (
         "structure Head{u32 f->p;}structure R{u8 a;}pool p:R[1]at 4 codes 4294967295 step 1 none 0;",
         &[0, 0, 0, 0, 0],
@@ -564,11 +568,13 @@ pub const CODE_WIDTHS: [Row; 9] = [
         &[0, 0, 0, 0, 0],
         "8 code 1 0 0",
     ),
+    // 2^64 - 1, the last number of all
     (
         "structure Head{u64 f->p;}structure R{u8 a;}pool p:R[1]at 8 codes 0 step 1 none 18446744073709551615;",
         &[0, 0, 0, 0, 0, 0, 0, 0, 0],
         "layout, 1 * 1 at 8 codes 0 step 1 none 18446744073709551615",
     ),
+    // eight codes and none are more than 3 bits have; 1 to 7 and 0 are as many
     (
         "structure Head{bits 3 f->p;}structure R{u8 a;}pool p:R[8]at 1 codes 0 step 1 none 8;",
         &[0, 0, 0, 0, 0, 0, 0, 0, 0],
@@ -579,6 +585,7 @@ pub const CODE_WIDTHS: [Row; 9] = [
         &[0, 0, 0, 0, 0, 0, 0, 0],
         "layout, 7 * 1 at 1 codes 1 step 1 none 0",
     ),
+    // 2^32 - 1 and 2^32 as none
     (
         "structure Head{bits 32 f->p;}structure R{u8 a;}pool p:R[1]at 4 codes 0 step 1 none 4294967295;",
         &[0, 0, 0, 0, 0],

@@ -242,7 +242,7 @@ pub const PLACES: Table = Table {
             &[each!(Op::Eq, Measure::Whole(1))],
             "9 count 0",
         ),
-        // the narrow rule is one of H
+        // the narrow rule is one of H, and no rule at all
         (&[BIT, WIDE], &[each!(Op::Eq, Measure::Whole(1))], FITS),
         (&[], &[each!(Op::Eq, Measure::Whole(1))], FITS),
         // slots with the entries of an array

@@ -220,9 +220,15 @@ const LONG: RuleRow = (None, Span::Array(field!(2, 0)), Inc::Own(0));
 
 const LONGER: RuleRow = (Some(0), Span::Array(field!(2, 0)), Inc::Own(0));
 
+// `x in A, k in m`, where m is an array of 2^63 entries
+const HALF_OF_ALL: RuleRow = (Some(0), Span::Array(field!(3, 0)), Inc::Own(0));
+
+// `head, k in head.m => p[k] in A`
+const OWN_ARRAY: RuleRow = (None, Span::Array(field!(0, 1)), Inc::Slot(0, 1));
+
 /// Numbers of instances that aren't below 2^64; the head's own array has 4 entries.
 pub const LONG_ARRAYS: Table = Table {
-    text: "version 1;order little;structure Head{u8 h;bits 1 m[4];}structure R{u8 a;}structure U{bits 1 m[18446744073709551608];}pool p:R[2]at 2 codes 0 step 1 none 9;set A of p;relation H:head->number;",
+    text: "version 1;order little;structure Head{u8 h;bits 1 m[4];}structure R{u8 a;}structure U{bits 1 m[18446744073709551608];}structure V{bits 1 m[9223372036854775808];}pool p:R[2]at 2 codes 0 step 1 none 9;set A of p;relation H:head->number;",
     front: &[],
     zeros: 4,
     rows: &[
@@ -231,16 +237,30 @@ pub const LONG_ARRAYS: Table = Table {
         (&[LONGER], &[], "10 instances"),
         (&[LONG, LONG], &[], "10 instances"),
         (&[LONG], &[(Quant::Each(0), &[])], "10 instances"),
-        // 4 and 1
-        (
-            &[(None, Span::Array(field!(0, 1)), Inc::Slot(0, 1)), HEAD],
-            &[(Quant::Each(0), &[])],
-            LAYOUT_OF_LONG,
-        ),
+        // 2^64 - 8 + 4 + 4 = 2^64, and 2 * 2^63
+        (&[LONG, OWN_ARRAY, OWN_ARRAY], &[], "10 instances"),
+        (&[HALF_OF_ALL], &[], "10 instances"),
+        // 4, 1 and 4
+        (&[OWN_ARRAY, HEAD], &[(Quant::Each(0), &[])], LAYOUT_OF_LONG),
     ],
 };
 
-/// The same over an empty pool: 0 * (2^64 - 8).
+/// An index over an empty pool: 2,048 * 2,048 + 2,048 * 0 = 2^22.
+pub const NO_INDEX: Table = Table {
+    text: "version 1;order little;structure Head{u8 h;}structure R{u8 a;}pool p:R[2048]at 1 codes 0 step 1 none 2048;pool q:R[0]at 1 codes 0 step 1 none 2048;set A of p;set B of q;relation H:head->number;",
+    front: &[],
+    zeros: 2049,
+    rows: &[
+        (
+            &[SQUARE, OBLONG],
+            &[(Quant::Each(1), &[])],
+            "layout, 2048 * 1 at 1 codes 0 step 1 none 2048, 0 * 1 at 1 codes 0 step 1 none 2048",
+        ),
+        (&[SQUARE, OBLONG, HEAD], &[], "10 instances"),
+    ],
+};
+
+/// A long array over the records of an empty pool: 0 * (2^64 - 8).
 pub const NO_RECORDS: Table = Table {
     text: "version 1;order little;structure Head{}structure R{u8 a;}structure U{bits 1 m[18446744073709551608];}pool p:R[0]at 0 codes 0 step 1 none 9;set A of p;",
     front: &[],

@@ -1,7 +1,7 @@
 // What is told of rules and constraints over an image.
 use crate::building::{image_of, spec_of, told_of};
 use crate::instance_tables::{
-    COUNT_FIRST, FIRST, LONG_ARRAYS, NO_RECORDS, QUANTIFIERS, RULES, SECOND,
+    COUNT_FIRST, FIRST, LONG_ARRAYS, NO_INDEX, NO_RECORDS, QUANTIFIERS, RULES, SECOND,
 };
 use crate::rule_tables::{CODE_FIRST, COMPARISONS, LISTS, PLACES, Row, SIZES, Table};
 use std::alloc::Global;
@@ -54,6 +54,7 @@ fn the_lesser_kind_is_told(rt: HostRuntime) -> Result<(), Fail> {
 fn instances_of_rules(rt: HostRuntime) -> Result<(), Fail> {
     assert_eq!(rt; first_wrong(rt.alloc(), &RULES)?.as_str(), "");
     assert_eq!(rt; first_wrong(rt.alloc(), &LONG_ARRAYS)?.as_str(), "");
+    assert_eq!(rt; first_wrong(rt.alloc(), &NO_INDEX)?.as_str(), "");
     assert_eq!(rt; first_wrong(rt.alloc(), &NO_RECORDS)?.as_str(), "");
     Ok(())
 }

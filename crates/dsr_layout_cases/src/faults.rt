@@ -1,5 +1,6 @@
 // What is told of declarations on an image.
 use crate::building::{spec_of, told_of};
+use crate::example_tables::EXAMPLES;
 use crate::pool_tables::{
     CODE, CODE_ORDER, CODE_WIDTHS, NONE, OUTSIDE, OVERLAP, SUBTYPE, SUBTYPE_ORDER, ZERO,
 };
@@ -33,6 +34,13 @@ fn wrong(alloc: Global, rows: &[Row]) -> Result<String, Fail> {
 #[test]
 fn whole_texts(rt: HostRuntime) -> Result<(), Fail> {
     assert_eq!(rt; first_wrong(rt.alloc(), "", &WHOLE)?.as_str(), "");
+    Ok(())
+}
+
+#[test]
+fn examples_for_users(rt: HostRuntime) -> Result<(), Fail> {
+    let start = "version 1;order little;structure Head{fixed u8 n;}structure R{u8 a;}";
+    assert_eq!(rt; first_wrong(rt.alloc(), start, &EXAMPLES)?.as_str(), "");
     Ok(())
 }
 

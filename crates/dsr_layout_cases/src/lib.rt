@@ -9,6 +9,8 @@ mod cell_tables;
 #[cfg(test)]
 mod cells;
 #[cfg(test)]
+mod example_tables;
+#[cfg(test)]
 mod faults;
 #[cfg(test)]
 mod instance_tables;

@@ -1,24 +1,27 @@
 -- What fits where nothing is refused: the head its image, and structures the slots that they describe.
-use Rattle.std.proofs.Common.{◌≡◌, ◌≤◌, ◌+◌, ◌-◌, ◌*◌, ◌/◌, ◌%◌, ℕ, false, nat_eq, nat_lt, List, [], ◌++◌, length, Option, None, Some, IfSome, IsSome, is_none, option_map, slice_get, if◌then◌else◌, refl, sym, ap, ◌∙◌, subst, arith}
+use Rattle.std.proofs.Common.{◌≡◌, ◌<◌, ◌≤◌, ◌+◌, ◌-◌, ◌*◌, ◌/◌, ◌%◌, ◌^◌, ℕ, Bool, true, false, not, ◌||◌, nat_eq, nat_lt, List, [], ◌++◌, length, Option, None, Some, IfSome, IsSome, is_none, option_map, slice_get, if◌then◌else◌, refl, sym, ap, ◌∙◌, subst, arith}
 use Rattle.std.specs.Option.{option_map_or}
 use Rattle.std.proofs.lemmas.Bool.{eq-eqb}
 use Rattle.std.proofs.lemmas.Bool.Decides.{nat_tests}
 use Rattle.dsr_ir.specs.Layouts.{pool_numbers}
-use Rattle.dsr_ir.specs.Shapes.{PoolShape, StructureShape, StructuresShape, structures_shape}
+use Rattle.dsr_ir.specs.Shapes.{FieldShape, PoolShape, StructureShape, StructuresShape, structures_shape}
 use Rattle.dsr_ir.specs.declared.declarations.SetDecl.{SetDecl}
 use Rattle.dsr_ir.specs.declared.declarations.Spec.{Spec}
 use Rattle.dsr_ir.specs.declared.layouts.Layout.{Layout}
 use Rattle.dsr_ir.specs.declared.layouts.PoolNumbers.{PoolNumbers}
 use Rattle.dsr_meaning.proofs.Empty.{both_empty, second_empty, third_empty, fourth_empty}
+use Rattle.dsr_meaning.specs.Cells.{width_bits}
+use Rattle.dsr_meaning.specs.Faults.{each_at}
+use Rattle.dsr_meaning.specs.Instances.{kind_pool}
 use Rattle.dsr_meaning.specs.FixedFields.{head_fields, fixed_cell, fixed_value}
-use Rattle.dsr_meaning.specs.Layouts.{bytes_of, pool_of, layout_with, layout_of}
+use Rattle.dsr_meaning.specs.Layouts.{bytes_of, last_code, pool_of, layout_with, layout_of}
 use Rattle.dsr_meaning.specs.Places.{lineage, size_of}
-use Rattle.dsr_meaning.specs.Refusals.{Arith, refused_when, Short, Subtype, ends_behind, cut_refusals, head_refusals, size_refusals, value_refusals, is_larger, view_refusals, set_refusals, outside_refusals, overlap_refusals, subtype_refusals, zero_refusals, none_refusals, code_refusals, count_refusals, instance_refusals, layout_refusals, refusals}
+use Rattle.dsr_meaning.specs.Refusals.{Arith, CodeTooWide, fits, codes_fit, reference_refusals, refused_when, Short, Subtype, ends_behind, cut_refusals, head_refusals, size_refusals, value_refusals, is_larger, view_refusals, set_refusals, outside_refusals, overlap_refusals, subtype_refusals, zero_refusals, none_refusals, code_refusals, count_refusals, instance_refusals, layout_refusals, refusals}
 use Rattle.dsr_layout.proofs.Collecting.{IsOf, collected_item}
 use Rattle.dsr_layout.proofs.Enclosed.{sized_end}
 use Rattle.dsr_layout.proofs.LegalLayout.{built}
 use Rattle.dsr_layout.proofs.LegalPlaces.{ends_at_byte}
-use Rattle.dsr_layout.proofs.LegalPools.{counted}
+use Rattle.dsr_layout.proofs.LegalPools.{both, codes_below, counted}
 use Rattle.dsr_layout.proofs.Looking.{each_item, quiet}
 
 -- a structure by which a pool is read fits its slot, where that isn't refused
@@ -30,6 +33,10 @@ view_fits size layout p structure n bits none numbers sized whole =
     ∙ quiet (is_larger size layout p structure) (Subtype p structure) none in
     let below : bits / 8 ≤ n.slot = grind (arith, nat_tests) in
     omega (arith, below, whole)
+
+not_not : (b : Bool) → not b ≡ false → b ≡ true
+not_not true e = refl
+not_not false e = absurd cc
 
 -- what isn't missing is there
 is_there : (o : Option ℕ) → is_none o ≡ false → IsSome o
@@ -69,16 +76,46 @@ module _ (spec : Spec) (bytes : List ℕ) (none : refusals spec bytes ≡ []) wh
     pub head_fits_layout : (bits : ℕ) → size spec.base.head ≡ Some bits → bits ≤ 8 * layout.length
     head_fits_layout bits sized = omega (arith, head_fits bits sized, (built fixed base (length bytes) layout is).bytes_are)
 
-    views_empty : subtype_refusals size base.sets base.pools layout ≡ []
-    views_empty =
+    all_empty : layout_refusals size spec base layout ≡ []
+    all_empty =
         let cut = cut_refusals (fixed_cell base) (head_fields base) (length bytes) in
         let head = head_refusals size base.head (length bytes) in
         let sizes = size_refusals size base.structures in
         let values = value_refusals fixed size base.pools in
         let last = option_map_or (layout_refusals size spec base) (layout_with fixed base (length bytes)) [] in
-        let all = sym (ap (λ o. option_map_or (layout_refusals size spec base) o []) is) ∙ fourth_empty head sizes values last (both_empty cut (head ++ (sizes ++ (values ++ last))) none).1 in
+        sym (ap (λ o. option_map_or (layout_refusals size spec base) o []) is) ∙ fourth_empty head sizes values last (both_empty cut (head ++ (sizes ++ (values ++ last))) none).1
+
+    views_empty : subtype_refusals size base.sets base.pools layout ≡ []
+    views_empty =
         let rest = zero_refusals layout ++ (none_refusals layout ++ (code_refusals base.structures layout ++ (count_refusals spec layout ++ instance_refusals spec layout))) in
-        third_empty (outside_refusals layout) (overlap_refusals size base.head layout) (subtype_refusals size base.sets base.pools layout) rest all
+        third_empty (outside_refusals layout) (overlap_refusals size base.head layout) (subtype_refusals size base.sets base.pools layout) rest all_empty
+
+    codes_empty : code_refusals base.structures layout ≡ []
+    codes_empty =
+        let behind = count_refusals spec layout ++ instance_refusals spec layout in
+        let from_zero = zero_refusals layout ++ (none_refusals layout ++ (code_refusals base.structures layout ++ behind)) in
+        let after_views = (both_empty (subtype_refusals size base.sets base.pools layout) from_zero (both_empty (overlap_refusals size base.head layout) (subtype_refusals size base.sets base.pools layout ++ from_zero) (both_empty (outside_refusals layout) (overlap_refusals size base.head layout ++ (subtype_refusals size base.sets base.pools layout ++ from_zero)) all_empty).1).1).1 in
+        third_empty (zero_refusals layout) (none_refusals layout) (code_refusals base.structures layout) behind after_views
+
+    -- the codes of a pool fit the fields that refer to it
+    module _ (i k p : ℕ) (s : StructureShape) (f : FieldShape) (n : PoolNumbers) (found_s : slice_get base.structures i ≡ Some s) (found_f : slice_get s.fields k ≡ Some f) (refers : kind_pool f.kind ≡ Some p) (numbers : pool_numbers layout p ≡ Some n) where
+      codes_told : codes_fit (width_bits f.width) n ≡ true
+      codes_told =
+          let own = each_item (λ j t. each_at (reference_refusals layout j) 0 t.fields) 0 base.structures codes_empty i i s (omega arith) found_s in
+          let one = each_item (reference_refusals layout i) 0 s.fields own k k f (omega arith) found_f in
+          let known : refused_when (not (codes_fit (width_bits f.width) n)) (CodeTooWide p i k) ≡ [] =
+          sym (ap (λ o. option_map_or (λ q. option_map_or (λ m. refused_when (not (codes_fit (width_bits f.width) m)) (CodeTooWide q i k)) (pool_numbers layout q) []) o []) refers
+          ∙ ap (λ o. option_map_or (λ m. refused_when (not (codes_fit (width_bits f.width) m)) (CodeTooWide p i k)) o []) numbers)
+          ∙ one in
+          not_not (codes_fit (width_bits f.width) n) (quiet (not (codes_fit (width_bits f.width) n)) (CodeTooWide p i k) known)
+
+      pub none_fits : n.none < 2 ^ width_bits f.width
+      none_fits =
+          let fits_it = (both (fits (width_bits f.width) n.none) (nat_eq n.count 0 || fits (width_bits f.width) (last_code n)) codes_told).0 in
+          grind (arith, nat_tests)
+
+      pub code_fits : (slot : ℕ) → slot < n.count → n.code + slot * n.step < 2 ^ width_bits f.width
+      code_fits = codes_below n (2 ^ width_bits f.width) (both (fits (width_bits f.width) n.none) (nat_eq n.count 0 || fits (width_bits f.width) (last_code n)) codes_told).1
 
     module _ (p : ℕ) (n : PoolNumbers) (numbers : pool_numbers layout p ≡ Some n) where
       pool_empty : (d : PoolShape) → slice_get base.pools (p - 1) ≡ Some d → (view_refusals size layout p d.structure ≡ []) × (set_refusals size layout p base.sets ≡ [])

@@ -20,7 +20,7 @@ neither : (a b : Bool) → (a || b) ≡ false → (a ≡ false) × (b ≡ false)
 neither true b e = absurd cc
 neither false b e = (refl, e)
 
-both : (a b : Bool) → (a && b) ≡ true → (a ≡ true) × (b ≡ true)
+pub both : (a b : Bool) → (a && b) ≡ true → (a ≡ true) × (b ≡ true)
 both true b e = (refl, e)
 both false b e = absurd cc
 
@@ -40,16 +40,15 @@ no_code n value (suc count) e slot lt is =
     ] refl
 
 -- the code of each slot is at most the last one
-codes_small : (n : PoolNumbers) → IsComputable n → (slot : ℕ) → slot < n.count → n.code + slot * n.step < 2 ^ 64
-codes_small n computable slot lt =
-    let behind = (both (nat_lt (pool_end n) (2 ^ 64)) (nat_eq n.count 0 || nat_lt (last_code n) (2 ^ 64)) computable).1 in
+pub codes_below : (n : PoolNumbers) (bound : ℕ) → (nat_eq n.count 0 || nat_lt (last_code n) bound) ≡ true → (slot : ℕ) → slot < n.count → n.code + slot * n.step < bound
+codes_below n bound below slot lt =
     let steps : slot * n.step ≤ (n.count - 1) * n.step = mul-le-mul_right n.step (omega (arith, lt)) in
-    elim (nat_eq n.count 0) as (λ b. nat_eq n.count 0 ≡ b → (b || nat_lt (last_code n) (2 ^ 64)) ≡ true → n.code + slot * n.step < 2 ^ 64) [
+    elim (nat_eq n.count 0) as (λ b. nat_eq n.count 0 ≡ b → (b || nat_lt (last_code n) bound) ≡ true → n.code + slot * n.step < bound) [
       | true ↦ λ e is. absurd (grind (arith, nat_tests))
       | false ↦ λ e is.
-          let last : n.code + (n.count - 1) * n.step < 2 ^ 64 = grind (arith, nat_tests) in
+          let last : n.code + (n.count - 1) * n.step < bound = grind (arith, nat_tests) in
           omega (arith, steps, last)
-    ] refl behind
+    ] refl below
 
 -- a pool that isn't refused
 legal_pool : (bytes : ℕ) (n : PoolNumbers) → IsComputable n → nat_lt bytes (pool_end n) ≡ false → (nat_eq n.step 0 || nat_eq n.slot 0) ≡ false → is_code_below n n.none n.count ≡ false → IsLegalPool bytes n
@@ -61,7 +60,7 @@ legal_pool bytes n computable inside some apart =
       slot_some = grind (arith, nat_tests);
       step_some = grind (arith, nat_tests);
       within = grind (arith, nat_tests);
-      codes_small = codes_small n computable;
+      codes_small = codes_below n (2 ^ 64) (both (nat_lt (pool_end n) (2 ^ 64)) (nat_eq n.count 0 || nat_lt (last_code n) (2 ^ 64)) computable).1;
       none_apart = no_code n n.none n.count apart;
     }
 

@@ -9,6 +9,7 @@ pub mod FixedHeads
 pub mod FixedReads
 pub mod FixedTables
 pub mod HeldCells
+pub mod InOrder
 pub mod Items
 pub mod LegalLayout
 pub mod LegalPlaces

@@ -1,8 +1,8 @@
 // Laws on layouts, each the contract of a function. With them, those who use a layout show that
 // a record has a field's entry, as `cell` requires.
-ghost use Rattle.std.specs.Prelude.{◌≡◌, ◌↔◌, ◌<◌, ◌≤◌, ◌+◌, ◌-◌, ◌*◌, [], ℕ, List, length, slice_get, Option, Some, IsSome, IsTrue};
+ghost use Rattle.std.specs.Prelude.{◌≡◌, ◌↔◌, ◌<◌, ◌≤◌, ◌+◌, ◌-◌, ◌*◌, ◌^◌, [], ℕ, List, length, slice_get, Option, Some, IsSome, IsTrue};
 ghost use Rattle.dsr_ir.specs.Layouts.{field_place, pool_numbers};
-ghost use Rattle.dsr_ir.specs.Shapes.{PoolShape, StructureShape, StructuresShape, structures_shape};
+ghost use Rattle.dsr_ir.specs.Shapes.{FieldShape, PoolShape, StructureShape, StructuresShape, structures_shape};
 ghost use Rattle.dsr_ir.specs.declared.declarations.FieldRef.{FieldRef};
 ghost use Rattle.dsr_ir.specs.declared.declarations.SetDecl.{SetDecl};
 ghost use Rattle.dsr_ir.specs.declared.declarations.Spec.{Spec};
@@ -10,11 +10,14 @@ ghost use Rattle.dsr_ir.specs.declared.layouts.FieldPlace.{FieldPlace};
 ghost use Rattle.dsr_ir.specs.declared.layouts.Layout.{Layout};
 ghost use Rattle.dsr_ir.specs.declared.layouts.PoolNumbers.{PoolNumbers};
 ghost use Rattle.dsr_meaning.specs.Cells.{width_bits};
+ghost use Rattle.dsr_meaning.specs.Counting.{IsIn};
 ghost use Rattle.dsr_meaning.specs.FixedFields.{fixed_value};
+ghost use Rattle.dsr_meaning.specs.Instances.{kind_pool};
 ghost use Rattle.dsr_meaning.specs.Layouts.{layout_of};
 ghost use Rattle.dsr_meaning.specs.Legal.{entry_count};
 ghost use Rattle.dsr_meaning.specs.Places.{size_of};
-ghost use Rattle.dsr_meaning.specs.Refusals.{ByteRange, share_byte, is_code_below, refusals};
+ghost use Rattle.dsr_layout.specs.Kinds.{kind_of};
+ghost use Rattle.dsr_meaning.specs.Refusals.{ByteRange, Refusal, share_byte, is_code_below, refusals, first_of};
 
 /// Each entry of a field lies in the bytes of the structure that declares the field.
 pub fn fields_lie_in_structures()
@@ -34,6 +37,13 @@ pub fn records_fit_their_slots()
     ensures sets { (spec : Spec) (bytes : List ℕ) (layout : Layout) → layout_of (structures_shape spec.base) bytes ≡ Some layout → refusals spec bytes ≡ [] → (p : ℕ) (numbers : PoolNumbers) (k : ℕ) (s : SetDecl) (bits : ℕ) → pool_numbers layout p ≡ Some numbers → slice_get spec.base.sets k ≡ Some s → s.pool ≡ p → size_of (fixed_value (structures_shape spec.base) bytes) (structures_shape spec.base).structures s.structure ≡ Some bits → bits ≤ 8 * numbers.slot }
 {}
 
+/// Where nothing is refused, a field that refers to a pool has room for the code of no slot, and for
+/// the code of each slot.
+pub fn codes_fit_references()
+    ensures none { (spec : Spec) (bytes : List ℕ) (layout : Layout) → layout_of (structures_shape spec.base) bytes ≡ Some layout → refusals spec bytes ≡ [] → (i k p : ℕ) (s : StructureShape) (f : FieldShape) (n : PoolNumbers) → slice_get (structures_shape spec.base).structures i ≡ Some s → slice_get s.fields k ≡ Some f → kind_pool f.kind ≡ Some p → pool_numbers layout p ≡ Some n → n.none < 2 ^ width_bits f.width }
+    ensures slots { (spec : Spec) (bytes : List ℕ) (layout : Layout) → layout_of (structures_shape spec.base) bytes ≡ Some layout → refusals spec bytes ≡ [] → (i k p : ℕ) (s : StructureShape) (f : FieldShape) (n : PoolNumbers) → slice_get (structures_shape spec.base).structures i ≡ Some s → slice_get s.fields k ≡ Some f → kind_pool f.kind ≡ Some p → pool_numbers layout p ≡ Some n → (slot : ℕ) → slot < n.count → n.code + slot * n.step < 2 ^ width_bits f.width }
+{}
+
 /// Where nothing is refused, the image has all bytes of the head.
 pub fn heads_fit_their_images()
     ensures image { (spec : Spec) (bytes : List ℕ) (bits : ℕ) → refusals spec bytes ≡ [] → size_of (fixed_value (structures_shape spec.base) bytes) (structures_shape spec.base).structures spec.base.head ≡ Some bits → bits ≤ 8 * length bytes }
@@ -43,6 +53,11 @@ pub fn heads_fit_their_images()
 /// Where nothing is refused, each structure has a size.
 pub fn structures_have_sizes()
     ensures { (spec : Spec) (bytes : List ℕ) → refusals spec bytes ≡ [] → (i : ℕ) (s : StructureShape) → slice_get (structures_shape spec.base).structures i ≡ Some s → IsSome (size_of (fixed_value (structures_shape spec.base) bytes) (structures_shape spec.base).structures i) }
+{}
+
+/// The refusal that is told has the least kind of all that apply.
+pub fn least_kinds_are_told()
+    ensures { (spec : Spec) (bytes : List ℕ) (r s : Refusal) → first_of (refusals spec bytes) ≡ Some r → IsIn s (refusals spec bytes) → kind_of r ≤ kind_of s }
 {}
 
 /// Two ranges of bytes are told to share one exactly where some byte lies in both.

@@ -34,7 +34,7 @@ view_fits size layout p structure n bits none numbers sized whole =
     let below : bits / 8 ≤ n.slot = grind (arith, nat_tests) in
     omega (arith, below, whole)
 
-not_not : (b : Bool) → not b ≡ false → b ≡ true
+pub not_not : (b : Bool) → not b ≡ false → b ≡ true
 not_not true e = refl
 not_not false e = absurd cc
 
@@ -76,7 +76,7 @@ module _ (spec : Spec) (bytes : List ℕ) (none : refusals spec bytes ≡ []) wh
     pub head_fits_layout : (bits : ℕ) → size spec.base.head ≡ Some bits → bits ≤ 8 * layout.length
     head_fits_layout bits sized = omega (arith, head_fits bits sized, (built fixed base (length bytes) layout is).bytes_are)
 
-    all_empty : layout_refusals size spec base layout ≡ []
+    pub all_empty : layout_refusals size spec base layout ≡ []
     all_empty =
         let cut = cut_refusals (fixed_cell base) (head_fields base) (length bytes) in
         let head = head_refusals size base.head (length bytes) in

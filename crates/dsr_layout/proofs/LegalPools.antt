@@ -16,7 +16,7 @@ use Rattle.dsr_layout.proofs.SharedBytes.{byte_shared}
 use Rattle.dsr_layout.proofs.Looking.{quiet}
 use Rattle.dsr_layout.specs.Pools.{IsComputable, HasStep}
 
-neither : (a b : Bool) → (a || b) ≡ false → (a ≡ false) × (b ≡ false)
+pub neither : (a b : Bool) → (a || b) ≡ false → (a ≡ false) × (b ≡ false)
 neither true b e = absurd cc
 neither false b e = (refl, e)
 

@@ -2,6 +2,7 @@ pub mod Clipping
 pub mod Codes
 pub mod Collecting
 pub mod Composed
+pub mod Counted
 pub mod Cutting
 pub mod Enclosed
 pub mod Fitting

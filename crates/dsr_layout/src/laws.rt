@@ -3,12 +3,22 @@
 ghost use Rattle.std.specs.Prelude.{◌≡◌, ◌↔◌, ◌<◌, ◌≤◌, ◌+◌, ◌-◌, ◌*◌, ◌^◌, [], ℕ, List, length, slice_get, Option, Some, IsSome, IsTrue};
 ghost use Rattle.dsr_ir.specs.Layouts.{field_place, pool_numbers};
 ghost use Rattle.dsr_ir.specs.Shapes.{FieldShape, PoolShape, StructureShape, StructuresShape, structures_shape};
+ghost use Rattle.dsr_ir.specs.declared.constraints.Atom.TheVariants.{Value};
+ghost use Rattle.dsr_ir.specs.declared.constraints.Bound.TheVariants.{Size};
+ghost use Rattle.dsr_ir.specs.declared.constraints.Conj.{Conj};
+ghost use Rattle.dsr_ir.specs.declared.constraints.Constraint.{Constraint};
+ghost use Rattle.dsr_ir.specs.declared.constraints.Literal.{Literal};
+ghost use Rattle.dsr_ir.specs.declared.constraints.Measure.{Measure};
+ghost use Rattle.dsr_ir.specs.declared.constraints.Var.{Var};
 ghost use Rattle.dsr_ir.specs.declared.declarations.FieldRef.{FieldRef};
 ghost use Rattle.dsr_ir.specs.declared.declarations.SetDecl.{SetDecl};
 ghost use Rattle.dsr_ir.specs.declared.declarations.Spec.{Spec};
 ghost use Rattle.dsr_ir.specs.declared.layouts.FieldPlace.{FieldPlace};
 ghost use Rattle.dsr_ir.specs.declared.layouts.Layout.{Layout};
 ghost use Rattle.dsr_ir.specs.declared.layouts.PoolNumbers.{PoolNumbers};
+ghost use Rattle.dsr_ir.specs.declared.rules.Op.{Op};
+ghost use Rattle.dsr_ir.specs.declared.rules.Path.{Path};
+ghost use Rattle.dsr_ir.specs.declared.rules.Rule.{Rule};
 ghost use Rattle.dsr_meaning.specs.Cells.{width_bits};
 ghost use Rattle.dsr_meaning.specs.Counting.{IsIn};
 ghost use Rattle.dsr_meaning.specs.FixedFields.{fixed_value};
@@ -17,7 +27,7 @@ ghost use Rattle.dsr_meaning.specs.Layouts.{layout_of};
 ghost use Rattle.dsr_meaning.specs.Legal.{entry_count};
 ghost use Rattle.dsr_meaning.specs.Places.{size_of};
 ghost use Rattle.dsr_layout.specs.Kinds.{kind_of};
-ghost use Rattle.dsr_meaning.specs.Refusals.{ByteRange, Refusal, share_byte, is_code_below, refusals, first_of};
+ghost use Rattle.dsr_meaning.specs.Refusals.{ByteRange, Refusal, share_byte, is_code_below, greatest_size, given_path, reaches_bound, instances, instance_limit, refusals, first_of};
 
 /// Each entry of a field lies in the bytes of the structure that declares the field.
 pub fn fields_lie_in_structures()
@@ -42,6 +52,17 @@ pub fn records_fit_their_slots()
 pub fn codes_fit_references()
     ensures none { (spec : Spec) (bytes : List ℕ) (layout : Layout) → layout_of (structures_shape spec.base) bytes ≡ Some layout → refusals spec bytes ≡ [] → (i k p : ℕ) (s : StructureShape) (f : FieldShape) (n : PoolNumbers) → slice_get (structures_shape spec.base).structures i ≡ Some s → slice_get s.fields k ≡ Some f → kind_pool f.kind ≡ Some p → pool_numbers layout p ≡ Some n → n.none < 2 ^ width_bits f.width }
     ensures slots { (spec : Spec) (bytes : List ℕ) (layout : Layout) → layout_of (structures_shape spec.base) bytes ≡ Some layout → refusals spec bytes ≡ [] → (i k p : ℕ) (s : StructureShape) (f : FieldShape) (n : PoolNumbers) → slice_get (structures_shape spec.base).structures i ≡ Some s → slice_get s.fields k ≡ Some f → kind_pool f.kind ≡ Some p → pool_numbers layout p ≡ Some n → (slot : ℕ) → slot < n.count → n.code + slot * n.step < 2 ^ width_bits f.width }
+{}
+
+/// Where nothing is refused, as many as a size may count fit each field that gives a value which a
+/// constraint compares with that size by `=`, `<=` or `>=`.
+pub fn counts_fit_values()
+    ensures { (spec : Spec) (bytes : List ℕ) (layout : Layout) → layout_of (structures_shape spec.base) bytes ≡ Some layout → refusals spec bytes ≡ [] → (c : Constraint) (conj : Conj) (l : Literal) (var : Var) (rel : ℕ) (op : Op) (measure : Measure) → IsIn c spec.constraints → IsIn conj c.conjs → IsIn l conj.literals → l.atom ≡ Value var rel op (Size measure) → IsTrue (reaches_bound op) → (r : Rule) (path : Path) (place : FieldPlace) → IsIn r spec.rules → given_path rel r.inc ≡ Some path → field_place layout path.field ≡ Some place → greatest_size spec layout measure < 2 ^ width_bits place.width }
+{}
+
+/// Where nothing is refused, the instances of rules and constraints are within their limit.
+pub fn instances_are_few()
+    ensures { (spec : Spec) (bytes : List ℕ) (layout : Layout) → layout_of (structures_shape spec.base) bytes ≡ Some layout → refusals spec bytes ≡ [] → instances spec layout ≤ instance_limit spec.base.version }
 {}
 
 /// Where nothing is refused, the image has all bytes of the head.

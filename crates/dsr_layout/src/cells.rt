@@ -5,7 +5,7 @@ ghost use Rattle.dsr_meaning.specs.Cells.{cell_of, record_start, IsFieldCell};
 ghost use Rattle.dsr_meaning.specs.Legal.{HasEntry, IsLegalLayout};
 
 use crate::fixed_fields::is_bytewise;
-use crate::lookups::pool_numbers;
+use crate::lookups::{field_place, pool_numbers};
 use crate::places::width_bits;
 use dsr_ir::{Cell, Element, FieldPlace, FieldRef, Layout};
 
@@ -25,7 +25,7 @@ fn declared_place(layout: &Layout, field: FieldRef) -> FieldPlace
     requires declared { IsSome (field_place layout.now field) }
     ensures { field_place layout.now field ≡ Some result }
 {
-    layout.fields.items()[field.structure as usize].items()[field.field as usize]
+    field_place(layout, field).unwrap()
 }
 
 /// The cell of a record's field, at an index where it is an array. The field is one of a structure

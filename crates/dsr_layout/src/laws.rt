@@ -1,5 +1,5 @@
 // Laws on layouts, each the contract of a function. With them, those who use a layout show that
-// a record has a field's entry, as `cell` requires.
+// a record has a field's entry, as `cell` requires, and what follows where no kind of refusal applies.
 ghost use Rattle.std.specs.Prelude.{◌≡◌, ◌↔◌, ◌<◌, ◌≤◌, ◌+◌, ◌-◌, ◌*◌, ◌^◌, [], ℕ, List, length, slice_get, Option, Some, IsSome, IsTrue};
 ghost use Rattle.dsr_ir.specs.Layouts.{field_place, pool_numbers};
 ghost use Rattle.dsr_ir.specs.Shapes.{FieldShape, PoolShape, StructureShape, StructuresShape, structures_shape};
@@ -26,8 +26,8 @@ ghost use Rattle.dsr_meaning.specs.Instances.{kind_pool};
 ghost use Rattle.dsr_meaning.specs.Layouts.{layout_of};
 ghost use Rattle.dsr_meaning.specs.Legal.{entry_count};
 ghost use Rattle.dsr_meaning.specs.Places.{size_of};
-ghost use Rattle.dsr_layout.specs.Kinds.{kind_of};
 ghost use Rattle.dsr_meaning.specs.Refusals.{ByteRange, Refusal, share_byte, is_code_below, greatest_size, given_path, reaches_bound, instances, instance_limit, refusals, first_of};
+ghost use Rattle.dsr_layout.specs.Kinds.{kind_of};
 
 /// Each entry of a field lies in the bytes of the structure that declares the field.
 pub fn fields_lie_in_structures()

@@ -7,6 +7,7 @@ ghost use Rattle.dsr_meaning.specs.Refusals.{is_code_below};
 ghost use Rattle.dsr_layout.specs.References.{Means};
 ghost use Rattle.dsr_layout.specs.declared.references.Ref.{Ref};
 
+use crate::lookups::pool_numbers;
 use dsr_ir::{Layout, PoolNumbers};
 
 /// What the value of a reference to a pool means.
@@ -40,7 +41,7 @@ fn declared_pool(layout: &Layout, pool: u32) -> PoolNumbers
     requires declared { IsSome (pool_numbers layout.now pool) }
     ensures { pool_numbers layout.now pool ≡ Some result }
 {
-    layout.pools.items()[pool as usize - 1]
+    pool_numbers(layout, pool).unwrap()
 }
 
 /// What the value of a reference to a declared pool means: none, one slot or illegal, and nothing

@@ -1,5 +1,6 @@
 // The system's files and its standard output.
-ghost use Rattle.std.specs.Prelude.{◌≡◌, ◌≤◌, vec_len, take, IfOk, IfSome, None};
+ghost use Rattle.std.specs.Prelude.{◌≡◌, ◌↔◌, ◌≤◌, vec_len, take, IfOk, IfSome, None};
+ghost use Rattle.std.specs.IoError.{error_kind};
 
 use crate::outside::{Missed, Shelf, ShelfFault, Sink, SinkFault};
 use std::alloc::Global;
@@ -11,16 +12,18 @@ use std::rt::Files;
 const CHUNK: usize = 4096;
 
 // What an error of the system is told as.
-fn fault_of(error: &io::Error) -> ShelfFault {
+fn fault_of(error: &io::Error) -> ShelfFault
+    ensures { (result ≡ ShelfFault.NoMemory) ↔ (error_kind error.now ≡ ErrorKind.OutOfMemory) }
+{
     match error.kind() {
         ErrorKind::OutOfMemory => ShelfFault::NoMemory,
         _ => ShelfFault::Failed,
     }
 }
 
-// The first bytes that a reader gives, at most `cap`. A read that gives nothing is its end, and one
-// that is interrupted is tried again.
-fn read_front<F: Read>(alloc: Global, file: &mut F, cap: u64) -> Result<Vec<u8>, ShelfFault>
+/// The first bytes that a reader gives, at most `cap`. A read that gives nothing is its end, and one
+/// that is interrupted is tried again.
+pub fn read_front<F: Read>(alloc: Global, file: &mut F, cap: u64) -> Result<Vec<u8>, ShelfFault>
     ensures capped { IfOk result (λ bytes. vec_len bytes ≤ cap) }
     ensures front { IfOk result (λ bytes. IfSome (F.remaining file.old) (λ whole. bytes.items ≡ take cap whole)) }
 {

@@ -1,7 +1,9 @@
 // What the shelves and the outputs do, as tables of calls.
 use super::*;
+use crate::system::read_front;
 use std::alloc::{AllocError, Global};
 use std::fs;
+use std::io::{self, ErrorKind, Read};
 use std::test::Fail;
 
 // A call of a shelf: a save of these bytes, or else a load of at most `cap`.
@@ -176,6 +178,63 @@ fn a_file_is_saved_and_loaded(rt: HostRuntime) -> Result<(), Fail> {
     assert_eq!(rt; first_wrong(alloc, &mut shelf, &nowhere)?, None);
     assert_eq!(rt; shelf.faults, 2);
     assert!(rt; is_missed(&shelf.last, save("absent/file.bin", b"")));
+    Ok(())
+}
+
+/// What a reader does when it is asked.
+#[derive(Clone, Copy)]
+enum Turn {
+    Gives(u8),
+    Fails(ErrorKind),
+}
+
+/// A reader that takes its turns in order, and ends behind them.
+#[derive(Drop)]
+struct Halting<'a> {
+    turns: &'a [Turn],
+    next: usize,
+}
+
+impl Read for Halting<'_> {
+    fn read(&mut self, buf: &mut [u8]) -> io::Result<usize> {
+        let Some(turn) = self.turns.get(self.next) else {
+            return Ok(0);
+        };
+        self.next += 1;
+        match (turn, buf.first_mut()) {
+            (Turn::Fails(kind), _) => Err((*kind).into()),
+            (Turn::Gives(byte), Some(first)) => {
+                *first = *byte;
+                Ok(1)
+            }
+            (Turn::Gives(_), None) => Ok(0),
+        }
+    }
+}
+
+// What is read of these turns: the bytes, or nothing where that fails.
+fn front_of(alloc: Global, turns: &[Turn], cap: u64) -> Result<Option<Vec<u8>>, ShelfFault> {
+    let mut reader = Halting { turns, next: 0 };
+    match read_front(alloc, &mut reader, cap) {
+        Ok(bytes) => Ok(Some(bytes)),
+        Err(ShelfFault::Failed) => Ok(None),
+        Err(ShelfFault::NoMemory) => Err(ShelfFault::NoMemory),
+    }
+}
+
+#[test]
+fn interrupted_reads_are_tried_again(rt: HostRuntime) -> Result<(), Fail> {
+    let alloc = rt.alloc();
+    let again = Turn::Fails(ErrorKind::Interrupted);
+    let turns = [again, Turn::Gives(1), again, again, Turn::Gives(2)];
+    assert!(rt; front_of(alloc, &turns, 9)?.as_deref() == Some(b"\x01\x02".as_slice()));
+    assert!(rt; front_of(alloc, &turns, 1)?.as_deref() == Some(b"\x01".as_slice()));
+    assert!(rt; front_of(alloc, &[again], 9)?.as_deref() == Some(b"".as_slice()));
+
+    let broken = [Turn::Gives(1), Turn::Fails(ErrorKind::NotFound)];
+    assert!(rt; front_of(alloc, &broken, 9)?.is_none());
+    let full = [Turn::Gives(1), Turn::Fails(ErrorKind::OutOfMemory)];
+    assert!(rt; matches!(front_of(alloc, &full, 9), Err(ShelfFault::NoMemory)));
     Ok(())
 }
 

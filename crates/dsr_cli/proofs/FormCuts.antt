@@ -1,7 +1,7 @@
 -- Tokens are cut into the statements that they are joined of.
 use Rattle.std.proofs.Common.{◌≡◌, List, [], ◌∷◌, ◌++◌, map, Option, None, Some, Bool, true, false, ◌&&◌, cond, refl, sym, ap, ◌∙◌, append_assoc, append-nil}
 use Rattle.std.proofs.lemmas.Bool.{and_parts}
-use Rattle.dsr_ir.specs.declared.tokens.Token.{Token}
+use Rattle.dsr_tree.specs.declared.tokens.Token.{Token}
 use Rattle.dsr_cli.specs.FormStatements.{is_end, rest_of, cut}
 use Rattle.dsr_cli.specs.FormTexts.{joined}
 use Rattle.dsr_cli.specs.FormTokens.{entry_tokens, entry_statement, structure_statements, both_structures, set_statement, relation_statement, rule_statement, premise_tokens, conclusion_tokens, demand_tokens, demand_statement, later_statements, form_statements, pool_statement, close_statement, head_name}

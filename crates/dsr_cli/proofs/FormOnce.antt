@@ -1,7 +1,7 @@
 -- A text of the form stands for one specification.
 use Rattle.std.proofs.Common.{◌≡◌, List, ℕ, [], map, sym, ap, ◌∙◌}
 use Rattle.dsr_ir.specs.declared.declarations.Spec.{Spec}
-use Rattle.dsr_ir.specs.declared.tokens.Token.{Token}
+use Rattle.dsr_tree.specs.declared.tokens.Token.{Token}
 use Rattle.dsr_tokens.proofs.Laws.{lexed_once}
 use Rattle.dsr_cli.specs.FormParts.{form_in}
 use Rattle.dsr_cli.specs.FormSpecs.{form_spec}

@@ -2,7 +2,7 @@
 use Rattle.std.proofs.Common.{◌≡◌, ◌-◌, ℕ, List, [], ◌∷◌, ◌++◌, length, map, Option, None, Some, Bool, true, false, refl, ap, ◌∙◌, append-nil}
 use Rattle.std.specs.Prelude.{slice_get, nat_lt, is_some}
 use Rattle.std.proofs.lemmas.Bool.{and_parts}
-use Rattle.dsr_ir.specs.declared.tokens.Token.{Token}
+use Rattle.dsr_tree.specs.declared.tokens.Token.{Token}
 use Rattle.dsr_cli.specs.FormConditions.{is_sound, rule_fits, rules_fit, premise_fits, conclusion_fits, refers, pair_fits, is_link, relates, side_fits, is_reference}
 use Rattle.dsr_cli.specs.FormParts.{collected, set_in, link_in, clause_in, demand_in, statement_at, declared_in, form_with, form_in, set_number, relation_number, field_number, entries_in, after_close}
 use Rattle.dsr_cli.specs.FormTokens.{entry_tokens, set_statement, relation_statement, rule_statement, premise_tokens, conclusion_tokens, demand_tokens, demand_statement, open_statement, pool_statement, form_statements, fields_under, set_name, relation_name, field_name}

@@ -5,11 +5,11 @@ use Rattle.std.specs.Cmp.Lexicographic.{pointwise}
 use Rattle.std.proofs.lemmas.Slice.Eq.{slice_eq-Decides, bytes_eq-Decides}
 use Rattle.std.proofs.lemmas.Bool.Decides.{Decides-eqb}
 use denote.Enum.Bare.{same_true, true_same}
-use Rattle.dsr_ir.specs.declared.tokens.Token.{Token}
-use Rattle.dsr_ir.specs.declared.tokens.Token.TheVariants as token
-use Rattle.dsr_ir.specs.contracts.tokens.Keyword as keyword
-use Rattle.dsr_ir.specs.contracts.tokens.Sign as sign
-use Rattle.dsr_ir.specs.contracts.tokens.TokenPartialEq.TheImpl.{ghosts}
+use Rattle.dsr_tree.specs.declared.tokens.Token.{Token}
+use Rattle.dsr_tree.specs.declared.tokens.Token.TheVariants as token
+use Rattle.dsr_tree.specs.contracts.tokens.Keyword as keyword
+use Rattle.dsr_tree.specs.contracts.tokens.Sign as sign
+use Rattle.dsr_tree.specs.contracts.tokens.TokenPartialEq.TheImpl.{ghosts}
 
 pub token_eq : (a b : Token) → Decides (ghosts.eq a b) (a ≡ b)
 token_eq (token.Keyword k) (token.Keyword j) = (λ e. ap token.Keyword (same_true keyword.the_type tt k j e), λ e. true_same keyword.the_type k j cc)

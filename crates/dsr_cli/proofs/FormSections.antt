@@ -2,7 +2,7 @@
 use Rattle.std.proofs.Common.{◌≡◌, ◌-◌, ℕ, List, [], ◌∷◌, ◌++◌, length, map, Option, None, Some, false, refl, sym, ap, ◌∙◌, arith, append_assoc, length-append}
 use Rattle.std.proofs.Math.Seq.{get_or-append_seam}
 use Rattle.std.specs.Prelude.{slice_index_or}
-use Rattle.dsr_ir.specs.declared.tokens.Token.{Token}
+use Rattle.dsr_tree.specs.declared.tokens.Token.{Token}
 use Rattle.dsr_cli.specs.FormTokens.{version_statement, order_statement, open_statement, close_statement, entry_tokens, entry_statement, structure_statements, both_structures, pool_statement, set_statement, relation_statement, rule_statement, demand_statement, later_statements, form_statements, head_name}
 use Rattle.dsr_cli.specs.FormParts.{kept, collected, is_close, after_close, entry_in, entries_in, statement_at}
 use Rattle.dsr_cli.specs.declared.reader.forms.Entry.{Entry}

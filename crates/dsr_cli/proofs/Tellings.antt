@@ -1,9 +1,9 @@
 -- What is told is an answer.
 use Rattle.std.proofs.Common.{◌≡◌, ◌≤◌, ℕ, List, true, false, Option, Result, ◌⊎◌, inl, inr, refl, sym, subst, ◌∙◌, arith}
 use Rattle.std.specs.Prelude.{◌≢◌, IfOk, Ok, Err}
-use Rattle.dsr_ir.specs.Trees.{TreeShape}
-use Rattle.dsr_meaning.specs.Declarations.{declaration_faults}
-use Rattle.dsr_meaning.specs.Parsing.{IsTreeOf}
+use Rattle.dsr_tree.specs.Trees.{TreeShape}
+use Rattle.dsr_text.specs.Declarations.{declaration_faults}
+use Rattle.dsr_text.specs.Parsing.{IsTreeOf}
 use Rattle.dsr_parse.specs.Faults.{HasFault}
 use Rattle.dsr_parse.specs.declared.parser.SyntaxFault.{SyntaxFault}
 use Rattle.dsr_parse.specs.declared.parser.SyntaxFault.TheVariants as faults

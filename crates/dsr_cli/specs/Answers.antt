@@ -2,16 +2,16 @@
 use Rattle.std.specs.Prelude.{◌≡◌, ◌≤◌, ◌<◌, ◌⊎◌, ◌-◌, ℕ, List, [], ◌∷◌, ◌++◌, length, codes, decimal, Bool, true, false, not, ◌&&◌, nat_eq, Option, Some, slice_get, if◌then◌else◌, ◌==◌}
 use Rattle.std.specs.Option.{option_map_or}
 use Rattle.std.specs.List.{flat_map}
-use Rattle.dsr_ir.specs.Trees.{TreeShape}
+use Rattle.dsr_tree.specs.Trees.{TreeShape}
 use Rattle.dsr_ir.specs.declared.declarations.Spec.{Spec}
 use Rattle.dsr_ir.specs.declared.layouts.Layout.{Layout}
 use Rattle.dsr_ir.specs.declared.tuples.Binding.{Binding}
 use Rattle.dsr_ir.specs.declared.tuples.Binding.TheVariants.{Once, Each, Pair}
 use Rattle.dsr_ir.specs.declared.tuples.Element.{Element}
 use Rattle.dsr_meaning.specs.Consistency.{AreViolations, Instanced}
-use Rattle.dsr_meaning.specs.Canonical.{canonical}
-use Rattle.dsr_meaning.specs.Declarations.{declaration_faults}
-use Rattle.dsr_meaning.specs.Parsing.{IsTreeOf}
+use Rattle.dsr_text.specs.Canonical.{canonical}
+use Rattle.dsr_text.specs.Declarations.{declaration_faults}
+use Rattle.dsr_text.specs.Parsing.{IsTreeOf}
 use Rattle.dsr_parse.specs.Faults.{HasFault}
 use Rattle.dsr_parse.specs.declared.parser.SyntaxFault.{SyntaxFault}
 use Rattle.dsr_parse.specs.declared.parser.SyntaxFault.TheVariants as faults

@@ -1,6 +1,6 @@
 -- Tokens with their names elsewhere.
-use Rattle.dsr_ir.specs.declared.tokens.Token.{Token}
-use Rattle.dsr_ir.specs.declared.tokens.Token.TheVariants as token
+use Rattle.dsr_tree.specs.declared.tokens.Token.{Token}
+use Rattle.dsr_tree.specs.declared.tokens.Token.TheVariants as token
 use Rattle.dsr_cli.specs.declared.reader.written.Mark.{Mark}
 use Rattle.dsr_cli.specs.declared.reader.written.Mark.TheVariants as mark
 

@@ -1,9 +1,9 @@
 -- What the statements of a text say, provided that they are those of a text of the form.
 use Rattle.std.specs.Prelude.{ℕ, ◌-◌, List, [], ◌∷◌, length, drop, map, nat_eq, Bool, true, false, Option, None, Some, slice_get, slice_index_or, if◌then◌else◌}
-use Rattle.dsr_ir.specs.declared.tokens.Keyword.TheVariants as keyword
-use Rattle.dsr_ir.specs.declared.tokens.Sign.TheVariants as sign
-use Rattle.dsr_ir.specs.declared.tokens.Token.{Token}
-use Rattle.dsr_ir.specs.declared.tokens.Token.TheVariants as token
+use Rattle.dsr_tree.specs.declared.tokens.Keyword.TheVariants as keyword
+use Rattle.dsr_tree.specs.declared.tokens.Sign.TheVariants as sign
+use Rattle.dsr_tree.specs.declared.tokens.Token.{Token}
+use Rattle.dsr_tree.specs.declared.tokens.Token.TheVariants as token
 use Rattle.dsr_cli.specs.FormNames.{number_of_name}
 use Rattle.dsr_cli.specs.FormStatements.{name_at, number_at}
 use Rattle.dsr_cli.specs.FormTokens.{entry_name, link_name, fields_under}

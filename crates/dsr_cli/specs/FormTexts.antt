@@ -2,10 +2,10 @@
 use Rattle.std.specs.Prelude.{◌≡◌, ◌≢◌, ℕ, List, [], ◌∷◌, ◌++◌, map, drop, Bool, true, false, ◌&&◌, not, nat_eq, IsTrue, Option, None, Some, Vec}
 use Rattle.std.specs.declared.alloc.Global.{Global}
 use Rattle.dsr_ir.specs.declared.declarations.Spec.{Spec}
-use Rattle.dsr_ir.specs.declared.tokens.Lexeme.{Lexeme}
-use Rattle.dsr_ir.specs.declared.tokens.Token.{Token}
-use Rattle.dsr_ir.specs.declared.tokens.Token.TheVariants as token
-use Rattle.dsr_meaning.specs.Tokens.{is_hexadecimal_digit, every, IsLexed}
+use Rattle.dsr_tree.specs.declared.tokens.Lexeme.{Lexeme}
+use Rattle.dsr_tree.specs.declared.tokens.Token.{Token}
+use Rattle.dsr_tree.specs.declared.tokens.Token.TheVariants as token
+use Rattle.dsr_text.specs.Tokens.{is_hexadecimal_digit, every, IsLexed}
 use Rattle.dsr_cli.specs.Plain.{IsPlain}
 use Rattle.dsr_cli.specs.FormConditions.{is_sound}
 use Rattle.dsr_cli.specs.FormSpecs.{form_spec}

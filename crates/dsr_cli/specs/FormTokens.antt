@@ -1,10 +1,10 @@
 -- How a text of the form is written: its statements, in order.
 use Rattle.std.specs.Prelude.{ℕ, ◌+◌, List, [], ◌∷◌, ◌++◌, Bool, true, false, codes, map, Option, None, Some}
-use Rattle.dsr_ir.specs.declared.tokens.Keyword.{Keyword}
-use Rattle.dsr_ir.specs.declared.tokens.Keyword.TheVariants as keyword
-use Rattle.dsr_ir.specs.declared.tokens.Sign.TheVariants as sign
-use Rattle.dsr_ir.specs.declared.tokens.Token.{Token}
-use Rattle.dsr_ir.specs.declared.tokens.Token.TheVariants as token
+use Rattle.dsr_tree.specs.declared.tokens.Keyword.{Keyword}
+use Rattle.dsr_tree.specs.declared.tokens.Keyword.TheVariants as keyword
+use Rattle.dsr_tree.specs.declared.tokens.Sign.TheVariants as sign
+use Rattle.dsr_tree.specs.declared.tokens.Token.{Token}
+use Rattle.dsr_tree.specs.declared.tokens.Token.TheVariants as token
 use Rattle.dsr_cli.specs.FormNames.{name_of_number}
 use Rattle.dsr_cli.specs.declared.reader.forms.Clause.{Clause}
 use Rattle.dsr_cli.specs.declared.reader.forms.Conclusion.{Conclusion}

@@ -1,13 +1,13 @@
 -- What a verdict says of the files that a shelf tells.
 use Rattle.std.specs.Prelude.{◌≡◌, ℕ, List, [], Option, Some, IfSome}
 use Rattle.std.specs.FinMap.{get}
-use Rattle.dsr_ir.specs.Trees.{TreeShape}
+use Rattle.dsr_tree.specs.Trees.{TreeShape}
 use Rattle.dsr_ir.specs.declared.declarations.Spec.{Spec}
 use Rattle.dsr_ir.specs.declared.layouts.Layout.{Layout}
 use Rattle.dsr_meaning.specs.Consistency.{IsConsistent}
-use Rattle.dsr_meaning.specs.Canonical.{canonical}
-use Rattle.dsr_meaning.specs.Declarations.{declaration_faults}
-use Rattle.dsr_meaning.specs.Parsing.{IsTreeOf}
+use Rattle.dsr_text.specs.Canonical.{canonical}
+use Rattle.dsr_text.specs.Declarations.{declaration_faults}
+use Rattle.dsr_text.specs.Parsing.{IsTreeOf}
 use Rattle.dsr_store.specs.Files.{Files}
 use Rattle.dsr_store.specs.Written.{appended}
 use Rattle.dsr_cli.specs.FormTexts.{HasForm}

@@ -1,6 +1,6 @@
 // Texts of the small form that is read so far.
 ghost use Rattle.std.specs.Prelude.{◌≡◌, IfOk, IsTrue, drop, map};
-ghost use Rattle.dsr_meaning.specs.Tokens.{is_hexadecimal_digit, every, IsLexed};
+ghost use Rattle.dsr_text.specs.Tokens.{is_hexadecimal_digit, every, IsLexed};
 ghost use Rattle.dsr_cli.specs.FormStatements.{token_of};
 ghost use Rattle.dsr_ir.specs.declared.declarations.Spec.{Spec as TypedSpec};
 ghost use Rattle.dsr_cli.specs.FormTexts.{HasForm, is_no_mark, begins_hexadecimal, is_decimal, are_decimal, FindsForm, FindsSpec, FindsLexemes, ReadsSpec};
@@ -23,7 +23,8 @@ use crate::reader::sameness::are_same;
 use crate::reader::statements::statements_of;
 use crate::reader::typed::make_spec;
 use crate::reader::written::write_form;
-use dsr_ir::{Lexeme, Seq, Spec, Token};
+use dsr_ir::{Seq, Spec};
+use dsr_tree::{Lexeme, Token};
 use dsr_tokens::{TokenFault, tokens};
 use std::alloc::{AllocError, Global};
 

@@ -1,7 +1,7 @@
 // The command that prints a specification's text.
 ghost use Rattle.std.specs.Prelude.{◌≡◌, ◌≢◌, IfOk};
-ghost use Rattle.dsr_ir.specs.Trees.{tree_shape};
-ghost use Rattle.dsr_meaning.specs.Canonical.{canonical};
+ghost use Rattle.dsr_tree.specs.Trees.{tree_shape};
+ghost use Rattle.dsr_text.specs.Canonical.{canonical};
 ghost use Rattle.dsr_cli.specs.Answers.{IsPrintAnswer, has_rules, refused_at, syntax_at, syntax_refused, declarations_refused};
 ghost use Rattle.dsr_cli.specs.Loads.{shown};
 ghost use Rattle.dsr_parse.specs.declared.parser.SyntaxFault.TheVariants as faults;
@@ -10,7 +10,7 @@ ghost use Rattle.dsr_struct.specs.declared.refusals.SpecFault.TheVariants as spe
 use crate::Status;
 use crate::answers::{Told, tell};
 use dsr_ir::NoMemory;
-use dsr_ir::tree::Tree;
+use dsr_tree::Tree;
 use dsr_parse::{SyntaxFault, parse, print};
 use dsr_struct::{SpecFault, structures};
 use itoa::Buffer;

@@ -1,4 +1,2 @@
-pub mod Faults
+pub mod Exprs
 pub mod Layouts
-pub mod Shapes
-pub mod Trees

@@ -1,12 +1,9 @@
 // Consistency constraints.
-ghost use Rattle.std.specs.Prelude.{◌≡◌, IfOk, map};
-ghost use Rattle.dsr_ir.specs.Shapes.{formula_shape};
-
-use crate::{Name, NoMemory, Op, Seq, TryClone, TryCloneTree};
+use crate::{Name, NoMemory, Op, Seq, TryClone};
 use std::alloc::Global;
 
 /// A variable of a constraint: `head`, or the first or second one of its quantifier.
-#[derive(Clone, Copy, Debug, PartialEq, Eq, PartialOrd, Ord, Hash)]
+#[derive(Clone, Copy, PartialEq, Eq)]
 pub enum Var {
     Head,
     First,
@@ -14,7 +11,7 @@ pub enum Var {
 }
 
 /// What is counted, in a set or a relation by its number.
-#[derive(Clone, Copy, Debug, PartialEq, Eq, PartialOrd, Ord, Hash)]
+#[derive(Clone, Copy, PartialEq, Eq)]
 pub enum Measure {
     /// The members of a set.
     Whole(u32),
@@ -25,7 +22,7 @@ pub enum Measure {
 }
 
 /// What a value is compared with.
-#[derive(Clone, Copy, Debug, PartialEq, Eq, PartialOrd, Ord, Hash)]
+#[derive(Clone, Copy, PartialEq, Eq)]
 pub enum Bound {
     Num(u64),
     /// The number of what is counted.
@@ -33,7 +30,7 @@ pub enum Bound {
 }
 
 /// A statement about the model, with a set or a relation by its number.
-#[derive(Clone, Copy, Debug, PartialEq, Eq, PartialOrd, Ord, Hash)]
+#[derive(Clone, Copy, PartialEq, Eq)]
 pub enum Atom {
     /// The variable is in the set.
     Member(Var, u32),
@@ -46,7 +43,7 @@ pub enum Atom {
 }
 
 /// An atom, turned round where negated; `given` marks one that is tested and never repaired.
-#[derive(Clone, Copy, Debug, PartialEq, Eq, PartialOrd, Ord, Hash)]
+#[derive(Clone, Copy)]
 pub struct Literal {
     pub atom: Atom,
     pub negated: bool,
@@ -54,7 +51,7 @@ pub struct Literal {
 }
 
 /// Literals that are to hold together.
-#[derive(Drop, PartialEq, Eq, PartialOrd, Ord, Hash)]
+#[derive(Drop)]
 pub struct Conj {
     pub literals: Seq<Literal>,
 }
@@ -67,59 +64,8 @@ impl TryClone for Conj {
     }
 }
 
-/// A constraint's body before it is brought to disjunctive normal form. Each part of `Any` and
-/// `Every` is a formula of its own, and `Any` of no parts is false.
-#[derive(Drop, PartialEq, Eq, PartialOrd, Ord, Hash)]
-pub enum Formula {
-    Any(Vec<Formula>),
-    Every(Vec<Formula>),
-    Not(Box<Formula>),
-    /// A formula whose atoms are tested and never repaired.
-    Given(Box<Formula>),
-    Leaf(Atom),
-}
-
-impl TryCloneTree for Formula {
-    ghost use Rattle.dsr_ir.specs.Shapes.{FormulaShape, formula_shape};
-
-    ghost Shape = { FormulaShape };
-
-    ghost shape = { formula_shape };
-
-    #[cycle(formula)]
-    fn clone(&self, alloc: Global) -> Result<Formula, NoMemory> {
-        match self {
-            Formula::Any(parts) => Ok(Formula::Any(cloned(alloc, parts)?)),
-            Formula::Every(parts) => Ok(Formula::Every(cloned(alloc, parts)?)),
-            Formula::Not(part) => Ok(Formula::Not(boxed(alloc, part)?)),
-            Formula::Given(part) => Ok(Formula::Given(boxed(alloc, part)?)),
-            Formula::Leaf(atom) => Ok(Formula::Leaf(*atom)),
-        }
-    }
-}
-
-// A copy of a formula, in a box of its own.
-#[cycle(formula)]
-fn boxed(alloc: Global, formula: &Formula) -> Result<Box<Formula>, NoMemory>
-    ensures { IfOk result (λ copy. formula_shape copy.value ≡ formula_shape formula.now) }
-{
-    Ok(Box::new(alloc, formula.clone(alloc)?)?)
-}
-
-// Copies of formulas, in order.
-#[cycle(formula)]
-fn cloned(alloc: Global, parts: &[Formula]) -> Result<Vec<Formula>, NoMemory>
-    ensures { IfOk result (λ copies. map formula_shape copies.items ≡ map formula_shape parts.now) }
-{
-    let mut copies = Vec::new(alloc);
-    for part in parts {
-        copies.push(part.clone(alloc)?)?;
-    }
-    Ok(copies)
-}
-
 /// What a constraint's variables run over.
-#[derive(Clone, Copy, Debug, PartialEq, Eq, PartialOrd, Ord, Hash)]
+#[derive(Clone, Copy)]
 pub enum Quant {
     /// Nothing: the constraint is tested once.
     Once,
@@ -131,7 +77,7 @@ pub enum Quant {
 
 /// A consistency constraint (OOPSLA 2003) in disjunctive normal form: at each binding of its
 /// variables, every literal of one conjunction is to be true.
-#[derive(Drop, PartialEq, Eq, PartialOrd, Ord, Hash)]
+#[derive(Drop)]
 pub struct Constraint {
     pub name: Name,
     pub quant: Quant,

@@ -1,11 +1,9 @@
 // What a specification declares, with every name resolved to a number.
-ghost use Rattle.std.specs.Prelude.{◌≡◌, IfOk};
-
-use crate::{Constraint, Expr, Name, NoMemory, Rule, Seq, TryClone, TryCloneTree};
+use crate::{Constraint, Expr, Name, NoMemory, Rule, Seq, TryClone, copied};
 use std::alloc::Global;
 
 /// The order of a number's bytes.
-#[derive(Clone, Copy, Debug, PartialEq, Eq, PartialOrd, Ord, Hash)]
+#[derive(Clone, Copy, PartialEq, Eq)]
 pub enum Order {
     /// The least byte first.
     Little,
@@ -14,7 +12,7 @@ pub enum Order {
 }
 
 /// The width of a field's entry; `Bits` holds a number of bits from 1 to 32.
-#[derive(Clone, Copy, Debug, PartialEq, Eq, PartialOrd, Ord, Hash)]
+#[derive(Clone, Copy, PartialEq, Eq)]
 pub enum Width {
     U8,
     U16,
@@ -24,7 +22,7 @@ pub enum Width {
 }
 
 /// What a field's entry means.
-#[derive(Clone, Copy, Debug, PartialEq, Eq, PartialOrd, Ord, Hash)]
+#[derive(Clone, Copy)]
 pub enum Kind {
     /// A number, with the value that a reset gives it.
     Number { init: u64 },
@@ -35,7 +33,7 @@ pub enum Kind {
 }
 
 /// A field of a structure; a `fixed` one is never written. A gap of n bytes is a `Gap` of `U8` with the length n.
-#[derive(Drop, PartialEq, Eq, PartialOrd, Ord, Hash)]
+#[derive(Drop)]
 pub struct Field {
     pub name: Name,
     pub fixed: bool,
@@ -45,26 +43,20 @@ pub struct Field {
     pub kind: Kind,
 }
 
-impl TryCloneTree for Field {
-    ghost use Rattle.dsr_ir.specs.Shapes.{FieldShape, field_shape};
-
-    ghost Shape = { FieldShape };
-
-    ghost shape = { field_shape };
-
+impl TryClone for Field {
     fn clone(&self, alloc: Global) -> Result<Field, NoMemory> {
         Ok(Field {
             name: self.name.clone(alloc)?,
             fixed: self.fixed,
             width: self.width,
-            len: self.len.clone(alloc)?,
+            len: copied(alloc, &self.len)?,
             kind: self.kind,
         })
     }
 }
 
 /// A structure with the fields that it declares itself.
-#[derive(Drop, PartialEq, Eq, PartialOrd, Ord, Hash)]
+#[derive(Drop)]
 pub struct Structure {
     pub name: Name,
     /// The number of the structure that this one extends.
@@ -72,13 +64,7 @@ pub struct Structure {
     pub fields: Seq<Field>,
 }
 
-impl TryCloneTree for Structure {
-    ghost use Rattle.dsr_ir.specs.Shapes.{StructureShape, structure_shape};
-
-    ghost Shape = { StructureShape };
-
-    ghost shape = { structure_shape };
-
+impl TryClone for Structure {
     fn clone(&self, alloc: Global) -> Result<Structure, NoMemory> {
         Ok(Structure {
             name: self.name.clone(alloc)?,
@@ -89,7 +75,7 @@ impl TryCloneTree for Structure {
 }
 
 /// A pool of records of one structure.
-#[derive(Drop, PartialEq, Eq, PartialOrd, Ord, Hash)]
+#[derive(Drop)]
 pub struct Pool {
     pub name: Name,
     /// The number of the structure of its slots.
@@ -110,40 +96,24 @@ pub struct Pool {
     pub avoid: Option<Seq<u32>>,
 }
 
-impl TryCloneTree for Pool {
-    ghost use Rattle.dsr_ir.specs.Shapes.{PoolShape, pool_shape};
-
-    ghost Shape = { PoolShape };
-
-    ghost shape = { pool_shape };
-
+impl TryClone for Pool {
     fn clone(&self, alloc: Global) -> Result<Pool, NoMemory> {
         Ok(Pool {
             name: self.name.clone(alloc)?,
             structure: self.structure,
             count: self.count.clone(alloc)?,
-            slot: self.slot.clone(alloc)?,
+            slot: copied(alloc, &self.slot)?,
             start: self.start.clone(alloc)?,
             code: self.code.clone(alloc)?,
             step: self.step.clone(alloc)?,
             none: self.none.clone(alloc)?,
-            avoid: cloned(alloc, &self.avoid)?,
+            avoid: copied(alloc, &self.avoid)?,
         })
     }
 }
 
-// A copy of a list that may be missing.
-fn cloned(alloc: Global, list: &Option<Seq<u32>>) -> Result<Option<Seq<u32>>, NoMemory>
-    ensures { IfOk result (λ copy. copy ≡ list.now) }
-{
-    match list {
-        Some(list) => Ok(Some(list.clone(alloc)?)),
-        None => Ok(None),
-    }
-}
-
 /// A set of slots of a pool.
-#[derive(Drop, PartialEq, Eq, PartialOrd, Ord, Hash)]
+#[derive(Drop)]
 pub struct SetDecl {
     pub name: Name,
     /// The pool, counted from 1.
@@ -166,7 +136,7 @@ impl TryClone for SetDecl {
 }
 
 /// A relation between the records of a pool or the head and those of a pool, or numbers.
-#[derive(Drop, PartialEq, Eq, PartialOrd, Ord, Hash)]
+#[derive(Drop)]
 pub struct Rel {
     pub name: Name,
     /// The pool of the sources; 0 is the head.
@@ -186,7 +156,7 @@ impl TryClone for Rel {
 }
 
 /// A field, by the number of the structure that declares it and its place there.
-#[derive(Clone, Copy, Debug, PartialEq, Eq, PartialOrd, Ord, Hash)]
+#[derive(Clone, Copy, PartialEq, Eq)]
 pub struct FieldRef {
     pub structure: u32,
     pub field: u32,
@@ -194,7 +164,7 @@ pub struct FieldRef {
 
 /// Structures, pools, sets and relations in order of declaration. The number of one is its place
 /// here, counted from 0; only pools are counted from 1, since 0 is the head.
-#[derive(Drop, PartialEq, Eq, PartialOrd, Ord, Hash)]
+#[derive(Drop)]
 pub struct Structures {
     /// 1 or 2.
     pub version: u8,
@@ -207,13 +177,7 @@ pub struct Structures {
     pub rels: Seq<Rel>,
 }
 
-impl TryCloneTree for Structures {
-    ghost use Rattle.dsr_ir.specs.Shapes.{StructuresShape, structures_shape};
-
-    ghost Shape = { StructuresShape };
-
-    ghost shape = { structures_shape };
-
+impl TryClone for Structures {
     fn clone(&self, alloc: Global) -> Result<Structures, NoMemory> {
         Ok(Structures {
             version: self.version,
@@ -228,20 +192,14 @@ impl TryCloneTree for Structures {
 }
 
 /// A typed specification, with rules and constraints in order of declaration.
-#[derive(Drop, PartialEq, Eq, PartialOrd, Ord, Hash)]
+#[derive(Drop)]
 pub struct Spec {
     pub base: Structures,
     pub rules: Seq<Rule>,
     pub constraints: Seq<Constraint>,
 }
 
-impl TryCloneTree for Spec {
-    ghost use Rattle.dsr_ir.specs.Shapes.{SpecShape, spec_shape};
-
-    ghost Shape = { SpecShape };
-
-    ghost shape = { spec_shape };
-
+impl TryClone for Spec {
     fn clone(&self, alloc: Global) -> Result<Spec, NoMemory> {
         Ok(Spec {
             base: self.base.clone(alloc)?,

@@ -1,46 +1,133 @@
 // Expressions of a layout.
 ghost use Rattle.std.specs.Prelude.{◌≡◌, IfOk};
-ghost use Rattle.dsr_ir.specs.Shapes.{expr_shape};
+ghost use Rattle.dsr_ir.specs.Exprs.{NumOf, FixedOf, SumOf, LessOf, TimesOf, OverOf, expr_shape, is_same};
 
-use crate::{NoMemory, TryCloneTree};
+use crate::{NoMemory, TryClone};
 use std::alloc::Global;
+use std::marker::Model;
 
-/// An expression over numbers and fixed fields, computed in whole numbers from 0 to 2^64 - 1.
-#[derive(Drop, PartialEq, Eq, PartialOrd, Ord, Hash)]
-pub enum Expr {
+/// What an expression is made of: a number, a fixed field, or an operation on two sides.
+#[derive(Drop)]
+pub enum ExprNode {
     Num(u64),
     /// The value of the head's field of this number.
     Fixed(u32),
-    Sum(Box<Expr>, Box<Expr>),
-    Less(Box<Expr>, Box<Expr>),
-    Times(Box<Expr>, Box<Expr>),
-    Over(Box<Expr>, Box<Expr>),
+    Sum(Box<ExprNode>, Box<ExprNode>),
+    Less(Box<ExprNode>, Box<ExprNode>),
+    Times(Box<ExprNode>, Box<ExprNode>),
+    Over(Box<ExprNode>, Box<ExprNode>),
 }
 
-impl TryCloneTree for Expr {
-    ghost use Rattle.dsr_ir.specs.Shapes.{ExprShape, expr_shape};
+/// An expression over numbers and fixed fields, computed in whole numbers from 0 to 2^64 - 1.
+/// Contracts see what it says, and not where its parts lie in memory.
+#[derive(Drop)]
+pub struct Expr {
+    node: ExprNode,
+}
 
-    ghost Shape = { ExprShape };
+impl Model for Expr {
+    ghost use Rattle.dsr_ir.specs.Exprs.{ExprShape, expr_shape, shape_code};
 
-    ghost shape = { expr_shape };
+    ghost Value = { ExprShape };
 
-    #[cycle(expression)]
+    ghost coded = { shape_code };
+
+    ghost view = { λ e. expr_shape e.node };
+}
+
+impl Expr {
+    /// A number.
+    pub fn number(value: u64) -> Expr
+        ensures { result ≡ NumOf value }
+    {
+        Expr {
+            node: ExprNode::Num(value),
+        }
+    }
+
+    /// The value of the head's field of this number.
+    pub fn fixed(field: u32) -> Expr
+        ensures { result ≡ FixedOf field }
+    {
+        Expr {
+            node: ExprNode::Fixed(field),
+        }
+    }
+
+    /// The sum of two expressions.
+    pub fn sum(alloc: Global, left: Expr, right: Expr) -> Result<Expr, NoMemory>
+        ensures { IfOk result (λ e. e ≡ SumOf left right) }
+    {
+        let (left, right) = (Box::new(alloc, left.node)?, Box::new(alloc, right.node)?);
+        Ok(Expr {
+            node: ExprNode::Sum(left, right),
+        })
+    }
+
+    /// The difference of two expressions.
+    pub fn less(alloc: Global, left: Expr, right: Expr) -> Result<Expr, NoMemory>
+        ensures { IfOk result (λ e. e ≡ LessOf left right) }
+    {
+        let (left, right) = (Box::new(alloc, left.node)?, Box::new(alloc, right.node)?);
+        Ok(Expr {
+            node: ExprNode::Less(left, right),
+        })
+    }
+
+    /// The product of two expressions.
+    pub fn times(alloc: Global, left: Expr, right: Expr) -> Result<Expr, NoMemory>
+        ensures { IfOk result (λ e. e ≡ TimesOf left right) }
+    {
+        let (left, right) = (Box::new(alloc, left.node)?, Box::new(alloc, right.node)?);
+        Ok(Expr {
+            node: ExprNode::Times(left, right),
+        })
+    }
+
+    /// The quotient of two expressions, without its rest.
+    pub fn over(alloc: Global, left: Expr, right: Expr) -> Result<Expr, NoMemory>
+        ensures { IfOk result (λ e. e ≡ OverOf left right) }
+    {
+        let (left, right) = (Box::new(alloc, left.node)?, Box::new(alloc, right.node)?);
+        Ok(Expr {
+            node: ExprNode::Over(left, right),
+        })
+    }
+
+    /// What the expression is made of.
+    pub fn node(&self) -> &ExprNode
+        ensures { expr_shape result.now ≡ self.now }
+    {
+        &self.node
+    }
+}
+
+impl TryClone for Expr {
     fn clone(&self, alloc: Global) -> Result<Expr, NoMemory> {
-        Ok(match self {
-            Expr::Num(value) => Expr::Num(*value),
-            Expr::Fixed(field) => Expr::Fixed(*field),
-            Expr::Sum(left, right) => Expr::Sum(boxed(alloc, left)?, boxed(alloc, right)?),
-            Expr::Less(left, right) => Expr::Less(boxed(alloc, left)?, boxed(alloc, right)?),
-            Expr::Times(left, right) => Expr::Times(boxed(alloc, left)?, boxed(alloc, right)?),
-            Expr::Over(left, right) => Expr::Over(boxed(alloc, left)?, boxed(alloc, right)?),
+        Ok(Expr {
+            node: copy(alloc, &self.node)?,
         })
     }
 }
 
-// A copy of an expression, in a box of its own.
-#[cycle(expression)]
-fn boxed(alloc: Global, expr: &Expr) -> Result<Box<Expr>, NoMemory>
-    ensures { IfOk result (λ copy. expr_shape copy.value ≡ expr_shape expr.now) }
+#[cycle(copies)]
+fn copy(alloc: Global, node: &ExprNode) -> Result<ExprNode, NoMemory>
+    ensures { IfOk result (λ copy. expr_shape copy ≡ expr_shape node.now) }
 {
-    Ok(Box::new(alloc, expr.clone(alloc)?)?)
+    Ok(match node {
+        ExprNode::Num(value) => ExprNode::Num(*value),
+        ExprNode::Fixed(field) => ExprNode::Fixed(*field),
+        ExprNode::Sum(left, right) => ExprNode::Sum(boxed(alloc, left)?, boxed(alloc, right)?),
+        ExprNode::Less(left, right) => ExprNode::Less(boxed(alloc, left)?, boxed(alloc, right)?),
+        ExprNode::Times(left, right) => ExprNode::Times(boxed(alloc, left)?, boxed(alloc, right)?),
+        ExprNode::Over(left, right) => ExprNode::Over(boxed(alloc, left)?, boxed(alloc, right)?),
+    })
+}
+
+// A copy of a part, in a box of its own.
+#[cycle(copies)]
+fn boxed(alloc: Global, node: &ExprNode) -> Result<Box<ExprNode>, NoMemory>
+    ensures { IfOk result (λ copy. expr_shape copy.value ≡ expr_shape node.now) }
+{
+    Ok(Box::new(alloc, copy(alloc, node)?)?)
 }

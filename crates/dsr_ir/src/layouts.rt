@@ -4,7 +4,7 @@ use std::alloc::Global;
 
 /// The numbers of a pool: its first byte, the bytes of a slot, the number of slots, the code of
 /// slot 0, the step from one slot's code to the next, and the code of no slot.
-#[derive(Clone, Copy, Debug, PartialEq, Eq, PartialOrd, Ord, Hash)]
+#[derive(Clone, Copy)]
 pub struct PoolNumbers {
     pub start: u64,
     pub slot: u64,
@@ -16,7 +16,7 @@ pub struct PoolNumbers {
 
 /// Where a field begins, counted in bits from the start of its record; the width of an entry;
 /// and the number of entries of an array.
-#[derive(Clone, Copy, Debug, PartialEq, Eq, PartialOrd, Ord, Hash)]
+#[derive(Clone, Copy)]
 pub struct FieldPlace {
     pub bit: u64,
     pub width: Width,
@@ -26,7 +26,7 @@ pub struct FieldPlace {
 /// What a specification's expressions amount to on an image: its length in bytes, the order of a
 /// number's bytes, the numbers of the pools in order of declaration, and the places of each
 /// structure's own fields.
-#[derive(Drop, PartialEq, Eq, PartialOrd, Ord, Hash)]
+#[derive(Drop)]
 pub struct Layout {
     pub length: u64,
     pub order: Order,
@@ -152,7 +152,7 @@ impl TryClone for Layout {
 
 /// A range of bits of an image. `bit` counts from the image's first bit, bit 0 of a byte being
 /// its least; a cell that is bytewise is read byte by byte in its order.
-#[derive(Clone, Copy, Debug, PartialEq, Eq, PartialOrd, Ord, Hash)]
+#[derive(Clone, Copy)]
 pub struct Cell {
     pub bit: u64,
     pub width: u8,

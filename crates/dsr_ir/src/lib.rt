@@ -4,28 +4,23 @@
 mod constraints;
 mod declarations;
 mod expressions;
-mod faults;
 mod layouts;
 mod memory;
 mod names;
 mod rules;
 mod sequences;
-mod tokens;
-pub mod tree;
 mod tuples;
 mod updates;
 
-pub use constraints::{Atom, Bound, Conj, Constraint, Formula, Literal, Measure, Quant, Var};
+pub use constraints::{Atom, Bound, Conj, Constraint, Literal, Measure, Quant, Var};
 pub use declarations::{
     Field, FieldRef, Kind, Order, Pool, Rel, SetDecl, Spec, Structure, Structures, Width,
 };
-pub use expressions::Expr;
-pub use faults::{Condition, Fault};
+pub use expressions::{Expr, ExprNode};
 pub use layouts::{Cell, FieldPlace, Layout, PoolNumbers};
-pub use memory::{NoMemory, TryClone, TryCloneTree};
+pub use memory::{NoMemory, TryClone, copied};
 pub use names::Name;
 pub use rules::{Guard, Inc, Op, Path, Rule, Span, Test};
 pub use sequences::Seq;
-pub use tokens::{Keyword, Lexeme, Sign, Token};
 pub use tuples::{Binding, Element, Fact, Instance, Target};
 pub use updates::{At, Goal, Pick, Place, Symbol, Template, Update, Write};

@@ -3,7 +3,7 @@ use crate::{FieldRef, NoMemory, Seq, TryClone};
 use std::alloc::Global;
 
 /// A comparison of two numbers.
-#[derive(Clone, Copy, Debug, PartialEq, Eq, PartialOrd, Ord, Hash)]
+#[derive(Clone, Copy, PartialEq, Eq)]
 pub enum Op {
     /// `=`
     Eq,
@@ -20,14 +20,14 @@ pub enum Op {
 }
 
 /// A field of the premise's record, at the rule's index where it is an array.
-#[derive(Clone, Copy, Debug, PartialEq, Eq, PartialOrd, Ord, Hash)]
+#[derive(Clone, Copy, PartialEq, Eq)]
 pub struct Path {
     pub field: FieldRef,
     pub indexed: bool,
 }
 
 /// A test of a field's value.
-#[derive(Clone, Copy, Debug, PartialEq, Eq, PartialOrd, Ord, Hash)]
+#[derive(Clone, Copy, PartialEq, Eq)]
 pub enum Test {
     /// The number meets the comparison.
     Cmp(Op, u64),
@@ -42,14 +42,14 @@ pub enum Test {
 }
 
 /// A condition of a rule on a field.
-#[derive(Clone, Copy, Debug, PartialEq, Eq, PartialOrd, Ord, Hash)]
+#[derive(Clone, Copy, PartialEq, Eq)]
 pub struct Guard {
     pub path: Path,
     pub test: Test,
 }
 
 /// What a rule's index runs over.
-#[derive(Clone, Copy, Debug, PartialEq, Eq, PartialOrd, Ord, Hash)]
+#[derive(Clone, Copy, PartialEq, Eq)]
 pub enum Span {
     /// Nothing: the rule has no index.
     Single,
@@ -60,7 +60,7 @@ pub enum Span {
 }
 
 /// What a rule gives: the symbol's number, then the pool where a slot is named, then the path.
-#[derive(Clone, Copy, Debug, PartialEq, Eq, PartialOrd, Ord, Hash)]
+#[derive(Clone, Copy, PartialEq, Eq)]
 pub enum Inc {
     /// The record is in the set.
     Own(u32),
@@ -75,7 +75,7 @@ pub enum Inc {
 }
 
 /// A model definition rule (OOPSLA 2003): from a premise and guards to an inclusion.
-#[derive(Drop, PartialEq, Eq, PartialOrd, Ord, Hash)]
+#[derive(Drop)]
 pub struct Rule {
     /// The number of the premise's set; none where the premise is `head`.
     pub premise: Option<u32>,

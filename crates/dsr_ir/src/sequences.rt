@@ -1,5 +1,5 @@
 // Lists of items.
-use crate::{NoMemory, TryClone, TryCloneTree};
+use crate::{NoMemory, TryClone};
 use std::alloc::Global;
 use std::cmp::Ordering;
 use std::hash::{Hash, Hasher};
@@ -42,22 +42,6 @@ impl<T: TryClone + Drop> TryClone for Seq<T> {
         let mut copy = Vec::new(alloc);
         for item in &self.items {
             copy.push(item.clone(alloc)?)?;
-        }
-        Ok(Seq { items: copy })
-    }
-}
-
-impl<T: TryCloneTree + Drop> TryCloneTree for Seq<T> {
-    ghost use Rattle.std.specs.Prelude.{List, map};
-
-    ghost Shape = { List T.Shape };
-
-    ghost shape = { map T.shape };
-
-    fn clone(&self, alloc: Global) -> Result<Seq<T>, NoMemory> {
-        let mut copy = Vec::new(alloc);
-        for tree in &self.items {
-            copy.push(tree.clone(alloc)?)?;
         }
         Ok(Seq { items: copy })
     }

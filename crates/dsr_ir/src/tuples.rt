@@ -2,14 +2,14 @@
 
 /// A record of an image. Pool 0 has one record, the head at slot 0; pool p is the one declared
 /// at place p, counted from 1, and its slots count from 0.
-#[derive(Clone, Copy, Debug, PartialEq, Eq, PartialOrd, Ord, Hash)]
+#[derive(Clone, Copy, PartialEq, Eq, PartialOrd, Ord)]
 pub struct Element {
     pub pool: u32,
     pub slot: u32,
 }
 
 /// What a constraint's variables are bound to, as its quantifier asks.
-#[derive(Clone, Copy, Debug, PartialEq, Eq, PartialOrd, Ord, Hash)]
+#[derive(Clone, Copy, PartialEq, Eq, PartialOrd, Ord)]
 pub enum Binding {
     /// No variable.
     Once,
@@ -20,14 +20,14 @@ pub enum Binding {
 }
 
 /// The second part of a pair of a relation.
-#[derive(Clone, Copy, Debug, PartialEq, Eq, PartialOrd, Ord, Hash)]
+#[derive(Clone, Copy, PartialEq, Eq, PartialOrd, Ord)]
 pub enum Target {
     Elem(Element),
     Num(u64),
 }
 
 /// A fact of the model, with the number of its set or relation.
-#[derive(Clone, Copy, Debug, PartialEq, Eq, PartialOrd, Ord, Hash)]
+#[derive(Clone, Copy, PartialEq, Eq, PartialOrd, Ord)]
 pub enum Fact {
     /// The record is in the set.
     Member(u32, Element),
@@ -37,7 +37,7 @@ pub enum Fact {
 
 /// A rule by its number, a record of its premise's pool, and an entry of its index (0 without
 /// one).
-#[derive(Clone, Copy, Debug, PartialEq, Eq, PartialOrd, Ord, Hash)]
+#[derive(Clone, Copy, PartialEq, Eq, PartialOrd, Ord)]
 pub struct Instance {
     pub rule: u32,
     pub elem: Element,

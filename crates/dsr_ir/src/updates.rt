@@ -3,14 +3,14 @@ use crate::{Measure, NoMemory, Path, Seq, Test, TryClone, Var};
 use std::alloc::Global;
 
 /// A set or a relation, by its number.
-#[derive(Clone, Copy, Debug, PartialEq, Eq, PartialOrd, Ord, Hash)]
+#[derive(Clone, Copy, PartialEq, Eq)]
 pub enum Symbol {
     Set(u32),
     Rel(u32),
 }
 
 /// The value that a write gives.
-#[derive(Clone, Copy, Debug, PartialEq, Eq, PartialOrd, Ord, Hash)]
+#[derive(Clone, Copy, PartialEq, Eq)]
 pub enum Pick {
     Num(u64),
     /// The code of no slot of the field's pool.
@@ -24,7 +24,7 @@ pub enum Pick {
 }
 
 /// A write of one field; it is skipped where the wanted test comes out as wanted already.
-#[derive(Clone, Copy, Debug, PartialEq, Eq, PartialOrd, Ord, Hash)]
+#[derive(Clone, Copy, PartialEq, Eq)]
 pub struct Write {
     pub path: Path,
     pub pick: Pick,
@@ -33,7 +33,7 @@ pub struct Write {
 }
 
 /// The record that an update writes.
-#[derive(Clone, Copy, Debug, PartialEq, Eq, PartialOrd, Ord, Hash)]
+#[derive(Clone, Copy, PartialEq, Eq)]
 pub enum Place {
     Head,
     /// The record that the variable is bound to; the variable is not `Var::Head`.
@@ -43,7 +43,7 @@ pub enum Place {
 }
 
 /// The array entry that an update writes.
-#[derive(Clone, Copy, Debug, PartialEq, Eq, PartialOrd, Ord, Hash)]
+#[derive(Clone, Copy, PartialEq, Eq)]
 pub enum At {
     /// None: the fields are scalars.
     Scalar,
@@ -54,7 +54,7 @@ pub enum At {
 }
 
 /// Writes to the cells of one record, and perhaps a fresh record of a pool.
-#[derive(Drop, PartialEq, Eq, PartialOrd, Ord, Hash)]
+#[derive(Drop, PartialEq, Eq)]
 pub struct Update {
     /// The number of the rule whose tuples are added, removed or set.
     pub rule: u32,
@@ -78,7 +78,7 @@ impl TryClone for Update {
 }
 
 /// What an update is for.
-#[derive(Clone, Copy, Debug, PartialEq, Eq, PartialOrd, Ord, Hash)]
+#[derive(Clone, Copy, PartialEq, Eq)]
 pub enum Goal {
     /// A member joins a set.
     AddSet,
@@ -100,7 +100,7 @@ pub enum Goal {
 
 /// A goal with one update, or one update for each rule of a symbol; in `ExactlyOne` the update
 /// that supplies stands first and those that trim follow.
-#[derive(Drop, PartialEq, Eq, PartialOrd, Ord, Hash)]
+#[derive(Drop, PartialEq, Eq)]
 pub struct Template {
     pub goal: Goal,
     pub updates: Seq<Update>,

@@ -20,10 +20,9 @@ use Rattle.dsr_ir.specs.declared.rules.Rule.{Rule}
 use Rattle.dsr_meaning.proofs.Empty.{both_empty}
 use Rattle.dsr_meaning.specs.Cells.{width_bits}
 use Rattle.dsr_meaning.specs.Counting.{IsIn}
-use Rattle.dsr_meaning.specs.Faults.{each_at}
+use Rattle.dsr_meaning.specs.Lists.{any_of, each_at}
 use Rattle.dsr_meaning.specs.FixedFields.{fixed_value}
 use Rattle.dsr_meaning.specs.Layouts.{layout_of}
-use Rattle.dsr_meaning.specs.Names.{any_of}
 use Rattle.dsr_meaning.specs.Places.{size_of}
 use Rattle.dsr_meaning.specs.Refusals.{CountTooWide, Instances, refused_when, fits, greatest_size, given_path, gives_narrower, reaches_bound, outgrows, constraint_outgrows, count_refusals, instance_limit, instances, instance_refusals, outside_refusals, overlap_refusals, subtype_refusals, zero_refusals, none_refusals, code_refusals, refusals}
 use Rattle.dsr_layout.proofs.Fitting.{all_empty, not_not}

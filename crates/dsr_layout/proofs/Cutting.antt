@@ -6,7 +6,7 @@ use Rattle.std.proofs.lemmas.Bool.Decides.{nat_tests}
 use Rattle.std.proofs.lemmas.List.{drop_all}
 use Rattle.dsr_ir.specs.Shapes.{FieldShape}
 use Rattle.dsr_ir.specs.declared.layouts.Cell.{Cell}
-use Rattle.dsr_meaning.specs.Faults.{each_at}
+use Rattle.dsr_meaning.specs.Lists.{each_at}
 use Rattle.dsr_meaning.specs.Refusals.{Refusal, Short, refused_when, ends_behind, cut_refusals}
 use Rattle.dsr_layout.proofs.Looking.{each_item, quiet}
 use Rattle.dsr_layout.specs.Tables.{clip_cell}

@@ -11,7 +11,7 @@ use Rattle.dsr_ir.specs.declared.layouts.Layout.{Layout}
 use Rattle.dsr_ir.specs.declared.layouts.PoolNumbers.{PoolNumbers}
 use Rattle.dsr_meaning.proofs.Empty.{both_empty, second_empty, third_empty, fourth_empty}
 use Rattle.dsr_meaning.specs.Cells.{width_bits}
-use Rattle.dsr_meaning.specs.Faults.{each_at}
+use Rattle.dsr_meaning.specs.Lists.{each_at}
 use Rattle.dsr_meaning.specs.Instances.{kind_pool}
 use Rattle.dsr_meaning.specs.FixedFields.{head_fields, fixed_cell, fixed_value}
 use Rattle.dsr_meaning.specs.Layouts.{bytes_of, last_code, pool_of, layout_with, layout_of}

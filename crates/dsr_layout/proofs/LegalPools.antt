@@ -8,7 +8,7 @@ use Rattle.dsr_ir.specs.Layouts.{pool_numbers}
 use Rattle.dsr_ir.specs.declared.layouts.Layout.{Layout}
 use Rattle.dsr_ir.specs.declared.layouts.PoolNumbers.{PoolNumbers}
 use Rattle.dsr_meaning.proofs.Empty.{both_empty, each_has}
-use Rattle.dsr_meaning.specs.Faults.{each_at}
+use Rattle.dsr_meaning.specs.Lists.{each_at}
 use Rattle.dsr_meaning.specs.Layouts.{pool_end, last_code}
 use Rattle.dsr_meaning.specs.Legal.{IsLegalPool, AreApart}
 use Rattle.dsr_meaning.specs.Refusals.{Outside, Overlap, Zero, NoneIsCode, refused_when, outside_refusals, overlaps, zero_refusals, none_refusals, is_code_below, ByteRange, pool_range, share_byte}

@@ -4,7 +4,7 @@ use Rattle.std.specs.Option.{option_or}
 use Rattle.dsr_layout.specs.Telling.{told_as, told_of}
 use Rattle.dsr_layout.specs.declared.faults.LayoutFault.{LayoutFault}
 use Rattle.dsr_meaning.proofs.Empty.{both_empty}
-use Rattle.dsr_meaning.specs.Faults.{each_at}
+use Rattle.dsr_meaning.specs.Lists.{each_at}
 use Rattle.dsr_meaning.specs.Refusals.{Refusal, refused_when}
 use Rattle.dsr_layout.proofs.Items.{drop_item}
 

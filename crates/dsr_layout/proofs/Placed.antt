@@ -6,7 +6,7 @@ use Rattle.dsr_ir.specs.Shapes.{FieldShape, StructureShape, structure_shape}
 use Rattle.dsr_ir.specs.declared.declarations.Structure.{Structure}
 use Rattle.dsr_ir.specs.declared.layouts.FieldPlace.{FieldPlace}
 use Rattle.dsr_meaning.specs.Extents.{Extent, up_to_byte, bit_behind}
-use Rattle.dsr_meaning.specs.Faults.{each_at}
+use Rattle.dsr_meaning.specs.Lists.{each_at}
 use Rattle.dsr_meaning.specs.Layouts.{collect_at, places_of}
 use Rattle.dsr_meaning.specs.Places.{lineage, extent_of, bit_behind_fields, placed, end_of, own_places}
 use Rattle.dsr_meaning.specs.Refusals.{Arith, refused_when, size_refusals}

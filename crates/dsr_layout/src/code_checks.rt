@@ -2,7 +2,7 @@
 ghost use Rattle.std.specs.Prelude.{◌≡◌, ◌≤◌, All, length, map};
 ghost use Rattle.dsr_ir.specs.Shapes.{field_shape, structure_shape};
 ghost use Rattle.dsr_meaning.specs.Cells.{width_bits};
-ghost use Rattle.dsr_meaning.specs.Faults.{each_at};
+ghost use Rattle.dsr_meaning.specs.Lists.{each_at};
 ghost use Rattle.dsr_meaning.specs.Refusals as meaning;
 ghost use Rattle.dsr_meaning.specs.Refusals.{reference_refusals, code_refusals};
 ghost use Rattle.dsr_layout.specs.Pools.{IsComputable, HasFewFields};

@@ -2,7 +2,7 @@
 ghost use Rattle.std.specs.Prelude.{◌≡◌, ◌≤◌, length, slice_get};
 ghost use Rattle.std.specs.Option.{option_map_or};
 ghost use Rattle.dsr_meaning.specs.Instances.{record_count};
-ghost use Rattle.dsr_meaning.specs.Names.{any_of};
+ghost use Rattle.dsr_meaning.specs.Lists.{any_of};
 ghost use Rattle.dsr_meaning.specs.Refusals as meaning;
 ghost use Rattle.dsr_meaning.specs.Refusals.{count_refusals};
 ghost use Rattle.dsr_layout.specs.Telling.{told_of};

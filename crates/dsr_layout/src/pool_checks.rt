@@ -2,7 +2,7 @@
 // are no codes.
 ghost use Rattle.std.specs.Prelude.{◌≡◌, ◌≤◌, ◌<◌, ◌+◌, suc, ◌∷◌, All, IfOk, length, map};
 ghost use Rattle.dsr_ir.specs.Shapes.{pool_shape};
-ghost use Rattle.dsr_meaning.specs.Faults.{each_at};
+ghost use Rattle.dsr_meaning.specs.Lists.{each_at};
 ghost use Rattle.dsr_meaning.specs.Refusals as meaning;
 ghost use Rattle.dsr_meaning.specs.Refusals.{outside_refusals, refused_when, overlaps, overlap_refusals, view_refusals, set_refusals, subtype_refusals, zero_refusals, none_refusals, is_code_below};
 ghost use Rattle.dsr_layout.specs.Pools.{IsComputable, HasStep};

@@ -5,9 +5,7 @@ ghost use Rattle.dsr_meaning.specs.Legal.{IsLegalLayout};
 ghost use Rattle.dsr_meaning.specs.Typed.{AreTyped, IsTyped};
 
 use crate::rule_tables::{ConstraintRow, RuleRow};
-use dsr_ir::{
-    Conj, Constraint, Layout, Literal, Name, NoMemory, PoolNumbers, Rule, Seq, Spec, Structures,
-};
+use dsr_ir::{Conj, Constraint, Layout, Literal, Name, NoMemory, PoolNumbers, Rule, Seq, Spec, Structures};
 use dsr_layout::{LayoutFault, layout};
 use dsr_parse::parse;
 use dsr_struct::{SpecFault, structures};

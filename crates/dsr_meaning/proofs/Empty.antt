@@ -1,7 +1,6 @@
 -- What follows where lists are empty together.
-use Rattle.std.proofs.Common.{◌≡◌, ◌≤◌, ◌+◌, ℕ, zero, suc, Bool, true, false, List, [], ◌∷◌, ◌++◌, length, All, refl, subst, arith}
-use Rattle.dsr_ir.specs.declared.faults.Condition.{Condition}
-use Rattle.dsr_meaning.specs.Faults.{when, each_at}
+use Rattle.std.proofs.Common.{◌≡◌, ◌≤◌, ◌+◌, ℕ, zero, suc, List, [], ◌∷◌, ◌++◌, length, All, refl, subst, arith}
+use Rattle.dsr_meaning.specs.Lists.{each_at}
 
 -- each of two is empty
 pub both_empty : {T : Type 0} (xs ys : List T) → xs ++ ys ≡ [] → (xs ≡ []) × (ys ≡ [])
@@ -23,11 +22,6 @@ fourth_empty a b c d e = (both_empty c d (both_empty b (c ++ d) (both_empty a (b
 -- the one behind four is
 pub fifth_empty : {T : Type 0} (a b c d e rest : List T) → a ++ (b ++ (c ++ (d ++ (e ++ rest)))) ≡ [] → e ≡ []
 fifth_empty a b c d e rest is = (both_empty e rest (fourth_empty b c d (e ++ rest) (both_empty a (b ++ (c ++ (d ++ (e ++ rest)))) is).1)).0
-
--- a test whose fault isn't there fails
-pub when_absent : (test : Bool) (condition : Condition) (place : ℕ) → when test condition place ≡ [] → test ≡ false
-when_absent true condition place e = absurd cc
-when_absent false condition place e = refl
 
 -- the second of two has no item
 pub no_second : {T : Type 0} (xs : List T) (y : T) (ys : List T) → xs ++ (y ∷ ys) ≡ [] → ⊥

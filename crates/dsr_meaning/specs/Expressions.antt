@@ -1,6 +1,6 @@
 -- The values of expressions: whole numbers from 0 to 2^64 - 1.
 use Rattle.std.specs.Prelude.{ℕ, ◌+◌, ◌-◌, ◌*◌, ◌/◌, ◌^◌, nat_eq, nat_lt, nat_le, Option, None, Some, option_and_then, if◌then◌else◌}
-use Rattle.dsr_ir.specs.Shapes.{ExprShape, NumOf, FixedOf, SumOf, LessOf, TimesOf, OverOf}
+use Rattle.dsr_ir.specs.Exprs.{ExprShape, NumOf, FixedOf, SumOf, LessOf, TimesOf, OverOf}
 
 -- a number that is no greater than 2^64 - 1, and otherwise no value
 abbrev pub in_range : ℕ → Option ℕ

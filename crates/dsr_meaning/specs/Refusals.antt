@@ -2,7 +2,10 @@
 use Rattle.std.specs.Prelude.{ℕ, zero, suc, ◌+◌, ◌*◌, ◌^◌, min, max, Bool, true, false, not, ◌&&◌, ◌||◌, nat_eq, nat_lt, List, [], ◌∷◌, ◌++◌, map, length, sum, Option, None, Some, is_none, unwrap_or, slice_get, if◌then◌else◌}
 use Rattle.std.specs.Option.{option_map_or}
 use Rattle.dsr_ir.specs.Layouts.{pool_numbers, field_place}
-use Rattle.dsr_ir.specs.Shapes.{FieldShape, StructureShape, PoolShape, StructuresShape, structures_shape}
+use Rattle.dsr_ir.specs.declared.declarations.Field.{Field}
+use Rattle.dsr_ir.specs.declared.declarations.Structure.{Structure}
+use Rattle.dsr_ir.specs.declared.declarations.Pool.{Pool}
+use Rattle.dsr_ir.specs.declared.declarations.Structures.{Structures}
 use Rattle.dsr_ir.specs.declared.constraints.Atom.{Atom}
 use Rattle.dsr_ir.specs.declared.constraints.Atom.TheVariants.{Value}
 use Rattle.dsr_ir.specs.declared.constraints.Bound.TheVariants.{Size}
@@ -23,12 +26,11 @@ use Rattle.dsr_ir.specs.declared.rules.Op.TheVariants.{Eq, Le, Ge}
 use Rattle.dsr_ir.specs.declared.rules.Path.{Path}
 use Rattle.dsr_ir.specs.declared.rules.Rule.{Rule}
 use Rattle.dsr_meaning.specs.Cells.{width_bits}
-use Rattle.dsr_meaning.specs.Faults.{each_at}
+use Rattle.dsr_meaning.specs.Lists.{any_of, each_at}
 use Rattle.dsr_meaning.specs.FixedFields.{head_fields, fixed_cell, fixed_value}
 use Rattle.dsr_meaning.specs.Instances.{kind_pool, record_count, set_pool, premise_pool, index_count}
 use Rattle.dsr_meaning.specs.Layouts.{bytes_of, pool_of, pool_end, last_code, layout_with}
 use Rattle.dsr_meaning.specs.Models.{base_of}
-use Rattle.dsr_meaning.specs.Names.{any_of}
 use Rattle.dsr_meaning.specs.Places.{size_of}
 
 -- why an image is refused; pools count from 1, and 0 is the head
@@ -55,7 +57,7 @@ abbrev pub ends_behind : ℕ → ℕ → ℕ → Bool
 ends_behind bytes bit width = nat_lt (8 * bytes) (bit + width)
 
 -- by the cells of the fixed fields
-abbrev pub cut_refusals : (ℕ → Option Cell) → List FieldShape → ℕ → List Refusal
+abbrev pub cut_refusals : (ℕ → Option Cell) → List Field → ℕ → List Refusal
 cut_refusals cell fields bytes = each_at (λ k _. refused_when (option_map_or (λ c. ends_behind bytes c.bit c.width) (cell k) false) Short) 0 fields
 
 -- by the sizes of structures in bits
@@ -68,10 +70,10 @@ head_refusals size head bytes = refused_when (option_map_or (ends_behind bytes 0
 abbrev pub is_computable : PoolNumbers → Bool
 is_computable n = nat_lt (pool_end n) (2 ^ 64) && (nat_eq n.count 0 || nat_lt (last_code n) (2 ^ 64))
 
-abbrev pub size_refusals : (ℕ → Option ℕ) → List StructureShape → List Refusal
+abbrev pub size_refusals : (ℕ → Option ℕ) → List Structure → List Refusal
 size_refusals size structures = each_at (λ i _. refused_when (is_none (size i)) Arith) 0 structures
 
-abbrev pub value_refusals : (ℕ → Option ℕ) → (ℕ → Option ℕ) → List PoolShape → List Refusal
+abbrev pub value_refusals : (ℕ → Option ℕ) → (ℕ → Option ℕ) → List Pool → List Refusal
 value_refusals fixed size pools = each_at (λ _ p. refused_when (not (option_map_or is_computable (pool_of fixed size p) false)) Arith) 1 pools
 
 -- ---- 3: a pool ends behind the image
@@ -118,7 +120,7 @@ view_refusals size layout pool structure = refused_when (is_larger size layout p
 abbrev pub set_refusals : (ℕ → Option ℕ) → Layout → ℕ → List SetDecl → List Refusal
 set_refusals size layout pool sets = each_at (λ _ s. if nat_eq s.pool pool then view_refusals size layout pool s.structure else []) 0 sets
 
-abbrev pub subtype_refusals : (ℕ → Option ℕ) → List SetDecl → List PoolShape → Layout → List Refusal
+abbrev pub subtype_refusals : (ℕ → Option ℕ) → List SetDecl → List Pool → Layout → List Refusal
 subtype_refusals size sets pools layout = each_at (λ p d. view_refusals size layout p d.structure ++ set_refusals size layout p sets) 1 pools
 
 -- ---- 6: a step or a slot of 0
@@ -144,11 +146,11 @@ fits bits value = nat_lt value (2 ^ bits)
 abbrev pub codes_fit : ℕ → PoolNumbers → Bool
 codes_fit bits n = fits bits n.none && (nat_eq n.count 0 || fits bits (last_code n))
 
-abbrev pub reference_refusals : Layout → ℕ → ℕ → FieldShape → List Refusal
+abbrev pub reference_refusals : Layout → ℕ → ℕ → Field → List Refusal
 reference_refusals layout i k f =
     option_map_or (λ p. option_map_or (λ n. refused_when (not (codes_fit (width_bits f.width) n)) (CodeTooWide p i k)) (pool_numbers layout p) []) (kind_pool f.kind) []
 
-abbrev pub code_refusals : List StructureShape → Layout → List Refusal
+abbrev pub code_refusals : List Structure → Layout → List Refusal
 code_refusals structures layout = each_at (λ i s. each_at (reference_refusals layout i) 0 s.fields) 0 structures
 
 -- ---- 9: a count with which values are compared may not fit a field that gives such a value
@@ -234,7 +236,7 @@ instance_refusals spec layout = refused_when (nat_lt (instance_limit spec.base.v
 -- ---- all of them
 
 -- those of a layout whose numbers all have values
-abbrev pub layout_refusals : (ℕ → Option ℕ) → Spec → StructuresShape → Layout → List Refusal
+abbrev pub layout_refusals : (ℕ → Option ℕ) → Spec → Structures → Layout → List Refusal
 layout_refusals size spec base layout =
     outside_refusals layout
     ++ (overlap_refusals size base.head layout
@@ -245,7 +247,7 @@ layout_refusals size spec base layout =
     ++ (count_refusals spec layout
     ++ instance_refusals spec layout))))))
 
-abbrev pub refusals_with : (ℕ → Option ℕ) → (ℕ → Option ℕ) → Spec → StructuresShape → ℕ → List Refusal
+abbrev pub refusals_with : (ℕ → Option ℕ) → (ℕ → Option ℕ) → Spec → Structures → ℕ → List Refusal
 refusals_with fixed size spec base bytes =
     cut_refusals (fixed_cell base) (head_fields base) bytes
     ++ (head_refusals size base.head bytes
@@ -253,12 +255,12 @@ refusals_with fixed size spec base bytes =
     ++ (value_refusals fixed size base.pools
     ++ option_map_or (layout_refusals size spec base) (layout_with fixed base bytes) [])))
 
-abbrev pub refusals_by : (ℕ → Option ℕ) → Spec → StructuresShape → ℕ → List Refusal
+abbrev pub refusals_by : (ℕ → Option ℕ) → Spec → Structures → ℕ → List Refusal
 refusals_by fixed spec base bytes = refusals_with fixed (size_of fixed base.structures) spec base bytes
 
 -- all reasons to refuse an image, in the order of kinds and, in each, of declarations; the first one is told
 abbrev pub refusals : Spec → List ℕ → List Refusal
-refusals spec bytes = refusals_by (fixed_value (structures_shape spec.base) bytes) spec (structures_shape spec.base) (length bytes)
+refusals spec bytes = refusals_by (fixed_value spec.base bytes) spec spec.base (length bytes)
 
 abbrev pub first_of : {T : Type 0} → List T → Option T
 first_of [] = None

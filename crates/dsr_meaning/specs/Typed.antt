@@ -1,6 +1,8 @@
 -- What the tables of a specification without faults are known to be.
 use Rattle.std.specs.Prelude.{◌≡◌, ◌≤◌, ◌+◌, ◌%◌, ℕ, Bool, ◌||◌, IsTrue, List, [], ◌∷◌, length, All, is_some, option_map}
-use Rattle.dsr_ir.specs.Shapes.{FieldShape, StructureShape, StructuresShape, structures_shape}
+use Rattle.dsr_ir.specs.declared.declarations.Field.{Field}
+use Rattle.dsr_ir.specs.declared.declarations.Structure.{Structure}
+use Rattle.dsr_ir.specs.declared.declarations.Structures.{Structures}
 use Rattle.dsr_ir.specs.declared.declarations.Spec.{Spec}
 use Rattle.dsr_ir.specs.declared.declarations.Width.{Width}
 use Rattle.dsr_ir.specs.declared.declarations.Width.TheVariants.{Bits}
@@ -12,29 +14,29 @@ abbrev pub IsLegalWidth : Width → Type 0
 IsLegalWidth (Bits n) = (1 ≤ n) × (n ≤ 32)
 IsLegalWidth _ = Unit {0}
 
-abbrev pub HasLegalWidth : FieldShape → Type 0
+abbrev pub HasLegalWidth : Field → Type 0
 HasLegalWidth f = IsLegalWidth f.width
 
 -- whether a field has to begin at a byte: whole bytes and arrays do
-abbrev pub begins_byte : FieldShape → Bool
+abbrev pub begins_byte : Field → Bool
 begins_byte f = is_bytewise f.width || is_some f.len
 
 -- what a field takes up; how many entries an array has is no matter for where a byte begins, since behind it one does
-abbrev pub plain_extent : FieldShape → Extent
+abbrev pub plain_extent : Field → Extent
 plain_extent f = record { bits = width_bits f.width; entries = option_map (λ _. 0) f.len }
 
 -- fields that follow each other from a bit on begin at a byte where they have to
-abbrev pub AreAligned : ℕ → List FieldShape → Type 0
+abbrev pub AreAligned : ℕ → List Field → Type 0
 AreAligned bit [] = Unit {0}
 AreAligned bit (f ∷ fs) = (IsTrue (begins_byte f) → bit % 8 ≡ 0) × AreAligned (bit_behind bit (plain_extent f)) fs
 
-pub record IsTypedStructure (s : StructureShape) : Type 0 where
+pub record IsTypedStructure (s : Structure) : Type 0 where
   pub few_fields : length s.fields ≤ 64
   pub widths : All HasLegalWidth s.fields
   pub aligned : AreAligned 0 s.fields
 
 -- structures, pools, sets and relations
-pub record AreTyped (base : StructuresShape) : Type 0 where
+pub record AreTyped (base : Structures) : Type 0 where
   pub structures : All IsTypedStructure base.structures
   pub few_structures : length base.structures ≤ 64
   pub few_pools : length base.pools ≤ 32
@@ -42,6 +44,6 @@ pub record AreTyped (base : StructuresShape) : Type 0 where
 
 -- a specification
 pub record IsTyped (spec : Spec) : Type 0 where
-  pub base : AreTyped (structures_shape spec.base)
+  pub base : AreTyped spec.base
   pub few_rules : length spec.rules ≤ 128
   pub few_constraints : length spec.constraints ≤ 128

@@ -2,13 +2,13 @@
 use Rattle.std.proofs.Common.{◌≡◌, List, [], ◌∷◌, ◌++◌, Bool, true, false, ◌&&◌, ◌||◌, not, nat_eq, refl, sym, ap, ◌∙◌, ◌⊎◌, inl, inr}
 use Rattle.std.proofs.lemmas.Bool.{eqb-true, eq-eqb, and_parts, or_cases, or_left, or_right}
 use denote.Enum.Bare.{same_true, true_same}
-use Rattle.dsr_ir.specs.declared.tokens.Token.{Token}
-use Rattle.dsr_ir.specs.declared.tokens.Token.TheVariants as token
-use Rattle.dsr_ir.specs.contracts.tokens.Keyword as keyword
-use Rattle.dsr_ir.specs.contracts.tokens.Sign as sign
-use Rattle.dsr_ir.specs.contracts.tokens.KeywordPartialEq.TheImpl as same_keyword
-use Rattle.dsr_ir.specs.contracts.tokens.SignPartialEq.TheImpl as same_sign
-use Rattle.dsr_meaning.specs.Syntax.{Class, a_word, a_mark, a_name, a_number, a_version, IsOf}
+use Rattle.dsr_tree.specs.declared.tokens.Token.{Token}
+use Rattle.dsr_tree.specs.declared.tokens.Token.TheVariants as token
+use Rattle.dsr_tree.specs.contracts.tokens.Keyword as keyword
+use Rattle.dsr_tree.specs.contracts.tokens.Sign as sign
+use Rattle.dsr_tree.specs.contracts.tokens.KeywordPartialEq.TheImpl as same_keyword
+use Rattle.dsr_tree.specs.contracts.tokens.SignPartialEq.TheImpl as same_sign
+use Rattle.dsr_text.specs.Syntax.{Class, a_word, a_mark, a_name, a_number, a_version, IsOf}
 use Rattle.dsr_parse.specs.Machine.{accepts, among}
 
 -- a token that is accepted is of the kind

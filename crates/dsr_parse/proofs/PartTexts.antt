@@ -1,18 +1,18 @@
 -- The phrases of structures, fields and pools, and that some tokens are read with each.
 use Rattle.std.specs.Prelude.{option_map, IfSome, IfNone}
 use Rattle.std.proofs.Common.{◌≡◌, ◌<◌, ℕ, List, [], ◌∷◌, map, length, Option, Some, None, Bool, true, false, ◌||◌, refl, ap, sym, ◌∙◌, arith}
-use Rattle.dsr_ir.specs.declared.tokens.Keyword.TheVariants as keyword
-use Rattle.dsr_ir.specs.declared.tokens.Lexeme.{Lexeme}
-use Rattle.dsr_ir.specs.declared.tokens.Token.{Token}
-use Rattle.dsr_ir.specs.declared.tree.Expr.{Expr}
-use Rattle.dsr_ir.specs.declared.tree.Field.{Field}
-use Rattle.dsr_ir.specs.declared.tree.Width.{Width}
-use Rattle.dsr_ir.specs.declared.tree.Width.TheVariants as widths
-use Rattle.dsr_ir.specs.Trees.{FieldTree, NamedFieldTree, named, skipped, expr_shape, field_shape}
-use Rattle.dsr_meaning.specs.Grammar.{maybe, word, width, field}
-use Rattle.dsr_meaning.specs.Phrases.{Phrase, said_at, Says, says_at, says_both, in_turn}
-use Rattle.dsr_meaning.specs.Syntax.{Syntax, a_word}
-use Rattle.dsr_meaning.specs.TreeTexts.{maybe_text, fixed_text, brackets_text, behind_text, field_text, named_field_text, width_text}
+use Rattle.dsr_tree.specs.declared.tokens.Keyword.TheVariants as keyword
+use Rattle.dsr_tree.specs.declared.tokens.Lexeme.{Lexeme}
+use Rattle.dsr_tree.specs.declared.tokens.Token.{Token}
+use Rattle.dsr_tree.specs.declared.tree.Expr.{Expr}
+use Rattle.dsr_tree.specs.declared.tree.Field.{Field}
+use Rattle.dsr_tree.specs.declared.tree.Width.{Width}
+use Rattle.dsr_tree.specs.declared.tree.Width.TheVariants as widths
+use Rattle.dsr_tree.specs.Trees.{FieldTree, NamedFieldTree, named, skipped, expr_shape, field_shape}
+use Rattle.dsr_text.specs.Grammar.{maybe, word, width, field}
+use Rattle.dsr_text.specs.Phrases.{Phrase, said_at, Says, says_at, says_both, in_turn}
+use Rattle.dsr_text.specs.Syntax.{Syntax, a_word}
+use Rattle.dsr_text.specs.TreeTexts.{maybe_text, fixed_text, brackets_text, behind_text, field_text, named_field_text, width_text}
 use Rattle.dsr_parse.specs.Machine.{accepts, begins}
 use Rattle.dsr_parse.specs.Reading.{Standing, Reads, is_next, said_field, said_length, said_slot}
 use Rattle.dsr_parse.proofs.Taking.{begins_shorter, in_turn_mapped, reads_to}

@@ -1,10 +1,10 @@
 -- The machine accepts exactly the texts of the grammar, and stops at the first token that continues none within the limits.
 use Rattle.std.proofs.Common.{◌≡◌, ◌≤◌, ◌<◌, ℕ, suc, List, [], ◌∷◌, ◌++◌, length, Bool, true, false, Option, Some, None, refl, sym, ap, subst, ◌∙◌, arith, append-nil, length-append, if◌then◌else◌}
-use Rattle.dsr_ir.specs.declared.tokens.Lexeme.{Lexeme}
-use Rattle.dsr_ir.specs.declared.tokens.Token.{Token}
-use Rattle.dsr_meaning.specs.Syntax.{Syntax, Marked, Derives}
-use Rattle.dsr_meaning.specs.Grammar.{rule_of, spec}
-use Rattle.dsr_meaning.specs.Sentences.{within, IsSentence, IsFront, LeadsOn}
+use Rattle.dsr_tree.specs.declared.tokens.Lexeme.{Lexeme}
+use Rattle.dsr_tree.specs.declared.tokens.Token.{Token}
+use Rattle.dsr_text.specs.Syntax.{Syntax, Marked, Derives}
+use Rattle.dsr_text.specs.Grammar.{rule_of, spec}
+use Rattle.dsr_text.specs.Sentences.{within, IsSentence, IsFront, LeadsOn}
 use Rattle.dsr_parse.specs.Machine.{Move, step, is_done, Outcome, Accepts, StopsAt, Exceeds, go_on, run}
 use Rattle.dsr_parse.proofs.Stacks.{choose, Lang, back, ending, done_sound, done_complete}
 use Rattle.dsr_parse.proofs.Goes.{Good, good_spec, kept, steps}

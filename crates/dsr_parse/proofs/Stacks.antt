@@ -1,11 +1,11 @@
 -- The texts of a stack of what has to come, and what a step of the machine does to them.
 use Rattle.std.proofs.Common.{◌≡◌, ℕ, List, [], ◌∷◌, ◌++◌, Bool, true, false, Option, Some, refl, sym, ap, subst, ◌∙◌, inl, inr, append_assoc, if◌then◌else◌}
 use Rattle.std.proofs.lemmas.Bool.{and_parts, and_from, or_cases, or_left, or_right}
-use Rattle.dsr_ir.specs.declared.tokens.Token.{Token}
-use Rattle.dsr_ir.specs.declared.tokens.Token.TheVariants as token
-use Rattle.dsr_ir.specs.declared.tokens.Keyword.TheVariants as keyword
-use Rattle.dsr_meaning.specs.Syntax.{Class, a_word, a_mark, a_name, a_number, a_version, IsOf, Charge, free, count_after, is_over, Part, an_expression, a_formula, a_unit, Syntax, One, Empty, Then, Either, Many, The, Marked, Derives, one, empty, both, left, right, no_more, more, part}
-use Rattle.dsr_meaning.specs.Grammar.{rule_of, unit, literal}
+use Rattle.dsr_tree.specs.declared.tokens.Token.{Token}
+use Rattle.dsr_tree.specs.declared.tokens.Token.TheVariants as token
+use Rattle.dsr_tree.specs.declared.tokens.Keyword.TheVariants as keyword
+use Rattle.dsr_text.specs.Syntax.{Class, a_word, a_mark, a_name, a_number, a_version, IsOf, Charge, free, count_after, is_over, Part, an_expression, a_formula, a_unit, Syntax, One, Empty, Then, Either, Many, The, Marked, Derives, one, empty, both, left, right, no_more, more, part}
+use Rattle.dsr_text.specs.Grammar.{rule_of, unit, literal}
 use Rattle.dsr_parse.specs.Machine.{accepts, among, nullable, first, begins, Move, enter, not_into, into_part, step, is_done}
 use Rattle.dsr_parse.proofs.Apart.{is_of, accepts_it, among_left, among_right}
 use Rattle.dsr_parse.proofs.Checked.{first_rule, nullable_rule}

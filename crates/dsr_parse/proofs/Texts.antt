@@ -1,10 +1,10 @@
 -- What the machine's end over the tokens of a text says of the text.
 use Rattle.std.specs.List.{slice_get}
 use Rattle.std.proofs.Common.{◌≡◌, ◌<◌, ◌+◌, ◌-◌, ◌⊎◌, inl, inr, ℕ, zero, suc, List, [], ◌∷◌, ◌++◌, length, Option, Some, None, sym, ap, subst, ◌∙◌, arith, append-nil, append_assoc}
-use Rattle.dsr_ir.specs.declared.tokens.Lexeme.{Lexeme}
-use Rattle.dsr_meaning.specs.Grammar.{spec}
-use Rattle.dsr_meaning.specs.Tokens.{IsLexed}
-use Rattle.dsr_meaning.specs.Sentences.{IsSentence, IsFront, StandFirst, IsSpecText, IsNoToken, IsUnexpected, at_token, at_end, IsPastLimit, past_limit}
+use Rattle.dsr_tree.specs.declared.tokens.Lexeme.{Lexeme}
+use Rattle.dsr_text.specs.Grammar.{spec}
+use Rattle.dsr_text.specs.Tokens.{IsLexed}
+use Rattle.dsr_text.specs.Sentences.{IsSentence, IsFront, StandFirst, IsSpecText, IsNoToken, IsUnexpected, at_token, at_end, IsPastLimit, past_limit}
 use Rattle.dsr_tokens.specs.Lexing.{IsFrontOf}
 use Rattle.dsr_tokens.proofs.Laws.{lexed_once, fault_not_lexed}
 use Rattle.dsr_tokens.proofs.Fronts.{front_stands, fewer_stand}

@@ -1,17 +1,17 @@
 -- What a fault rules out, and where it stands.
 use Rattle.std.proofs.Common.{◌≡◌, ◌≤◌, ◌<◌, ℕ, List, [], ◌∷◌, length, Some, None, inl, inr, ap, sym, ◌∙◌, refl, subst, arith}
 use Rattle.std.specs.Prelude.{◌⊎◌, slice_get, IsSomeAnd}
-use Rattle.dsr_ir.specs.Trees.{TreeShape}
-use Rattle.dsr_meaning.specs.Grammar.{spec}
-use Rattle.dsr_meaning.specs.Parsing.{IsTreeOf}
-use Rattle.dsr_meaning.specs.Phrases.{Phrase, Says}
-use Rattle.dsr_meaning.specs.TreeTexts.{tree_text}
+use Rattle.dsr_tree.specs.Trees.{TreeShape}
+use Rattle.dsr_text.specs.Grammar.{spec}
+use Rattle.dsr_text.specs.Parsing.{IsTreeOf}
+use Rattle.dsr_text.specs.Phrases.{Phrase, Says}
+use Rattle.dsr_text.specs.TreeTexts.{tree_text}
 use Rattle.dsr_tokens.specs.Lexing.{IsFrontOf}
 use Rattle.dsr_parse.specs.Reading.{Standing, Reads}
 use Rattle.dsr_parse.proofs.Sentences.{accepted}
 use Rattle.dsr_parse.proofs.Texts.{no_token}
-use Rattle.dsr_ir.specs.declared.tokens.Lexeme.{Lexeme}
-use Rattle.dsr_meaning.specs.Sentences.{IsSpecText}
+use Rattle.dsr_tree.specs.declared.tokens.Lexeme.{Lexeme}
+use Rattle.dsr_text.specs.Sentences.{IsSpecText}
 use Rattle.dsr_parse.specs.Faults.{HasFault, StopsBy}
 use Rattle.dsr_parse.specs.Machine.{run, Accepts, StopsAt}
 use Rattle.dsr_parse.specs.declared.parser.SyntaxFault.{SyntaxFault}

@@ -1,19 +1,19 @@
 -- The phrase of an expression, a formula or their parts, by the lists in it.
 use Rattle.std.proofs.Common.{◌≡◌, map, ap, ◌∙◌}
-use Rattle.dsr_ir.specs.declared.tree.Expr.{Expr, Expr-F, roll-Expr, out-roll-Expr}
-use Rattle.dsr_ir.specs.declared.tree.Formula.{Formula, Formula-F, roll-Formula, out-roll-Formula}
-use Rattle.dsr_ir.specs.declared.tree.Join.{Join}
-use Rattle.dsr_ir.specs.declared.tree.MoreTerm.{MoreTerm, roll-MoreTerm, rolls-MoreTerm'}
-use Rattle.dsr_ir.specs.declared.tree.Factor.{Factor}
-use Rattle.dsr_ir.specs.declared.tree.MoreFactor.{MoreFactor}
-use Rattle.dsr_ir.specs.declared.tree.SumSign.{SumSign}
-use Rattle.dsr_ir.specs.declared.tree.Term2.{Term2, Term2-F, roll-Term2, out-roll-Term2}
-use Rattle.dsr_ir.specs.declared.tree.Unit.{Unit as UnitOf}
-use Rattle.dsr_ir.specs.Trees.{formula_shape, join_shape, unit_shape}
-use Rattle.dsr_ir.specs.Trees.{expr_shape, term_shape, factor_shape, more_term_shape, more_factor_shape}
-use Rattle.dsr_meaning.specs.Phrases.{◌▸◌, in_turn}
-use Rattle.dsr_meaning.specs.TreeTexts.{formula_text, join_text, unit_text, more_join_text, more_unit_text}
-use Rattle.dsr_meaning.specs.TreeTexts.{expr_text, term2_text, factor_text, more_term_text, more_factor_text, sum_text}
+use Rattle.dsr_tree.specs.declared.tree.Expr.{Expr, Expr-F, roll-Expr, out-roll-Expr}
+use Rattle.dsr_tree.specs.declared.tree.Formula.{Formula, Formula-F, roll-Formula, out-roll-Formula}
+use Rattle.dsr_tree.specs.declared.tree.Join.{Join}
+use Rattle.dsr_tree.specs.declared.tree.MoreTerm.{MoreTerm, roll-MoreTerm, rolls-MoreTerm'}
+use Rattle.dsr_tree.specs.declared.tree.Factor.{Factor}
+use Rattle.dsr_tree.specs.declared.tree.MoreFactor.{MoreFactor}
+use Rattle.dsr_tree.specs.declared.tree.SumSign.{SumSign}
+use Rattle.dsr_tree.specs.declared.tree.Term2.{Term2, Term2-F, roll-Term2, out-roll-Term2}
+use Rattle.dsr_tree.specs.declared.tree.Unit.{Unit as UnitOf}
+use Rattle.dsr_tree.specs.Trees.{formula_shape, join_shape, unit_shape}
+use Rattle.dsr_tree.specs.Trees.{expr_shape, term_shape, factor_shape, more_term_shape, more_factor_shape}
+use Rattle.dsr_text.specs.Phrases.{◌▸◌, in_turn}
+use Rattle.dsr_text.specs.TreeTexts.{formula_text, join_text, unit_text, more_join_text, more_unit_text}
+use Rattle.dsr_text.specs.TreeTexts.{expr_text, term2_text, factor_text, more_term_text, more_factor_text, sum_text}
 use Rattle.dsr_print.proofs.Rows.{expr_is, term_is, formula_is, join_is}
 use Rattle.dsr_parse.proofs.Taking.{in_turn_mapped}
 

@@ -1,14 +1,14 @@
 -- A machine that reads the tokens of a text one at a time, and keeps a stack of what has to come.
 use Rattle.std.specs.Prelude.{ℕ, suc, List, [], ◌∷◌, ◌++◌, length, Bool, true, false, ◌&&◌, ◌||◌, nat_eq, Option, Some, None, if◌then◌else◌}
-use Rattle.dsr_ir.specs.declared.tokens.Keyword.TheVariants as keyword
-use Rattle.dsr_ir.specs.declared.tokens.Sign.TheVariants as sign
-use Rattle.dsr_ir.specs.contracts.tokens.KeywordPartialEq.TheImpl as same_keyword
-use Rattle.dsr_ir.specs.contracts.tokens.SignPartialEq.TheImpl as same_sign
-use Rattle.dsr_ir.specs.declared.tokens.Lexeme.{Lexeme}
-use Rattle.dsr_ir.specs.declared.tokens.Token.{Token}
-use Rattle.dsr_ir.specs.declared.tokens.Token.TheVariants as token
-use Rattle.dsr_meaning.specs.Syntax.{Class, a_word, a_mark, a_name, a_number, a_version, count_after, is_over, Part, an_expression, Syntax, One, Empty, Then, Either, Many, The}
-use Rattle.dsr_meaning.specs.Grammar.{rule_of}
+use Rattle.dsr_tree.specs.declared.tokens.Keyword.TheVariants as keyword
+use Rattle.dsr_tree.specs.declared.tokens.Sign.TheVariants as sign
+use Rattle.dsr_tree.specs.contracts.tokens.KeywordPartialEq.TheImpl as same_keyword
+use Rattle.dsr_tree.specs.contracts.tokens.SignPartialEq.TheImpl as same_sign
+use Rattle.dsr_tree.specs.declared.tokens.Lexeme.{Lexeme}
+use Rattle.dsr_tree.specs.declared.tokens.Token.{Token}
+use Rattle.dsr_tree.specs.declared.tokens.Token.TheVariants as token
+use Rattle.dsr_text.specs.Syntax.{Class, a_word, a_mark, a_name, a_number, a_version, count_after, is_over, Part, an_expression, Syntax, One, Empty, Then, Either, Many, The}
+use Rattle.dsr_text.specs.Grammar.{rule_of}
 
 -- whether the token is of the kind
 abbrev pub accepts : Class → Token → Bool

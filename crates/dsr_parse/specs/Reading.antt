@@ -1,20 +1,20 @@
 -- What readers of a text's tokens say.
 use Rattle.std.specs.Prelude.{◌≡◌, ℕ, List, [], ◌∷◌, ◌++◌, Bool, true, false, Option, Some, None}
-use Rattle.dsr_ir.specs.Trees.{more_term_shape, more_factor_shape, join_shape, unit_shape, field_shape, expr_shape, structure_shape, pool_shape, constraint_shape}
-use Rattle.dsr_ir.specs.declared.tokens.Keyword.TheVariants.{Slot}
-use Rattle.dsr_ir.specs.declared.tree.Constraint.{Constraint}
-use Rattle.dsr_ir.specs.declared.tree.Expr.{Expr}
-use Rattle.dsr_ir.specs.declared.tree.Field.{Field}
-use Rattle.dsr_ir.specs.declared.tree.Join.{Join}
-use Rattle.dsr_ir.specs.declared.tree.Pool.{Pool}
-use Rattle.dsr_ir.specs.declared.tree.Structure.{Structure}
-use Rattle.dsr_ir.specs.declared.tree.MoreFactor.{MoreFactor}
-use Rattle.dsr_ir.specs.declared.tree.MoreTerm.{MoreTerm}
-use Rattle.dsr_ir.specs.declared.tree.Unit.{Unit as UnitOf}
-use Rattle.dsr_ir.specs.declared.tokens.Lexeme.{Lexeme}
-use Rattle.dsr_meaning.specs.Phrases.{Phrase, Says, in_turn}
-use Rattle.dsr_meaning.specs.Syntax.{Syntax, Many}
-use Rattle.dsr_meaning.specs.TreeTexts.{more_term_text, more_factor_text, more_join_text, more_unit_text, field_text, brackets_text, structure_text, behind_text, pool_text, constraint_text}
+use Rattle.dsr_tree.specs.Trees.{more_term_shape, more_factor_shape, join_shape, unit_shape, field_shape, expr_shape, structure_shape, pool_shape, constraint_shape}
+use Rattle.dsr_tree.specs.declared.tokens.Keyword.TheVariants.{Slot}
+use Rattle.dsr_tree.specs.declared.tree.Constraint.{Constraint}
+use Rattle.dsr_tree.specs.declared.tree.Expr.{Expr}
+use Rattle.dsr_tree.specs.declared.tree.Field.{Field}
+use Rattle.dsr_tree.specs.declared.tree.Join.{Join}
+use Rattle.dsr_tree.specs.declared.tree.Pool.{Pool}
+use Rattle.dsr_tree.specs.declared.tree.Structure.{Structure}
+use Rattle.dsr_tree.specs.declared.tree.MoreFactor.{MoreFactor}
+use Rattle.dsr_tree.specs.declared.tree.MoreTerm.{MoreTerm}
+use Rattle.dsr_tree.specs.declared.tree.Unit.{Unit as UnitOf}
+use Rattle.dsr_tree.specs.declared.tokens.Lexeme.{Lexeme}
+use Rattle.dsr_text.specs.Phrases.{Phrase, Says, in_turn}
+use Rattle.dsr_text.specs.Syntax.{Syntax, Many}
+use Rattle.dsr_text.specs.TreeTexts.{more_term_text, more_factor_text, more_join_text, more_unit_text, field_text, brackets_text, structure_text, behind_text, pool_text, constraint_text}
 use Rattle.dsr_parse.specs.Machine.{run, Outcome, StopsAt, Exceeds, begins}
 use Rattle.dsr_parse.specs.declared.reader.Stop.{Stop}
 use Rattle.dsr_parse.specs.declared.reader.Stop.TheVariants.{NoMemory, Expected, Limit}

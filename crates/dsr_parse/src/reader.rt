@@ -1,8 +1,8 @@
 // The tokens of a text, read one after the other.
 ghost use Rattle.std.specs.Prelude.{◌≡◌, ◌<◌, ◌≤◌, ◌+◌, true, false, length, IfOk, IfErr, IfSome, IfNone, OnOk, ◌∷◌, []};
-ghost use Rattle.dsr_ir.specs.declared.tokens.Token.TheVariants as tokens;
+ghost use Rattle.dsr_tree.specs.declared.tokens.Token.TheVariants as tokens;
 ghost use Rattle.dsr_meaning.specs.Grammar as grammar;
-ghost use Rattle.dsr_meaning.specs.Syntax.{One, free, starts, counted, opening, a_word, a_mark, a_name, a_number, a_version};
+ghost use Rattle.dsr_text.specs.Syntax.{One, free, starts, counted, opening, a_word, a_mark, a_name, a_number, a_version};
 ghost use Rattle.dsr_meaning.specs.TreeTexts as texts;
 ghost use Rattle.dsr_parse.specs.Machine.{accepts};
 ghost use Rattle.dsr_parse.specs.Reading.{Reads, Halts, is_next};
@@ -15,8 +15,9 @@ mod formulas;
 mod rules;
 mod structures;
 
-use dsr_ir::tree::{PlacedName, PlacedNumber};
-use dsr_ir::{Keyword, Lexeme, NoMemory, Sign, Token, TryClone};
+use dsr_tree::{PlacedName, PlacedNumber};
+use dsr_ir::{NoMemory, TryClone};
+use dsr_tree::{Keyword, Lexeme, Sign, Token};
 use std::alloc::{AllocFailed, Global};
 use std::marker::Model;
 

@@ -1,19 +1,19 @@
 -- The tokens of a text determine its tree but for places.
 use Rattle.std.proofs.Common.{◌≡◌, List, [], ◌∷◌, ◌++◌, Bool, true, false, refl, sym, ap, ◌∙◌}
-use Rattle.dsr_ir.specs.Trees.{FormulaTree, formula_tree, join_tree, UnitTree, not_tree, given_tree, parenthesized_tree, atom_tree, TreeShape}
+use Rattle.dsr_tree.specs.Trees.{FormulaTree, formula_tree, join_tree, UnitTree, not_tree, given_tree, parenthesized_tree, atom_tree, TreeShape}
 use Rattle.dsr_ir.specs.declared.declarations.Order.TheVariants.{Little, Big}
-use Rattle.dsr_ir.specs.declared.tokens.Keyword.TheVariants as keyword
-use Rattle.dsr_ir.specs.declared.tokens.Sign.TheVariants as sign
-use Rattle.dsr_ir.specs.declared.tokens.Token.{Token}
-use Rattle.dsr_ir.specs.declared.tokens.Token.TheVariants as token
-use Rattle.dsr_ir.specs.declared.tree.Atom.{Atom}
-use Rattle.dsr_ir.specs.declared.tree.Atom.TheVariants as atoms
-use Rattle.dsr_ir.specs.declared.tree.Binder.TheVariants as binders
-use Rattle.dsr_ir.specs.declared.tree.Var.{Var}
-use Rattle.dsr_ir.specs.declared.tree.Var.TheVariants as vars
-use Rattle.dsr_meaning.specs.Bare.{bare_structure, bare_pool, bare_set, bare_relation, bare_fresh, bare_rule, bare_binder, bare_quantifier, bare_constraint, bare_tree}
-use Rattle.dsr_meaning.specs.Phrases.{tokens_of, in_turn}
-use Rattle.dsr_meaning.specs.TreeTexts.{var_text, atom_text, unit_text, formula_text, structure_text, pool_text, set_text, relation_text, fresh_text, rule_text, binder_text, quantifier_text, constraint_text, endian_text, tree_text}
+use Rattle.dsr_tree.specs.declared.tokens.Keyword.TheVariants as keyword
+use Rattle.dsr_tree.specs.declared.tokens.Sign.TheVariants as sign
+use Rattle.dsr_tree.specs.declared.tokens.Token.{Token}
+use Rattle.dsr_tree.specs.declared.tokens.Token.TheVariants as token
+use Rattle.dsr_tree.specs.declared.tree.Atom.{Atom}
+use Rattle.dsr_tree.specs.declared.tree.Atom.TheVariants as atoms
+use Rattle.dsr_tree.specs.declared.tree.Binder.TheVariants as binders
+use Rattle.dsr_tree.specs.declared.tree.Var.{Var}
+use Rattle.dsr_tree.specs.declared.tree.Var.TheVariants as vars
+use Rattle.dsr_text.specs.Bare.{bare_structure, bare_pool, bare_set, bare_relation, bare_fresh, bare_rule, bare_binder, bare_quantifier, bare_constraint, bare_tree}
+use Rattle.dsr_text.specs.Phrases.{tokens_of, in_turn}
+use Rattle.dsr_text.specs.TreeTexts.{var_text, atom_text, unit_text, formula_text, structure_text, pool_text, set_text, relation_text, fresh_text, rule_text, binder_text, quantifier_text, constraint_text, endian_text, tree_text}
 use Rattle.dsr_print.proofs.After.{after, spoken, begins, Once, maybe_once, past, in_turn_once, rest}
 use Rattle.dsr_print.proofs.OnceExprs.{name_once}
 use Rattle.dsr_print.proofs.OnceFormulas.{formula_once}

@@ -1,19 +1,19 @@
 -- The tokens of an atom determine it but for places.
 use Rattle.std.proofs.Common.{◌≡◌, List, ◌∷◌, Bool, true, false, refl, sym, ap, ◌∙◌}
-use Rattle.dsr_ir.specs.declared.tokens.Keyword.TheVariants as keyword
-use Rattle.dsr_ir.specs.declared.tokens.Sign.TheVariants as sign
-use Rattle.dsr_ir.specs.declared.tokens.Token.{Token}
-use Rattle.dsr_ir.specs.declared.tokens.Token.TheVariants as token
-use Rattle.dsr_ir.specs.declared.tree.Atom.TheVariants as atoms
-use Rattle.dsr_ir.specs.declared.tree.Bound.{Bound}
-use Rattle.dsr_ir.specs.declared.tree.Bound.TheVariants as bounds
-use Rattle.dsr_ir.specs.declared.tree.Compare.{Compare}
-use Rattle.dsr_ir.specs.declared.tree.Compare.TheVariants as compares
-use Rattle.dsr_ir.specs.declared.tree.Measure.TheVariants as measures
-use Rattle.dsr_ir.specs.declared.tree.Var.{Var}
-use Rattle.dsr_ir.specs.declared.tree.Var.TheVariants as vars
-use Rattle.dsr_meaning.specs.Bare.{bare_name, bare_var, bare_size, bare_measure, bare_atom}
-use Rattle.dsr_meaning.specs.TreeTexts.{var_text, bound_text, compare_text, size_part_text, size_text, measure_text, atom_text}
+use Rattle.dsr_tree.specs.declared.tokens.Keyword.TheVariants as keyword
+use Rattle.dsr_tree.specs.declared.tokens.Sign.TheVariants as sign
+use Rattle.dsr_tree.specs.declared.tokens.Token.{Token}
+use Rattle.dsr_tree.specs.declared.tokens.Token.TheVariants as token
+use Rattle.dsr_tree.specs.declared.tree.Atom.TheVariants as atoms
+use Rattle.dsr_tree.specs.declared.tree.Bound.{Bound}
+use Rattle.dsr_tree.specs.declared.tree.Bound.TheVariants as bounds
+use Rattle.dsr_tree.specs.declared.tree.Compare.{Compare}
+use Rattle.dsr_tree.specs.declared.tree.Compare.TheVariants as compares
+use Rattle.dsr_tree.specs.declared.tree.Measure.TheVariants as measures
+use Rattle.dsr_tree.specs.declared.tree.Var.{Var}
+use Rattle.dsr_tree.specs.declared.tree.Var.TheVariants as vars
+use Rattle.dsr_text.specs.Bare.{bare_name, bare_var, bare_size, bare_measure, bare_atom}
+use Rattle.dsr_text.specs.TreeTexts.{var_text, bound_text, compare_text, size_part_text, size_text, measure_text, atom_text}
 use Rattle.dsr_print.proofs.After.{after, begins, clash, Once, maybe_once, behind, rest}
 use Rattle.dsr_print.proofs.OnceExprs.{name_once, number_once}
 

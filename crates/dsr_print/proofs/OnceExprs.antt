@@ -1,15 +1,15 @@
 -- The tokens of an expression determine it but for places.
 use Rattle.std.proofs.Common.{◌≡◌, List, ◌∷◌, Bool, true, false, refl, sym, ap}
-use Rattle.dsr_ir.specs.Trees.{ExprTree, expr_tree, MoreTermTrees, no_terms, more_terms, term_tree, no_factors, more_factors, number_tree, name_tree, group_tree}
-use Rattle.dsr_ir.specs.declared.tokens.Sign.TheVariants as sign
-use Rattle.dsr_ir.specs.declared.tokens.Token.{Token}
-use Rattle.dsr_ir.specs.declared.tokens.Token.TheVariants as token
-use Rattle.dsr_ir.specs.declared.tree.ProductSign.{ProductSign}
-use Rattle.dsr_ir.specs.declared.tree.ProductSign.TheVariants as products
-use Rattle.dsr_ir.specs.declared.tree.SumSign.{SumSign}
-use Rattle.dsr_ir.specs.declared.tree.SumSign.TheVariants as sums
-use Rattle.dsr_meaning.specs.Bare.{bare_name, bare_number, bare_expr, bare_more_terms, bare_term2, bare_more_factors, bare_factor}
-use Rattle.dsr_meaning.specs.TreeTexts.{name_text, number_text, sum_text, product_text, expr_text, more_terms_text, term2_text, more_factors_text, factor_text}
+use Rattle.dsr_tree.specs.Trees.{ExprTree, expr_tree, MoreTermTrees, no_terms, more_terms, term_tree, no_factors, more_factors, number_tree, name_tree, group_tree}
+use Rattle.dsr_tree.specs.declared.tokens.Sign.TheVariants as sign
+use Rattle.dsr_tree.specs.declared.tokens.Token.{Token}
+use Rattle.dsr_tree.specs.declared.tokens.Token.TheVariants as token
+use Rattle.dsr_tree.specs.declared.tree.ProductSign.{ProductSign}
+use Rattle.dsr_tree.specs.declared.tree.ProductSign.TheVariants as products
+use Rattle.dsr_tree.specs.declared.tree.SumSign.{SumSign}
+use Rattle.dsr_tree.specs.declared.tree.SumSign.TheVariants as sums
+use Rattle.dsr_text.specs.Bare.{bare_name, bare_number, bare_expr, bare_more_terms, bare_term2, bare_more_factors, bare_factor}
+use Rattle.dsr_text.specs.TreeTexts.{name_text, number_text, sum_text, product_text, expr_text, more_terms_text, term2_text, more_factors_text, factor_text}
 use Rattle.dsr_print.proofs.After.{after, begins, clash, Once, OnceBefore, either, not_first, rest}
 
 pub name_once : Once name_text bare_name

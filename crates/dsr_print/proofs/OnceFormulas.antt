@@ -1,16 +1,16 @@
 -- The tokens of a formula determine it but for places.
 use Rattle.std.proofs.Common.{◌≡◌, List, ◌∷◌, Bool, true, false, refl, sym, ap}
-use Rattle.dsr_ir.specs.Trees.{formula_tree, JoinTrees, no_joins, more_joins, join_tree, no_units, more_units, not_tree, given_tree, parenthesized_tree, atom_tree}
-use Rattle.dsr_ir.specs.declared.tokens.Keyword.TheVariants as keyword
-use Rattle.dsr_ir.specs.declared.tokens.Sign.TheVariants as sign
-use Rattle.dsr_ir.specs.declared.tokens.Token.{Token}
-use Rattle.dsr_ir.specs.declared.tokens.Token.TheVariants as token
-use Rattle.dsr_ir.specs.declared.tree.Atom.{Atom}
-use Rattle.dsr_ir.specs.declared.tree.Atom.TheVariants as atoms
-use Rattle.dsr_ir.specs.declared.tree.Var.{Var}
-use Rattle.dsr_ir.specs.declared.tree.Var.TheVariants as vars
-use Rattle.dsr_meaning.specs.Bare.{bare_formula, bare_joins, bare_join, bare_units, bare_unit}
-use Rattle.dsr_meaning.specs.TreeTexts.{var_text, atom_text, formula_text, joins_text, join_text, units_text, unit_text}
+use Rattle.dsr_tree.specs.Trees.{formula_tree, JoinTrees, no_joins, more_joins, join_tree, no_units, more_units, not_tree, given_tree, parenthesized_tree, atom_tree}
+use Rattle.dsr_tree.specs.declared.tokens.Keyword.TheVariants as keyword
+use Rattle.dsr_tree.specs.declared.tokens.Sign.TheVariants as sign
+use Rattle.dsr_tree.specs.declared.tokens.Token.{Token}
+use Rattle.dsr_tree.specs.declared.tokens.Token.TheVariants as token
+use Rattle.dsr_tree.specs.declared.tree.Atom.{Atom}
+use Rattle.dsr_tree.specs.declared.tree.Atom.TheVariants as atoms
+use Rattle.dsr_tree.specs.declared.tree.Var.{Var}
+use Rattle.dsr_tree.specs.declared.tree.Var.TheVariants as vars
+use Rattle.dsr_text.specs.Bare.{bare_formula, bare_joins, bare_join, bare_units, bare_unit}
+use Rattle.dsr_text.specs.TreeTexts.{var_text, atom_text, formula_text, joins_text, join_text, units_text, unit_text}
 use Rattle.dsr_print.proofs.After.{after, begins, clash, Once, OnceBefore, either, not_first, rest}
 use Rattle.dsr_print.proofs.OnceAtoms.{atom_once}
 

@@ -1,14 +1,14 @@
 -- The tokens of a pool, a set, a relation and a supply determine it but for places.
 use Rattle.std.proofs.Common.{◌≡◌, List, ◌∷◌, Bool, true, false, refl, ap}
-use Rattle.dsr_ir.specs.declared.tokens.Keyword.TheVariants as keyword
-use Rattle.dsr_ir.specs.declared.tokens.Sign.TheVariants as sign
-use Rattle.dsr_ir.specs.declared.tokens.Token.{Token}
-use Rattle.dsr_ir.specs.declared.tokens.Token.TheVariants as token
-use Rattle.dsr_ir.specs.declared.tree.Target.TheVariants as targets
-use Rattle.dsr_ir.specs.declared.tree.View.{View}
-use Rattle.dsr_ir.specs.declared.tree.View.TheVariants as views
-use Rattle.dsr_meaning.specs.Bare.{bare_name, bare_expr, bare_pool, bare_view, bare_set, bare_target, bare_relation, bare_fresh}
-use Rattle.dsr_meaning.specs.TreeTexts.{expr_text, behind_text, pool_text, view_text, set_text, target_text, relation_text, more_name_text, fresh_text}
+use Rattle.dsr_tree.specs.declared.tokens.Keyword.TheVariants as keyword
+use Rattle.dsr_tree.specs.declared.tokens.Sign.TheVariants as sign
+use Rattle.dsr_tree.specs.declared.tokens.Token.{Token}
+use Rattle.dsr_tree.specs.declared.tokens.Token.TheVariants as token
+use Rattle.dsr_tree.specs.declared.tree.Target.TheVariants as targets
+use Rattle.dsr_tree.specs.declared.tree.View.{View}
+use Rattle.dsr_tree.specs.declared.tree.View.TheVariants as views
+use Rattle.dsr_text.specs.Bare.{bare_name, bare_expr, bare_pool, bare_view, bare_set, bare_target, bare_relation, bare_fresh}
+use Rattle.dsr_text.specs.TreeTexts.{expr_text, behind_text, pool_text, view_text, set_text, target_text, relation_text, more_name_text, fresh_text}
 use Rattle.dsr_print.proofs.After.{after, begins, Once, OnceBefore, maybe_once, maybe_once_open, in_turn_once, either, not_first, rest}
 use Rattle.dsr_print.proofs.OnceAtoms.{var_once}
 use Rattle.dsr_print.proofs.OnceExprs.{name_once, is_operator, expr_once, expr_then}

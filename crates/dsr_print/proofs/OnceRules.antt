@@ -1,25 +1,25 @@
 -- The tokens of a rule determine it but for places.
 use Rattle.std.proofs.Common.{◌≡◌, List, ◌∷◌, Bool, true, false, Option, Some, None, refl, sym, ap, ◌∙◌}
 use Rattle.std.specs.Prelude.{option_map}
-use Rattle.dsr_ir.specs.declared.tokens.Keyword.{Keyword}
-use Rattle.dsr_ir.specs.declared.tokens.Keyword.TheVariants as keyword
-use Rattle.dsr_ir.specs.declared.tokens.Sign.TheVariants as sign
-use Rattle.dsr_ir.specs.declared.tokens.Token.{Token}
-use Rattle.dsr_ir.specs.declared.tokens.Token.TheVariants as token
-use Rattle.dsr_ir.specs.declared.tree.Compare.{Compare}
-use Rattle.dsr_ir.specs.declared.tree.Compare.TheVariants as compares
-use Rattle.dsr_ir.specs.declared.tree.Guard.TheVariants as guards
-use Rattle.dsr_ir.specs.declared.tree.Guards.{Guards}
-use Rattle.dsr_ir.specs.declared.tree.Inclusion.TheVariants as inclusions
-use Rattle.dsr_ir.specs.declared.tree.Index.TheVariants as indexes
-use Rattle.dsr_ir.specs.declared.tree.MemberPart.{MemberPart}
-use Rattle.dsr_ir.specs.declared.tree.MemberPart.TheVariants as member_parts
-use Rattle.dsr_ir.specs.declared.tree.Premise.TheVariants as premises
-use Rattle.dsr_ir.specs.declared.tree.RefTest.{RefTest}
-use Rattle.dsr_ir.specs.declared.tree.RefTest.TheVariants as tests
-use Rattle.dsr_ir.specs.declared.tree.Term.TheVariants as terms
-use Rattle.dsr_meaning.specs.Bare.{bare_name, bare_path, bare_premise, bare_index, bare_span, bare_guard, bare_guards, bare_term, bare_member_part, bare_member, bare_inclusion, bare_rule}
-use Rattle.dsr_meaning.specs.TreeTexts.{maybe_text, compare_text, index_text, path_text, premise_text, index_source_text, span_text, test_word, guard_text, more_guard_text, guards_text, term_text, member_part_text, member_text, inclusion_text, rule_text}
+use Rattle.dsr_tree.specs.declared.tokens.Keyword.{Keyword}
+use Rattle.dsr_tree.specs.declared.tokens.Keyword.TheVariants as keyword
+use Rattle.dsr_tree.specs.declared.tokens.Sign.TheVariants as sign
+use Rattle.dsr_tree.specs.declared.tokens.Token.{Token}
+use Rattle.dsr_tree.specs.declared.tokens.Token.TheVariants as token
+use Rattle.dsr_tree.specs.declared.tree.Compare.{Compare}
+use Rattle.dsr_tree.specs.declared.tree.Compare.TheVariants as compares
+use Rattle.dsr_tree.specs.declared.tree.Guard.TheVariants as guards
+use Rattle.dsr_tree.specs.declared.tree.Guards.{Guards}
+use Rattle.dsr_tree.specs.declared.tree.Inclusion.TheVariants as inclusions
+use Rattle.dsr_tree.specs.declared.tree.Index.TheVariants as indexes
+use Rattle.dsr_tree.specs.declared.tree.MemberPart.{MemberPart}
+use Rattle.dsr_tree.specs.declared.tree.MemberPart.TheVariants as member_parts
+use Rattle.dsr_tree.specs.declared.tree.Premise.TheVariants as premises
+use Rattle.dsr_tree.specs.declared.tree.RefTest.{RefTest}
+use Rattle.dsr_tree.specs.declared.tree.RefTest.TheVariants as tests
+use Rattle.dsr_tree.specs.declared.tree.Term.TheVariants as terms
+use Rattle.dsr_text.specs.Bare.{bare_name, bare_path, bare_premise, bare_index, bare_span, bare_guard, bare_guards, bare_term, bare_member_part, bare_member, bare_inclusion, bare_rule}
+use Rattle.dsr_text.specs.TreeTexts.{maybe_text, compare_text, index_text, path_text, premise_text, index_source_text, span_text, test_word, guard_text, more_guard_text, guards_text, term_text, member_part_text, member_text, inclusion_text, rule_text}
 use Rattle.dsr_print.proofs.After.{after, begins, clash, Once, OnceBefore, maybe_once, maybe_once_open, in_turn_once, either, not_first, rest}
 use Rattle.dsr_print.proofs.OnceAtoms.{var_once, is_var, var_opens, compare_once, is_dot}
 use Rattle.dsr_print.proofs.OnceExprs.{name_once, number_once}

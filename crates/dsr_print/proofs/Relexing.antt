@@ -1,14 +1,14 @@
 -- The canonical text of a tree has the tree's tokens.
 use Rattle.std.proofs.Common.{◌≡◌, ℕ, List, [], ◌∷◌, ◌++◌, length, Bool, false, ◌&&◌, refl, ap, ◌∙◌, sym, subst, map, append_assoc, arith}
-use Rattle.dsr_ir.specs.Trees.{TreeShape}
-use Rattle.dsr_ir.specs.declared.tokens.Lexeme.{Lexeme}
-use Rattle.dsr_ir.specs.declared.tokens.Token.{Token}
-use Rattle.dsr_meaning.specs.Canonical.{canonical}
-use Rattle.dsr_meaning.specs.Phrases.{Phrase, tokens_of, Says, says_nothing, says, says_at, says_both}
-use Rattle.dsr_meaning.specs.Sentences.{within}
-use Rattle.dsr_meaning.specs.Syntax.{Marked}
-use Rattle.dsr_meaning.specs.Tokens.{is_version, is_two, is_second_version, IsCut, IsLexed}
-use Rattle.dsr_meaning.specs.TreeTexts.{tree_text}
+use Rattle.dsr_tree.specs.Trees.{TreeShape}
+use Rattle.dsr_tree.specs.declared.tokens.Lexeme.{Lexeme}
+use Rattle.dsr_tree.specs.declared.tokens.Token.{Token}
+use Rattle.dsr_text.specs.Canonical.{canonical}
+use Rattle.dsr_text.specs.Phrases.{Phrase, tokens_of, Says, says_nothing, says, says_at, says_both}
+use Rattle.dsr_text.specs.Sentences.{within}
+use Rattle.dsr_text.specs.Syntax.{Marked}
+use Rattle.dsr_text.specs.Tokens.{is_version, is_two, is_second_version, IsCut, IsLexed}
+use Rattle.dsr_text.specs.TreeTexts.{tree_text}
 use Rattle.dsr_print.specs.Relexed.{Relexed}
 use Rattle.dsr_print.proofs.Spacing.{canonical_spaced}
 use Rattle.dsr_print.proofs.Spaces.{AreWell, well_cut, Spaced, placed, placed_tokens, cut_spaced}

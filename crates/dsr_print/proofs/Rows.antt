@@ -1,18 +1,18 @@
 -- The phrase of an expression, a formula or their parts, by the lists in it.
 use Rattle.std.proofs.Common.{◌≡◌, List, [], ◌∷◌, map, Vec, refl, ap, sym, ◌∙◌}
 use Rattle.std.specs.declared.alloc.Global.{Global}
-use Rattle.dsr_ir.specs.declared.tree.Expr.{Expr, out-Expr, is-Expr', Row_of-MoreTerm, end_of-MoreTerm, more_of-MoreTerm, items-the_row-MoreTerm, items_hidden-the_row-MoreTerm-0}
-use Rattle.dsr_ir.specs.declared.tree.Factor.TheBlock.{hidden-the_row-MoreTerm-0, hidden-the_row-MoreFactor-1}
-use Rattle.dsr_ir.specs.declared.tree.Formula.{Formula, out-Formula, is-Formula', Row_of-Join, end_of-Join, more_of-Join, items-the_row-Join, items_hidden-the_row-Join-1}
-use Rattle.dsr_ir.specs.declared.tree.Join.{Join, Row_of-Unit, end_of-Unit, more_of-Unit, items-the_row-Unit, items_shown-the_row-Unit-0, items_hidden-the_row-Unit-0}
-use Rattle.dsr_ir.specs.declared.tree.MoreTerm.{MoreTerm, MoreTerm', out-MoreTerm, is-MoreTerm'}
-use Rattle.dsr_ir.specs.declared.tree.MoreFactor.{MoreFactor}
-use Rattle.dsr_ir.specs.declared.tree.Term2.{Term2, out-Term2, is-Term2', Row_of-MoreFactor, end_of-MoreFactor, more_of-MoreFactor, items-the_row-MoreFactor, items_hidden-the_row-MoreFactor-1}
-use Rattle.dsr_ir.specs.declared.tree.Unit.{Unit as UnitOf}
-use Rattle.dsr_ir.specs.declared.tree.Unit.TheBlock.{hidden-the_row-Unit-0, hidden-the_row-Join-1}
-use Rattle.dsr_ir.specs.Trees.{JoinTree, JoinTrees, UnitTree, join_tree, more_joins, more_units, in_joins, in_units, formula_shape, joins_shape, join_shape, units_shape, unit_shape, expr_shape, terms_shape, term_shape, factors_shape, factor_shape, more_term_shape, more_factor_shape}
-use Rattle.dsr_meaning.specs.Phrases.{◌▸◌, in_turn}
-use Rattle.dsr_meaning.specs.TreeTexts.{formula_text, joins_text, join_text, units_text, unit_text, expr_text, more_terms_text, term2_text, more_factors_text, factor_text, more_term_text, more_factor_text, sum_text, product_text}
+use Rattle.dsr_tree.specs.declared.tree.Expr.{Expr, out-Expr, is-Expr', Row_of-MoreTerm, end_of-MoreTerm, more_of-MoreTerm, items-the_row-MoreTerm, items_hidden-the_row-MoreTerm-0}
+use Rattle.dsr_tree.specs.declared.tree.Factor.TheBlock.{hidden-the_row-MoreTerm-0, hidden-the_row-MoreFactor-1}
+use Rattle.dsr_tree.specs.declared.tree.Formula.{Formula, out-Formula, is-Formula', Row_of-Join, end_of-Join, more_of-Join, items-the_row-Join, items_hidden-the_row-Join-1}
+use Rattle.dsr_tree.specs.declared.tree.Join.{Join, Row_of-Unit, end_of-Unit, more_of-Unit, items-the_row-Unit, items_shown-the_row-Unit-0, items_hidden-the_row-Unit-0}
+use Rattle.dsr_tree.specs.declared.tree.MoreTerm.{MoreTerm, MoreTerm', out-MoreTerm, is-MoreTerm'}
+use Rattle.dsr_tree.specs.declared.tree.MoreFactor.{MoreFactor}
+use Rattle.dsr_tree.specs.declared.tree.Term2.{Term2, out-Term2, is-Term2', Row_of-MoreFactor, end_of-MoreFactor, more_of-MoreFactor, items-the_row-MoreFactor, items_hidden-the_row-MoreFactor-1}
+use Rattle.dsr_tree.specs.declared.tree.Unit.{Unit as UnitOf}
+use Rattle.dsr_tree.specs.declared.tree.Unit.TheBlock.{hidden-the_row-Unit-0, hidden-the_row-Join-1}
+use Rattle.dsr_tree.specs.Trees.{JoinTree, JoinTrees, UnitTree, join_tree, more_joins, more_units, in_joins, in_units, formula_shape, joins_shape, join_shape, units_shape, unit_shape, expr_shape, terms_shape, term_shape, factors_shape, factor_shape, more_term_shape, more_factor_shape}
+use Rattle.dsr_text.specs.Phrases.{◌▸◌, in_turn}
+use Rattle.dsr_text.specs.TreeTexts.{formula_text, joins_text, join_text, units_text, unit_text, expr_text, more_terms_text, term2_text, more_factors_text, factor_text, more_term_text, more_factor_text, sum_text, product_text}
 use Rattle.dsr_print.specs.Writing.{behind_or, behind_and}
 
 terms_row : {n : _} (row : Row_of-MoreTerm n) → more_terms_text (terms_shape row) ≡ in_turn more_term_text (map more_term_shape (items-the_row-MoreTerm n row))

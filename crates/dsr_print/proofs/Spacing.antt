@@ -1,11 +1,11 @@
 -- The canonical text has each token's spelling with a blank behind it.
 use Rattle.std.proofs.Common.{◌≡◌, ℕ, List, [], ◌∷◌, ◌++◌, refl, sym, subst, append_assoc}
 use Rattle.std.proofs.lemmas.List.{append-nil}
-use Rattle.dsr_ir.specs.Trees.{TreeShape}
-use Rattle.dsr_ir.specs.declared.tokens.Token.{Token}
-use Rattle.dsr_meaning.specs.Canonical.{token_spelling, joined, line_of, lines_of, canonical}
-use Rattle.dsr_meaning.specs.Phrases.{Phrase, tokens_of, in_turn}
-use Rattle.dsr_meaning.specs.TreeTexts.{version_text, order_text, structure_text, pool_text, set_text, relation_text, fresh_text, rule_text, constraint_text, tree_text}
+use Rattle.dsr_tree.specs.Trees.{TreeShape}
+use Rattle.dsr_tree.specs.declared.tokens.Token.{Token}
+use Rattle.dsr_text.specs.Canonical.{token_spelling, joined, line_of, lines_of, canonical}
+use Rattle.dsr_text.specs.Phrases.{Phrase, tokens_of, in_turn}
+use Rattle.dsr_text.specs.TreeTexts.{version_text, order_text, structure_text, pool_text, set_text, relation_text, fresh_text, rule_text, constraint_text, tree_text}
 use Rattle.dsr_print.proofs.Spaces.{Spaced, nothing, spaced}
 
 -- the phrase has a token

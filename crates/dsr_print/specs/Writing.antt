@@ -1,14 +1,14 @@
 -- What is written behind a text, step by step.
 use Rattle.std.specs.Prelude.{◌≡◌, ℕ, List, [], ◌∷◌, ◌++◌}
-use Rattle.dsr_ir.specs.Trees.{ExprTree, FormulaTree, JoinTree, UnitTree}
-use Rattle.dsr_ir.specs.declared.tokens.Keyword.TheVariants as keyword
-use Rattle.dsr_ir.specs.declared.tokens.Sign.TheVariants as sign
-use Rattle.dsr_ir.specs.declared.tokens.Token.{Token}
-use Rattle.dsr_ir.specs.declared.tree.PlacedName.{PlacedName}
-use Rattle.dsr_ir.specs.declared.tree.Var.{Var}
-use Rattle.dsr_meaning.specs.Canonical.{token_spelling, line_of}
-use Rattle.dsr_meaning.specs.Phrases.{Phrase, tokens_of, ◌▸◌}
-use Rattle.dsr_meaning.specs.TreeTexts.{word, mark, name_text, var_text, expr_text, formula_text, join_text, unit_text}
+use Rattle.dsr_tree.specs.Trees.{ExprTree, FormulaTree, JoinTree, UnitTree}
+use Rattle.dsr_tree.specs.declared.tokens.Keyword.TheVariants as keyword
+use Rattle.dsr_tree.specs.declared.tokens.Sign.TheVariants as sign
+use Rattle.dsr_tree.specs.declared.tokens.Token.{Token}
+use Rattle.dsr_tree.specs.declared.tree.PlacedName.{PlacedName}
+use Rattle.dsr_tree.specs.declared.tree.Var.{Var}
+use Rattle.dsr_text.specs.Canonical.{token_spelling, line_of}
+use Rattle.dsr_text.specs.Phrases.{Phrase, tokens_of, ◌▸◌}
+use Rattle.dsr_text.specs.TreeTexts.{word, mark, name_text, var_text, expr_text, formula_text, join_text, unit_text}
 
 -- tokens with a space before each
 abbrev pub spaced : List Token → List ℕ

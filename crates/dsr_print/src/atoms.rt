@@ -1,11 +1,12 @@
 // The text of an atom, and of what rules and atoms share.
 ghost use Rattle.std.specs.Prelude.{OnOk};
-ghost use Rattle.dsr_meaning.specs.TreeTexts.{var_text, bound_text, compare_text, maybe_text, size_part_text, size_text, measure_text, atom_text};
+ghost use Rattle.dsr_text.specs.TreeTexts.{var_text, bound_text, compare_text, maybe_text, size_part_text, size_text, measure_text, atom_text};
 ghost use Rattle.dsr_print.specs.Writing.{Adds, pair_text};
 
 use crate::marks::{add_keyword, add_name, add_number, add_sign};
-use dsr_ir::tree::{Atom, Bound, Compare, Measure, PlacedName, Size, Var};
-use dsr_ir::{Keyword, NoMemory, Sign};
+use dsr_tree::{Atom, Bound, Compare, Measure, PlacedName, Size, Var};
+use dsr_ir::NoMemory;
+use dsr_tree::{Keyword, Sign};
 
 pub fn add_var(text: &mut Vec<u8>, var: &Var) -> Result<(), NoMemory>
     ensures { OnOk result (Adds (var_text var.now) text.old.items text.new.items) }

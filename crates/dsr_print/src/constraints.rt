@@ -1,13 +1,14 @@
 // The line of a constraint.
 ghost use Rattle.std.specs.Prelude.{OnOk};
-ghost use Rattle.dsr_meaning.specs.TreeTexts.{binder_text, maybe_text, quantifier_text};
+ghost use Rattle.dsr_text.specs.TreeTexts.{binder_text, maybe_text, quantifier_text};
 ghost use Rattle.dsr_print.specs.Writing.{Adds};
 
 use crate::formulas::add_formula;
 use crate::lines::Declaration;
 use crate::marks::{add_keyword, add_name, add_sign, begin_line, end_line};
-use dsr_ir::tree::{Binder, Constraint, Quantifier};
-use dsr_ir::{Keyword, NoMemory, Sign};
+use dsr_tree::{Binder, Constraint, Quantifier};
+use dsr_ir::NoMemory;
+use dsr_tree::{Keyword, Sign};
 
 fn add_binder(text: &mut Vec<u8>, binder: &Binder) -> Result<(), NoMemory>
     ensures { OnOk result (Adds (binder_text binder.now) text.old.items text.new.items) }
@@ -44,8 +45,8 @@ fn add_quantifier(text: &mut Vec<u8>, quantifier: &Option<Quantifier>) -> Result
 }
 
 impl Declaration for Constraint {
-    ghost use Rattle.dsr_ir.specs.Trees.{constraint_shape};
-    ghost use Rattle.dsr_meaning.specs.TreeTexts.{constraint_text};
+    ghost use Rattle.dsr_tree.specs.Trees.{constraint_shape};
+    ghost use Rattle.dsr_text.specs.TreeTexts.{constraint_text};
 
     ghost phrase = { λ c. constraint_text (constraint_shape c) };
 

@@ -1,13 +1,14 @@
 // The text of an expression.
 ghost use Rattle.std.specs.Prelude.{OnOk, map};
-ghost use Rattle.dsr_ir.specs.Trees.{expr_shape, term_shape, factor_shape, more_term_shape, more_factor_shape};
-ghost use Rattle.dsr_meaning.specs.Phrases.{in_turn};
-ghost use Rattle.dsr_meaning.specs.TreeTexts.{expr_text, term2_text, factor_text, more_term_text, more_factor_text, sum_text, product_text};
+ghost use Rattle.dsr_tree.specs.Trees.{expr_shape, term_shape, factor_shape, more_term_shape, more_factor_shape};
+ghost use Rattle.dsr_text.specs.Phrases.{in_turn};
+ghost use Rattle.dsr_text.specs.TreeTexts.{expr_text, term2_text, factor_text, more_term_text, more_factor_text, sum_text, product_text};
 ghost use Rattle.dsr_print.specs.Writing.{Adds, group_text};
 
 use crate::marks::{add_name, add_number, add_sign};
-use dsr_ir::tree::{Expr, Factor, MoreFactor, MoreTerm, ProductSign, SumSign, Term2};
-use dsr_ir::{NoMemory, Sign};
+use dsr_tree::{Expr, Factor, MoreFactor, MoreTerm, ProductSign, SumSign, Term2};
+use dsr_ir::NoMemory;
+use dsr_tree::Sign;
 
 fn add_sum_sign(text: &mut Vec<u8>, sum: SumSign) -> Result<(), NoMemory>
     ensures { OnOk result (Adds (sum_text sum) text.old.items text.new.items) }

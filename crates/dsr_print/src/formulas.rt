@@ -1,14 +1,15 @@
 // The text of a formula.
 ghost use Rattle.std.specs.Prelude.{OnOk, map};
-ghost use Rattle.dsr_ir.specs.Trees.{formula_shape, join_shape, unit_shape};
-ghost use Rattle.dsr_meaning.specs.Phrases.{in_turn};
-ghost use Rattle.dsr_meaning.specs.TreeTexts.{formula_text, join_text, unit_text};
+ghost use Rattle.dsr_tree.specs.Trees.{formula_shape, join_shape, unit_shape};
+ghost use Rattle.dsr_text.specs.Phrases.{in_turn};
+ghost use Rattle.dsr_text.specs.TreeTexts.{formula_text, join_text, unit_text};
 ghost use Rattle.dsr_print.specs.Writing.{Adds, behind_or, behind_and, not_text, given_text, parenthesized_text};
 
 use crate::atoms::add_atom;
 use crate::marks::{add_keyword, add_sign};
-use dsr_ir::tree::{Formula, Join, Unit};
-use dsr_ir::{Keyword, NoMemory, Sign};
+use dsr_tree::{Formula, Join, Unit};
+use dsr_ir::NoMemory;
+use dsr_tree::{Keyword, Sign};
 
 #[cycle(formula)]
 pub fn add_formula(text: &mut Vec<u8>, formula: &Formula) -> Result<(), NoMemory>

@@ -12,16 +12,17 @@ mod rules;
 mod structures;
 
 ghost use Rattle.std.specs.Prelude.{◌≡◌, ℕ, List, IfOk, OnOk};
-ghost use Rattle.dsr_ir.specs.Trees.{tree_shape};
-ghost use Rattle.dsr_meaning.specs.Canonical.{canonical};
-ghost use Rattle.dsr_meaning.specs.Parsing.{IsReprinted, IsTreeOf};
-ghost use Rattle.dsr_meaning.specs.TreeTexts.{endian_text, order_text, version_text};
+ghost use Rattle.dsr_tree.specs.Trees.{tree_shape};
+ghost use Rattle.dsr_text.specs.Canonical.{canonical};
+ghost use Rattle.dsr_text.specs.Parsing.{IsReprinted, IsTreeOf};
+ghost use Rattle.dsr_text.specs.TreeTexts.{endian_text, order_text, version_text};
 ghost use Rattle.dsr_print.specs.Writing.{Adds, AddsLine};
 
 use crate::lines::add_lines;
 use crate::marks::{add_keyword, add_number, add_sign, begin_line, end_line};
-use dsr_ir::tree::Tree;
-use dsr_ir::{Keyword, NoMemory, Order, Sign};
+use dsr_tree::Tree;
+use dsr_ir::{NoMemory, Order};
+use dsr_tree::{Keyword, Sign};
 use std::alloc::Global;
 
 fn add_version(text: &mut Vec<u8>, tree: &Tree) -> Result<(), NoMemory>

@@ -1,11 +1,12 @@
 // Tokens, written behind a text with a space before each.
 ghost use Rattle.std.specs.Prelude.{◌≡◌, ◌∷◌, ◌++◌, OnOk};
-ghost use Rattle.dsr_ir.specs.declared.tokens.Token.TheVariants as token;
-ghost use Rattle.dsr_meaning.specs.TreeTexts.{word, mark, name_text, number_text};
+ghost use Rattle.dsr_tree.specs.declared.tokens.Token.TheVariants as token;
+ghost use Rattle.dsr_text.specs.TreeTexts.{word, mark, name_text, number_text};
 ghost use Rattle.dsr_print.specs.Writing.{Adds, Begins, Ends};
 
-use dsr_ir::tree::{PlacedName, PlacedNumber};
-use dsr_ir::{Keyword, NoMemory, Sign};
+use dsr_tree::{PlacedName, PlacedNumber};
+use dsr_ir::NoMemory;
+use dsr_tree::{Keyword, Sign};
 use dsr_tokens::{keyword_bytes, sign_bytes};
 use itoa::Buffer;
 

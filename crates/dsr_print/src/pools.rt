@@ -1,9 +1,9 @@
 // The lines of pools, sets, relations and supplies.
 ghost use Rattle.std.specs.Prelude.{OnOk, option_map};
-ghost use Rattle.dsr_ir.specs.Trees.{expr_shape};
-ghost use Rattle.dsr_ir.specs.declared.tokens.Keyword.TheVariants as keyword;
-ghost use Rattle.dsr_meaning.specs.Phrases.{in_turn};
-ghost use Rattle.dsr_meaning.specs.TreeTexts.{behind_text, maybe_text, more_name_text, target_text, view_text};
+ghost use Rattle.dsr_tree.specs.Trees.{expr_shape};
+ghost use Rattle.dsr_tree.specs.declared.tokens.Keyword.TheVariants as keyword;
+ghost use Rattle.dsr_text.specs.Phrases.{in_turn};
+ghost use Rattle.dsr_text.specs.TreeTexts.{behind_text, maybe_text, more_name_text, target_text, view_text};
 ghost use Rattle.dsr_print.specs.Writing.{Adds};
 
 use crate::atoms::add_var;
@@ -11,8 +11,9 @@ use crate::expressions::add_expr;
 use crate::lines::Declaration;
 use crate::marks::{add_keyword, add_name, add_sign, begin_line, end_line};
 use crate::structures::add_brackets;
-use dsr_ir::tree::{Expr, Fresh, PlacedName, Pool, Relation, Set, Target, View};
-use dsr_ir::{Keyword, NoMemory, Sign};
+use dsr_tree::{Expr, Fresh, PlacedName, Pool, Relation, Set, Target, View};
+use dsr_ir::NoMemory;
+use dsr_tree::{Keyword, Sign};
 
 // An expression behind a keyword.
 fn add_behind(text: &mut Vec<u8>, keyword: Keyword, expr: &Expr) -> Result<(), NoMemory>
@@ -32,8 +33,8 @@ fn add_slot(text: &mut Vec<u8>, slot: &Option<Expr>) -> Result<(), NoMemory>
 }
 
 impl Declaration for Pool {
-    ghost use Rattle.dsr_ir.specs.Trees.{pool_shape};
-    ghost use Rattle.dsr_meaning.specs.TreeTexts.{pool_text};
+    ghost use Rattle.dsr_tree.specs.Trees.{pool_shape};
+    ghost use Rattle.dsr_text.specs.TreeTexts.{pool_text};
 
     ghost phrase = { λ p. pool_text (pool_shape p) };
 
@@ -70,7 +71,7 @@ fn add_view(text: &mut Vec<u8>, view: &Option<View>) -> Result<(), NoMemory>
 }
 
 impl Declaration for Set {
-    ghost use Rattle.dsr_meaning.specs.TreeTexts.{set_text};
+    ghost use Rattle.dsr_text.specs.TreeTexts.{set_text};
 
     ghost phrase = { set_text };
 
@@ -95,7 +96,7 @@ fn add_target(text: &mut Vec<u8>, target: &Target) -> Result<(), NoMemory>
 }
 
 impl Declaration for Relation {
-    ghost use Rattle.dsr_meaning.specs.TreeTexts.{relation_text};
+    ghost use Rattle.dsr_text.specs.TreeTexts.{relation_text};
 
     ghost phrase = { relation_text };
 
@@ -122,7 +123,7 @@ fn add_more_names(text: &mut Vec<u8>, names: &[PlacedName]) -> Result<(), NoMemo
 }
 
 impl Declaration for Fresh {
-    ghost use Rattle.dsr_meaning.specs.TreeTexts.{fresh_text};
+    ghost use Rattle.dsr_text.specs.TreeTexts.{fresh_text};
 
     ghost phrase = { fresh_text };
 

@@ -1,17 +1,18 @@
 // The line of a rule.
 ghost use Rattle.std.specs.Prelude.{◌≡◌, OnOk};
-ghost use Rattle.dsr_meaning.specs.Phrases.{in_turn};
-ghost use Rattle.dsr_meaning.specs.TreeTexts.{guard_text, guards_text, inclusion_text, index_source_text, index_text, maybe_text, member_part_text, member_text, more_guard_text, path_text, premise_text, span_text, term_text, test_word};
+ghost use Rattle.dsr_text.specs.Phrases.{in_turn};
+ghost use Rattle.dsr_text.specs.TreeTexts.{guard_text, guards_text, inclusion_text, index_source_text, index_text, maybe_text, member_part_text, member_text, more_guard_text, path_text, premise_text, span_text, term_text, test_word};
 ghost use Rattle.dsr_print.specs.Writing.{Adds};
 
 use crate::atoms::{add_compare, add_var};
 use crate::lines::Declaration;
 use crate::marks::{add_keyword, add_name, add_number, add_sign, begin_line, end_line};
-use dsr_ir::tree::{
+use dsr_tree::{
     Guard, Guards, Inclusion, Index, Member, MemberPart, Path, PlacedName, Premise, RefTest, Rule,
     Span, Term,
 };
-use dsr_ir::{Keyword, NoMemory, Sign};
+use dsr_ir::NoMemory;
+use dsr_tree::{Keyword, Sign};
 
 fn add_some_index(text: &mut Vec<u8>, index: &PlacedName) -> Result<(), NoMemory>
     ensures { OnOk result (Adds (index_text index.now) text.old.items text.new.items) }
@@ -210,7 +211,7 @@ fn add_inclusion(text: &mut Vec<u8>, inclusion: &Inclusion) -> Result<(), NoMemo
 }
 
 impl Declaration for Rule {
-    ghost use Rattle.dsr_meaning.specs.TreeTexts.{rule_text};
+    ghost use Rattle.dsr_text.specs.TreeTexts.{rule_text};
 
     ghost phrase = { rule_text };
 

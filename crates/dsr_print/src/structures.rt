@@ -1,15 +1,16 @@
 // The line of a structure.
 ghost use Rattle.std.specs.Prelude.{OnOk, map, option_map};
-ghost use Rattle.dsr_ir.specs.Trees.{expr_shape, field_shape, named_shape};
-ghost use Rattle.dsr_meaning.specs.Phrases.{in_turn};
-ghost use Rattle.dsr_meaning.specs.TreeTexts.{brackets_text, content_text, field_text, fixed_text, maybe_text, named_field_text, parent_text, width_text};
+ghost use Rattle.dsr_tree.specs.Trees.{expr_shape, field_shape, named_shape};
+ghost use Rattle.dsr_text.specs.Phrases.{in_turn};
+ghost use Rattle.dsr_text.specs.TreeTexts.{brackets_text, content_text, field_text, fixed_text, maybe_text, named_field_text, parent_text, width_text};
 ghost use Rattle.dsr_print.specs.Writing.{Adds, skipped_text};
 
 use crate::expressions::add_expr;
 use crate::lines::Declaration;
 use crate::marks::{add_keyword, add_name, add_number, add_sign, begin_line, end_line};
-use dsr_ir::tree::{Content, Expr, Field, NamedField, PlacedName, Structure, Width};
-use dsr_ir::{Keyword, NoMemory, Sign};
+use dsr_tree::{Content, Expr, Field, NamedField, PlacedName, Structure, Width};
+use dsr_ir::NoMemory;
+use dsr_tree::{Keyword, Sign};
 
 fn add_width(text: &mut Vec<u8>, width: Width) -> Result<(), NoMemory>
     ensures { OnOk result (Adds (width_text width) text.old.items text.new.items) }
@@ -118,8 +119,8 @@ fn add_parent(text: &mut Vec<u8>, parent: &Option<PlacedName>) -> Result<(), NoM
 }
 
 impl Declaration for Structure {
-    ghost use Rattle.dsr_ir.specs.Trees.{structure_shape};
-    ghost use Rattle.dsr_meaning.specs.TreeTexts.{structure_text};
+    ghost use Rattle.dsr_tree.specs.Trees.{structure_shape};
+    ghost use Rattle.dsr_text.specs.TreeTexts.{structure_text};
 
     ghost phrase = { λ s. structure_text (structure_shape s) };
 

@@ -4,11 +4,11 @@ use Rattle.std.proofs.Math.Seq.{take-suc}
 use Rattle.std.proofs.lemmas.Bool.{cond-true, cond-false}
 use Rattle.std.proofs.lemmas.Grind.{common_steps}
 use Rattle.std.proofs.lemmas.List.{length-map, length-reverse, map-append, reverse-append}
-use Rattle.dsr_ir.specs.Trees.{StructureTree, structure_shape}
-use Rattle.dsr_ir.specs.declared.tree.PlacedName.{PlacedName}
-use Rattle.dsr_ir.specs.declared.tree.Structure.{Structure}
-use Rattle.dsr_meaning.specs.Faults.{each_at}
-use Rattle.dsr_meaning.specs.Names.{all_ancestors, ancestors_in, before, is_head, parent_number, with_ancestors}
+use Rattle.dsr_tree.specs.Trees.{StructureTree, structure_shape}
+use Rattle.dsr_tree.specs.declared.tree.PlacedName.{PlacedName}
+use Rattle.dsr_tree.specs.declared.tree.Structure.{Structure}
+use Rattle.dsr_meaning.specs.Lists.{each_at}
+use Rattle.dsr_text.specs.Names.{all_ancestors, ancestors_in, before, is_head, parent_number, with_ancestors}
 
 -- what the number of each item gives, counted from n
 abbrev by_number : {S Y : Type 0} → (ℕ → Y) → ℕ → List S → List Y

@@ -1,8 +1,8 @@
 -- Faults of items that are counted from any number.
 use Rattle.std.proofs.Common.{◌<◌, ◌≡◌, ◌+◌, ℕ, List, ◌++◌, take, length, get_or, Option, sym, ap, ◌∙◌}
 use Rattle.std.proofs.lemmas.List.{map-id}
-use Rattle.dsr_ir.specs.declared.faults.Fault.{Fault}
-use Rattle.dsr_meaning.specs.Faults.{each_at}
+use Rattle.dsr_tree.specs.declared.faults.Fault.{Fault}
+use Rattle.dsr_meaning.specs.Lists.{each_at}
 use Rattle.dsr_struct.specs.Telling.{Finds}
 use Rattle.dsr_struct.proofs.Finding.{each_next, finds_same, finds_then}
 

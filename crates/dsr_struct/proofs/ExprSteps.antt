@@ -2,16 +2,16 @@
 use Rattle.std.proofs.Common.{◌≡◌, ◌<◌, ◌+◌, ℕ, Bool, ◌&&◌, nat_eq, vec_len, List, [], ◌∷◌, ◌++◌, map, take, length, get_or, Option, refl, sym, ap, ◌∙◌, append-nil, append_assoc}
 use Rattle.std.proofs.Math.Dec.{eqb-suc-zero}
 use Rattle.std.proofs.lemmas.List.{map_more}
-use Rattle.dsr_ir.specs.declared.faults.Fault.{Fault}
-use Rattle.dsr_ir.specs.declared.tree.Expr.{Expr, out-Expr}
-use Rattle.dsr_ir.specs.declared.tree.MoreFactor.{MoreFactor}
-use Rattle.dsr_ir.specs.declared.tree.MoreTerm.{MoreTerm, out-MoreTerm, is-MoreTerm'}
-use Rattle.dsr_ir.specs.declared.tree.Term2.{Term2, out-Term2}
+use Rattle.dsr_tree.specs.declared.faults.Fault.{Fault}
+use Rattle.dsr_tree.specs.declared.tree.Expr.{Expr, out-Expr}
+use Rattle.dsr_tree.specs.declared.tree.MoreFactor.{MoreFactor}
+use Rattle.dsr_tree.specs.declared.tree.MoreTerm.{MoreTerm, out-MoreTerm, is-MoreTerm'}
+use Rattle.dsr_tree.specs.declared.tree.Term2.{Term2, out-Term2}
 use Rattle.dsr_ir.specs.Shapes.{ExprShape}
-use Rattle.dsr_ir.specs.Trees.{TermTree, expr_tree, term_tree, FactorTree, MoreTermTree, MoreFactorTree, in_terms, in_factors, expr_shape, term_shape, factor_shape, more_term_shape, more_factor_shape}
-use Rattle.dsr_ir.proofs.TreeRows.{expr_is, term_is}
-use Rattle.dsr_meaning.specs.Declarations.{more_terms_faults, term_faults, more_factors_faults, factor_faults, is_number, is_number_term, is_number_factor}
-use Rattle.dsr_meaning.specs.Tables.{sum_of, product_of, typed_expr, typed_sum, typed_term, typed_product, typed_factor}
+use Rattle.dsr_tree.specs.Trees.{TermTree, expr_tree, term_tree, FactorTree, MoreTermTree, MoreFactorTree, in_terms, in_factors, expr_shape, term_shape, factor_shape, more_term_shape, more_factor_shape}
+use Rattle.dsr_tree.proofs.TreeRows.{expr_is, term_is}
+use Rattle.dsr_text.specs.Declarations.{more_terms_faults, term_faults, more_factors_faults, factor_faults, is_number, is_number_term, is_number_factor}
+use Rattle.dsr_text.specs.Tables.{sum_of, product_of, typed_expr, typed_sum, typed_term, typed_product, typed_factor}
 use Rattle.dsr_struct.specs.Telling.{Finds}
 use Rattle.dsr_struct.proofs.Finding.{finds_same, finds_then}
 

@@ -1,17 +1,17 @@
 -- A field of the tree and the same field of the tables: their widths, and the bits that they take up.
 use Rattle.std.proofs.Common.{◌≡◌, ◌≤◌, ℕ, false, not, ◌&&◌, ◌||◌, nat_le, [], Option, None, Some, is_some, option_map, refl, arith}
 use Rattle.std.proofs.lemmas.Bool.Decides.{nat_tests}
-use Rattle.dsr_ir.specs.Trees.{FieldTree, named, skipped}
-use Rattle.dsr_ir.specs.declared.faults.Condition.TheVariants as conditions
-use Rattle.dsr_ir.specs.declared.tree.Width.{Width}
-use Rattle.dsr_ir.specs.declared.tree.Width.TheVariants as widths
+use Rattle.dsr_tree.specs.Trees.{FieldTree, named, skipped}
+use Rattle.dsr_tree.specs.declared.faults.Condition.TheVariants as conditions
+use Rattle.dsr_tree.specs.declared.tree.Width.{Width}
+use Rattle.dsr_tree.specs.declared.tree.Width.TheVariants as widths
 use Rattle.dsr_meaning.specs.Cells.{width_bits, is_bytewise as reads_bytes}
-use Rattle.dsr_meaning.specs.Declarations.{entry_bits, is_bytewise, width_faults, extent_of}
-use Rattle.dsr_meaning.specs.Names.{Names}
-use Rattle.dsr_meaning.specs.Tables.{typed_expr, typed_field, typed_width}
+use Rattle.dsr_text.specs.Declarations.{entry_bits, is_bytewise, width_faults, extent_of}
+use Rattle.dsr_text.specs.Names.{Names}
+use Rattle.dsr_text.specs.Tables.{typed_expr, typed_field, typed_width}
 use Rattle.dsr_meaning.specs.Typed.{IsLegalWidth, HasLegalWidth as IsLegal, plain_extent}
 use Rattle.dsr_struct.specs.Known.{HasLegalWidth}
-use Rattle.dsr_meaning.proofs.Empty.{when_absent}
+use Rattle.dsr_text.proofs.Absent.{when_absent}
 
 legal_bits : (n : ℕ) → not (nat_le 1 n && nat_le n 32) ≡ false → (1 ≤ n) × (n ≤ 32)
 legal_bits n e = (grind (arith, nat_tests), grind (arith, nat_tests))

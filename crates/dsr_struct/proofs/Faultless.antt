@@ -5,15 +5,17 @@ use Rattle.std.specs.Str.{bytes_eq}
 use Rattle.std.proofs.lemmas.Bool.{eq-eqb}
 use Rattle.std.proofs.lemmas.List.{length-take, take_all}
 use Rattle.std.proofs.lemmas.Option.{get_or_from_slice_get, slice_get_within, IfSome_then}
-use Rattle.dsr_ir.specs.Trees.{FieldTree, named, skipped, StructureTree, PoolTree, TreeShape}
-use Rattle.dsr_ir.specs.declared.tree.Relation.{Relation}
-use Rattle.dsr_ir.specs.declared.tree.Set.{Set}
-use Rattle.dsr_ir.specs.declared.faults.Condition.TheVariants as conditions
-use Rattle.dsr_meaning.specs.Declarations.{FieldPosition, is_declared_above, is_bytewise, is_misplaced, width_faults, maybe_expr_faults, content_faults, parent_faults, source_faults, target_faults, head_faults, field_faults, position_of, structure_faults, pool_faults, set_faults, relation_faults, supply_faults, declaration_faults}
-use Rattle.dsr_meaning.specs.Faults.{when, each_at}
-use Rattle.dsr_meaning.specs.Names.{Names, names_of, is_at, structure_number, fixed_in, has_fixed_name, asked_structures}
+use Rattle.dsr_tree.specs.Trees.{FieldTree, named, skipped, StructureTree, PoolTree, TreeShape}
+use Rattle.dsr_tree.specs.declared.tree.Relation.{Relation}
+use Rattle.dsr_tree.specs.declared.tree.Set.{Set}
+use Rattle.dsr_tree.specs.declared.faults.Condition.TheVariants as conditions
+use Rattle.dsr_text.specs.Declarations.{FieldPosition, is_declared_above, is_bytewise, is_misplaced, width_faults, maybe_expr_faults, content_faults, parent_faults, source_faults, target_faults, head_faults, field_faults, position_of, structure_faults, pool_faults, set_faults, relation_faults, supply_faults, declaration_faults}
+use Rattle.dsr_text.specs.Faults.{when}
+use Rattle.dsr_meaning.specs.Lists.{each_at}
+use Rattle.dsr_text.specs.Names.{Names, names_of, is_at, structure_number, fixed_in, has_fixed_name, asked_structures}
 use Rattle.dsr_struct.specs.Known.{AllFit, HasLegalWidth, HasLegalWidths}
-use Rattle.dsr_meaning.proofs.Empty.{both_empty, second_empty, fourth_empty, fifth_empty, when_absent, no_second, each_has, few}
+use Rattle.dsr_meaning.proofs.Empty.{both_empty, second_empty, fourth_empty, fifth_empty, no_second, each_has, few}
+use Rattle.dsr_text.proofs.Absent.{when_absent}
 
 -- the number of an item that is found is one of the list's
 position_below : {T : Type 0} (test : T → Bool) (i : ℕ) (xs : List T) → IfSome (position_from test i xs) (λ k. k < i + length xs)

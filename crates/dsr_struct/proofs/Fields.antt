@@ -3,13 +3,13 @@ use Rattle.std.proofs.Common.{◌≡◌, ◌<◌, ◌≤◌, ◌+◌, ◌%◌, �
 use Rattle.std.proofs.Math.Bool.{or-false, or_assoc}
 use Rattle.std.proofs.Math.Nat.{mod-lt}
 use Rattle.std.proofs.lemmas.List.{map-append, map_more, take-map, take_all}
-use Rattle.dsr_ir.specs.Trees.{FieldTree, field_shape, StructureTree}
-use Rattle.dsr_ir.specs.declared.faults.Fault.{Fault}
-use Rattle.dsr_ir.specs.declared.tree.Field.{Field}
-use Rattle.dsr_meaning.specs.Declarations.{extent_of, is_open, has_open, inherits_open, field_faults, position_of}
+use Rattle.dsr_tree.specs.Trees.{FieldTree, field_shape, StructureTree}
+use Rattle.dsr_tree.specs.declared.faults.Fault.{Fault}
+use Rattle.dsr_tree.specs.declared.tree.Field.{Field}
+use Rattle.dsr_text.specs.Declarations.{extent_of, is_open, has_open, inherits_open, field_faults, position_of}
 use Rattle.dsr_meaning.specs.Extents.{bit_behind, bit_behind_all}
-use Rattle.dsr_meaning.specs.Faults.{each_at}
-use Rattle.dsr_meaning.specs.Names.{Names, is_head}
+use Rattle.dsr_meaning.specs.Lists.{each_at}
+use Rattle.dsr_text.specs.Names.{Names, is_head}
 use Rattle.dsr_meaning.proofs.Bits.{bit_behind_next}
 use Rattle.dsr_struct.proofs.Finding.{finds_nothing, finds_same, finds_next}
 use Rattle.dsr_struct.specs.Telling.{Finds}

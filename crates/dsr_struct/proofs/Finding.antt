@@ -2,9 +2,10 @@
 use Rattle.std.proofs.Common.{◌≡◌, ◌<◌, ◌+◌, ℕ, suc, Bool, List, [], ◌∷◌, ◌++◌, map, take, length, get_or, Option, refl, sym, ap, ◌∙◌, add-one, subst, arith}
 use Rattle.std.proofs.Math.Seq.{take-suc}
 use Rattle.std.proofs.lemmas.List.{append-nil, append_assoc, map-append, map-id, length-map, length-take}
-use Rattle.dsr_ir.specs.declared.faults.Condition.{Condition}
-use Rattle.dsr_ir.specs.declared.faults.Fault.{Fault}
-use Rattle.dsr_meaning.specs.Faults.{each_at, when}
+use Rattle.dsr_tree.specs.declared.faults.Condition.{Condition}
+use Rattle.dsr_tree.specs.declared.faults.Fault.{Fault}
+use Rattle.dsr_text.specs.Faults.{when}
+use Rattle.dsr_meaning.specs.Lists.{each_at}
 use Rattle.dsr_struct.specs.Telling.{told_of, told_after, Finds}
 
 told_after-append : (o : Option Fault) (xs ys : List Fault) → told_after o (xs ++ ys) ≡ told_after (told_after o xs) ys

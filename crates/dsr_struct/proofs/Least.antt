@@ -1,10 +1,10 @@
 -- The fault that is told is one that was found, and none that was found is before it.
 use Rattle.std.proofs.Common.{◌≡◌, inl, inr, ℕ, Bool, true, false, ◌&&◌, ◌||◌, nat_eq, nat_lt, List, [], ◌∷◌, None, Some, if◌then◌else◌, refl, sym, ◌∙◌, subst, arith}
 use Rattle.std.proofs.lemmas.Grind.{common_steps}
-use Rattle.dsr_ir.specs.Faults.{kind_number, is_before}
-use Rattle.dsr_ir.specs.declared.faults.Fault.{Fault}
+use Rattle.dsr_tree.specs.Faults.{kind_number, is_before}
+use Rattle.dsr_tree.specs.declared.faults.Fault.{Fault}
 use Rattle.dsr_meaning.specs.Counting.{IsIn}
-use Rattle.dsr_meaning.specs.Faults.{IsToldOf}
+use Rattle.dsr_text.specs.Faults.{IsToldOf}
 use Rattle.dsr_struct.specs.Telling.{told_after}
 
 -- by place, then by kind

@@ -3,10 +3,10 @@ use Rattle.std.proofs.Common.{◌≡◌, ◌<◌, ◌+◌, ℕ, Bool, true, fals
 use Rattle.std.proofs.Math.Seq.{take-suc}
 use Rattle.std.proofs.lemmas.List.{length-take}
 use Rattle.std.specs.List.{position_from}
-use Rattle.dsr_ir.specs.Trees.{field_shape}
-use Rattle.dsr_ir.specs.declared.tree.Field.{Field}
-use Rattle.dsr_ir.specs.declared.tree.Field.TheVariants as fields
-use Rattle.dsr_meaning.specs.Names.{has_name}
+use Rattle.dsr_tree.specs.Trees.{field_shape}
+use Rattle.dsr_tree.specs.declared.tree.Field.{Field}
+use Rattle.dsr_tree.specs.declared.tree.Field.TheVariants as fields
+use Rattle.dsr_text.specs.Names.{has_name}
 use Rattle.dsr_struct.specs.FieldNames.{field_name}
 use Rattle.dsr_struct.specs.Known.{is_named}
 

@@ -1,10 +1,10 @@
 -- What the fault that a check found, or that it found none, says of a tree.
 use Rattle.std.proofs.Common.{◌≡◌, [], All, Option, None, Some, sym, ap, ◌∙◌, subst}
-use Rattle.dsr_ir.specs.Trees.{TreeShape}
-use Rattle.dsr_ir.specs.declared.faults.Fault.{Fault}
-use Rattle.dsr_meaning.specs.Declarations.{declaration_faults, faults_with}
-use Rattle.dsr_meaning.specs.Faults.{IsToldOf}
-use Rattle.dsr_meaning.specs.Names.{Names, names_of}
+use Rattle.dsr_tree.specs.Trees.{TreeShape}
+use Rattle.dsr_tree.specs.declared.faults.Fault.{Fault}
+use Rattle.dsr_text.specs.Declarations.{declaration_faults, faults_with}
+use Rattle.dsr_text.specs.Faults.{IsToldOf}
+use Rattle.dsr_text.specs.Names.{Names, names_of}
 use Rattle.dsr_struct.specs.Known.{AllFit, HasLegalWidths}
 use Rattle.dsr_struct.specs.Telling.{told_after, Finds}
 use Rattle.dsr_struct.proofs.Faultless.{faultless}

@@ -1,17 +1,18 @@
 -- Each name of an expression without faults is a fixed field of `Head`.
 use Rattle.std.proofs.Common.{◌≡◌, ℕ, List, [], Option, None, Some, IfSome, is_none, option_map}
 use Rattle.dsr_ir.specs.Shapes.{ExprShape, FixedOf, StructuresShape}
-use Rattle.dsr_ir.specs.Trees.{ExprTree, expr_tree, MoreTermTrees, no_terms, more_terms, TermTree, term_tree, MoreFactorTrees, no_factors, more_factors, FactorTree, number_tree, name_tree, group_tree}
-use Rattle.dsr_ir.specs.declared.faults.Condition.TheVariants as conditions
-use Rattle.dsr_ir.specs.declared.tree.PlacedName.{PlacedName}
-use Rattle.dsr_ir.specs.declared.tree.ProductSign.{ProductSign}
-use Rattle.dsr_ir.specs.declared.tree.ProductSign.TheVariants as product_signs
-use Rattle.dsr_ir.specs.declared.tree.SumSign.{SumSign}
-use Rattle.dsr_ir.specs.declared.tree.SumSign.TheVariants as sum_signs
-use Rattle.dsr_meaning.specs.Declarations.{unknown_name, expr_faults, more_terms_faults, term_faults, more_factors_faults, factor_faults, maybe_expr_faults}
+use Rattle.dsr_tree.specs.Trees.{ExprTree, expr_tree, MoreTermTrees, no_terms, more_terms, TermTree, term_tree, MoreFactorTrees, no_factors, more_factors, FactorTree, number_tree, name_tree, group_tree}
+use Rattle.dsr_tree.specs.declared.faults.Condition.TheVariants as conditions
+use Rattle.dsr_tree.specs.declared.tree.PlacedName.{PlacedName}
+use Rattle.dsr_tree.specs.declared.tree.ProductSign.{ProductSign}
+use Rattle.dsr_tree.specs.declared.tree.ProductSign.TheVariants as product_signs
+use Rattle.dsr_tree.specs.declared.tree.SumSign.{SumSign}
+use Rattle.dsr_tree.specs.declared.tree.SumSign.TheVariants as sum_signs
+use Rattle.dsr_text.specs.Declarations.{unknown_name, expr_faults, more_terms_faults, term_faults, more_factors_faults, factor_faults, maybe_expr_faults}
 use Rattle.dsr_meaning.specs.Resolved.{IsResolvedExpr}
-use Rattle.dsr_meaning.specs.Tables.{number_in, sum_of, product_of, typed_expr, typed_sum, typed_term, typed_product, typed_factor}
-use Rattle.dsr_meaning.proofs.Empty.{both_empty, when_absent}
+use Rattle.dsr_text.specs.Tables.{number_in, sum_of, product_of, typed_expr, typed_sum, typed_term, typed_product, typed_factor}
+use Rattle.dsr_meaning.proofs.Empty.{both_empty}
+use Rattle.dsr_text.proofs.Absent.{when_absent}
 use Rattle.dsr_struct.proofs.Found.{known_has}
 
 -- what holds of all numbers for which names stand holds of that of a name without fault

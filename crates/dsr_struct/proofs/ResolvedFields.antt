@@ -2,19 +2,21 @@
 use Rattle.std.proofs.Common.{◌≡◌, ◌<◌, ℕ, false, not, ◌&&◌, ◌||◌, nat_eq, [], ◌++◌, Option, None, Some, IfSome, is_some, is_none, unwrap_or, option_map, arith}
 use Rattle.std.proofs.lemmas.Bool.Decides.{nat_tests}
 use Rattle.std.proofs.lemmas.List.Elements.{All-map}
-use Rattle.dsr_ir.specs.Trees.{FieldTree, named, skipped, StructureTree, TreeShape}
-use Rattle.dsr_ir.specs.declared.faults.Condition.TheVariants as conditions
-use Rattle.dsr_ir.specs.declared.tree.Content.{Content}
-use Rattle.dsr_ir.specs.declared.tree.Content.TheVariants as contents
-use Rattle.dsr_ir.specs.declared.tree.PlacedName.{PlacedName}
-use Rattle.dsr_ir.specs.declared.tree.Width.{Width}
-use Rattle.dsr_meaning.specs.Declarations.{FieldPosition, unknown_name, expr_faults, maybe_expr_faults, is_declared_above, is_bytewise, is_misplaced, width_faults, content_faults, field_faults, is_not_before, parent_faults, position_of, structure_faults}
-use Rattle.dsr_meaning.specs.Faults.{when, each_at}
+use Rattle.dsr_tree.specs.Trees.{FieldTree, named, skipped, StructureTree, TreeShape}
+use Rattle.dsr_tree.specs.declared.faults.Condition.TheVariants as conditions
+use Rattle.dsr_tree.specs.declared.tree.Content.{Content}
+use Rattle.dsr_tree.specs.declared.tree.Content.TheVariants as contents
+use Rattle.dsr_tree.specs.declared.tree.PlacedName.{PlacedName}
+use Rattle.dsr_tree.specs.declared.tree.Width.{Width}
+use Rattle.dsr_text.specs.Declarations.{FieldPosition, unknown_name, expr_faults, maybe_expr_faults, is_declared_above, is_bytewise, is_misplaced, width_faults, content_faults, field_faults, is_not_before, parent_faults, position_of, structure_faults}
+use Rattle.dsr_text.specs.Faults.{when}
+use Rattle.dsr_meaning.specs.Lists.{each_at}
 use Rattle.dsr_meaning.specs.Instances.{kind_pool}
-use Rattle.dsr_meaning.specs.Names.{names_of, is_at, used_structure}
+use Rattle.dsr_text.specs.Names.{names_of, is_at, used_structure}
 use Rattle.dsr_meaning.specs.Resolved.{IsPoolNumber, IsOtherStructure, IsResolvedField, IsResolvedStructure}
-use Rattle.dsr_meaning.specs.Tables.{number_in, typed_content, typed_field, typed_structure, tables}
-use Rattle.dsr_meaning.proofs.Empty.{both_empty, third_empty, fourth_empty, when_absent, each_has}
+use Rattle.dsr_text.specs.Tables.{number_in, typed_content, typed_field, typed_structure, tables}
+use Rattle.dsr_meaning.proofs.Empty.{both_empty, third_empty, fourth_empty, each_has}
+use Rattle.dsr_text.proofs.Absent.{when_absent}
 use Rattle.dsr_struct.proofs.Faultless.{AllEmpty, fields_empty}
 use Rattle.dsr_struct.proofs.ResolvedExprs.{number_has, resolved_expr, resolved_maybe}
 use Rattle.dsr_struct.proofs.ResolvedFixed.{fixed_numbers}

@@ -5,14 +5,15 @@ use Rattle.std.specs.List.{position_from}
 use Rattle.std.specs.Str.{bytes_eq}
 use Rattle.std.proofs.lemmas.Option.{IfSome_then, slice_get-map}
 use Rattle.dsr_ir.specs.Shapes.{ExprShape, StructureShape, StructuresShape}
-use Rattle.dsr_ir.specs.Trees.{ExprTree, FieldTree, named, skipped, StructureTree, TreeShape}
-use Rattle.dsr_ir.specs.declared.faults.Condition.TheVariants as conditions
-use Rattle.dsr_meaning.specs.Declarations.{FieldPosition, is_declared_above, is_bytewise, is_misplaced, width_faults, maybe_expr_faults, content_faults, field_faults, position_of, structure_faults}
-use Rattle.dsr_meaning.specs.Faults.{when}
+use Rattle.dsr_tree.specs.Trees.{ExprTree, FieldTree, named, skipped, StructureTree, TreeShape}
+use Rattle.dsr_tree.specs.declared.faults.Condition.TheVariants as conditions
+use Rattle.dsr_text.specs.Declarations.{FieldPosition, is_declared_above, is_bytewise, is_misplaced, width_faults, maybe_expr_faults, content_faults, field_faults, position_of, structure_faults}
+use Rattle.dsr_text.specs.Faults.{when}
 use Rattle.dsr_meaning.specs.FixedFields.{head_fields, is_fixed}
-use Rattle.dsr_meaning.specs.Names.{Names, names_of, structure_number, fixed_in, has_fixed_name}
-use Rattle.dsr_meaning.specs.Tables.{typed_expr, typed_field, typed_structure, tables}
-use Rattle.dsr_meaning.proofs.Empty.{both_empty, third_empty, when_absent, each_has}
+use Rattle.dsr_text.specs.Names.{Names, names_of, structure_number, fixed_in, has_fixed_name}
+use Rattle.dsr_text.specs.Tables.{typed_expr, typed_field, typed_structure, tables}
+use Rattle.dsr_meaning.proofs.Empty.{both_empty, third_empty, each_has}
+use Rattle.dsr_text.proofs.Absent.{when_absent}
 use Rattle.dsr_struct.proofs.Faultless.{AllEmpty, fields_empty}
 use Rattle.dsr_struct.proofs.Found.{item_is, found_passes}
 

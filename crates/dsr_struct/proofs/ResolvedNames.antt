@@ -5,14 +5,14 @@ use Rattle.std.specs.Str.{bytes_eq}
 use Rattle.std.proofs.lemmas.List.{length-map}
 use Rattle.std.proofs.lemmas.Option.{IfSome_then}
 use Rattle.std.proofs.lemmas.Slice.Eq.{bytes_eq-Decides}
-use Rattle.dsr_ir.specs.Trees.{StructureTree, TreeShape}
-use Rattle.dsr_ir.specs.declared.faults.Condition.TheVariants as conditions
-use Rattle.dsr_ir.specs.declared.tree.PlacedName.{PlacedName}
-use Rattle.dsr_meaning.specs.Declarations.{unknown_name}
-use Rattle.dsr_meaning.specs.Names.{names_of, is_head, structure_number, used_structure}
+use Rattle.dsr_tree.specs.Trees.{StructureTree, TreeShape}
+use Rattle.dsr_tree.specs.declared.faults.Condition.TheVariants as conditions
+use Rattle.dsr_tree.specs.declared.tree.PlacedName.{PlacedName}
+use Rattle.dsr_text.specs.Declarations.{unknown_name}
+use Rattle.dsr_text.specs.Names.{names_of, is_head, structure_number, used_structure}
 use Rattle.dsr_meaning.specs.Resolved.{IsPoolNumber, IsOtherStructure, IsSetNumber}
-use Rattle.dsr_meaning.specs.Tables.{pool_in, typed_structure, typed_pool, typed_set, tables}
-use Rattle.dsr_meaning.proofs.Empty.{when_absent}
+use Rattle.dsr_text.specs.Tables.{pool_in, typed_structure, typed_pool, typed_set, tables}
+use Rattle.dsr_text.proofs.Absent.{when_absent}
 use Rattle.dsr_struct.proofs.Faultless.{AllEmpty}
 use Rattle.dsr_struct.proofs.Found.{known_has, IsFound, found_passes, found_within, found_below}
 use Rattle.dsr_struct.proofs.ResolvedExprs.{number_has}

@@ -1,16 +1,18 @@
 -- Pools without fault, and the sets that their supplies avoid, are resolved in the tables.
 use Rattle.std.proofs.Common.{◌≡◌, ℕ, not, nat_eq, List, [], ◌∷◌, ◌++◌, Option, None, Some, IfSome, is_none, false, slice_get, option_and_then, All, refl}
 use Rattle.std.proofs.lemmas.List.Elements.{All-map}
-use Rattle.dsr_ir.specs.Trees.{PoolTree, TreeShape}
-use Rattle.dsr_ir.specs.declared.faults.Condition.TheVariants as conditions
-use Rattle.dsr_ir.specs.declared.tree.Fresh.{Fresh}
-use Rattle.dsr_ir.specs.declared.tree.PlacedName.{PlacedName}
-use Rattle.dsr_meaning.specs.Declarations.{unknown_name, expr_faults, maybe_expr_faults, pool_faults, is_supply_mismatch, supply_faults}
-use Rattle.dsr_meaning.specs.Faults.{when, each_at}
-use Rattle.dsr_meaning.specs.Names.{names_of, is_at, used_structure, plain_number, plain_set}
+use Rattle.dsr_tree.specs.Trees.{PoolTree, TreeShape}
+use Rattle.dsr_tree.specs.declared.faults.Condition.TheVariants as conditions
+use Rattle.dsr_tree.specs.declared.tree.Fresh.{Fresh}
+use Rattle.dsr_tree.specs.declared.tree.PlacedName.{PlacedName}
+use Rattle.dsr_text.specs.Declarations.{unknown_name, expr_faults, maybe_expr_faults, pool_faults, is_supply_mismatch, supply_faults}
+use Rattle.dsr_text.specs.Faults.{when}
+use Rattle.dsr_meaning.specs.Lists.{each_at}
+use Rattle.dsr_text.specs.Names.{names_of, is_at, used_structure, plain_number, plain_set}
 use Rattle.dsr_meaning.specs.Resolved.{IsOtherStructure, IsSetNumber, IsResolvedPool}
-use Rattle.dsr_meaning.specs.Tables.{number_in, avoided_by, avoided, typed_pool, tables}
-use Rattle.dsr_meaning.proofs.Empty.{both_empty, third_empty, when_absent, each_has}
+use Rattle.dsr_text.specs.Tables.{number_in, avoided_by, avoided, typed_pool, tables}
+use Rattle.dsr_meaning.proofs.Empty.{both_empty, third_empty, each_has}
+use Rattle.dsr_text.proofs.Absent.{when_absent}
 use Rattle.dsr_struct.proofs.Faultless.{AllEmpty}
 use Rattle.dsr_struct.proofs.Found.{known_has, item_is, map_has}
 use Rattle.dsr_struct.proofs.ResolvedExprs.{number_has, resolved_expr, resolved_maybe}

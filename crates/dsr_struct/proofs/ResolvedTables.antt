@@ -1,22 +1,23 @@
 -- The tables of a tree without faults are resolved: each number in them is that of an entry of the table for which it is used.
 use Rattle.std.proofs.Common.{◌≡◌, ◌≤◌, ◌+◌, ℕ, Bool, false, not, ◌||◌, nat_eq, [], length, Option, None, Some, IfSome, is_some, is_none, unwrap_or, slice_get, option_and_then, All, refl, arith}
 use Rattle.std.proofs.lemmas.List.Elements.{All-map}
-use Rattle.dsr_ir.specs.Trees.{PoolTree, TreeShape}
-use Rattle.dsr_ir.specs.declared.faults.Condition.TheVariants as conditions
-use Rattle.dsr_ir.specs.declared.tree.Relation.{Relation}
-use Rattle.dsr_ir.specs.declared.tree.Set.{Set}
-use Rattle.dsr_ir.specs.declared.tree.Target.{Target}
-use Rattle.dsr_ir.specs.declared.tree.Target.TheVariants as targets
-use Rattle.dsr_ir.specs.declared.tree.Var.{Var}
-use Rattle.dsr_ir.specs.declared.tree.Var.TheVariants as vars
-use Rattle.dsr_ir.specs.declared.tree.View.{View}
-use Rattle.dsr_ir.specs.declared.tree.View.TheVariants as views
-use Rattle.dsr_meaning.specs.Declarations.{unknown_name, structure_faults, pool_faults, disagree, is_unrelated, view_faults, set_faults, source_faults, target_faults, relation_faults, declaration_faults}
-use Rattle.dsr_meaning.specs.Faults.{when}
-use Rattle.dsr_meaning.specs.Names.{names_of, is_at, used_structure, pool_structure, plain_set, set_pool}
+use Rattle.dsr_tree.specs.Trees.{PoolTree, TreeShape}
+use Rattle.dsr_tree.specs.declared.faults.Condition.TheVariants as conditions
+use Rattle.dsr_tree.specs.declared.tree.Relation.{Relation}
+use Rattle.dsr_tree.specs.declared.tree.Set.{Set}
+use Rattle.dsr_tree.specs.declared.tree.Target.{Target}
+use Rattle.dsr_tree.specs.declared.tree.Target.TheVariants as targets
+use Rattle.dsr_tree.specs.declared.tree.Var.{Var}
+use Rattle.dsr_tree.specs.declared.tree.Var.TheVariants as vars
+use Rattle.dsr_tree.specs.declared.tree.View.{View}
+use Rattle.dsr_tree.specs.declared.tree.View.TheVariants as views
+use Rattle.dsr_text.specs.Declarations.{unknown_name, structure_faults, pool_faults, disagree, is_unrelated, view_faults, set_faults, source_faults, target_faults, relation_faults, declaration_faults}
+use Rattle.dsr_text.specs.Faults.{when}
+use Rattle.dsr_text.specs.Names.{names_of, is_at, used_structure, pool_structure, plain_set, set_pool}
 use Rattle.dsr_meaning.specs.Resolved.{IsPoolNumber, IsOtherStructure, IsSetNumber, IsResolvedStructure, IsResolvedPool, IsResolvedSet, IsResolvedRel, AreResolved}
-use Rattle.dsr_meaning.specs.Tables.{typed_structure, typed_pool, set_structure, base_of, typed_set, typed_source, typed_target, typed_relation, tables}
-use Rattle.dsr_meaning.proofs.Empty.{both_empty, third_empty, fourth_empty, when_absent, each_has}
+use Rattle.dsr_text.specs.Tables.{typed_structure, typed_pool, set_structure, base_of, typed_set, typed_source, typed_target, typed_relation, tables}
+use Rattle.dsr_meaning.proofs.Empty.{both_empty, third_empty, fourth_empty, each_has}
+use Rattle.dsr_text.proofs.Absent.{when_absent}
 use Rattle.dsr_struct.proofs.Faultless.{AllEmpty, all_empty}
 use Rattle.dsr_struct.proofs.Found.{item_is, mapped_is, each_is, IsFound, found_passes}
 use Rattle.dsr_struct.proofs.ResolvedExprs.{number_has}

@@ -4,9 +4,9 @@ use Rattle.std.proofs.lemmas.List.{take-map}
 use Rattle.std.proofs.lemmas.Simd.{map-map}
 use Rattle.std.specs.List.{position_from}
 use Rattle.std.specs.Str.{bytes_eq}
-use Rattle.dsr_ir.specs.Trees.{pool_shape, structure_shape, tree_shape}
-use Rattle.dsr_ir.specs.declared.tree.Tree.{Tree}
-use Rattle.dsr_meaning.specs.Names.{Names, all_ancestors, field_number, fixed_in, names_of}
+use Rattle.dsr_tree.specs.Trees.{pool_shape, structure_shape, tree_shape}
+use Rattle.dsr_tree.specs.declared.tree.Tree.{Tree}
+use Rattle.dsr_text.specs.Names.{Names, all_ancestors, field_number, fixed_in, names_of}
 use Rattle.dsr_struct.specs.Known.{is_named}
 use Rattle.dsr_struct.proofs.Numbering.{position_map}
 

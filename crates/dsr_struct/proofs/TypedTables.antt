@@ -4,17 +4,19 @@ use Rattle.std.specs.Prelude.{IsTrue}
 use Rattle.std.proofs.lemmas.Bool.{eqb-true}
 use Rattle.std.proofs.lemmas.List.{take_at, length-map, length-append, map-append}
 use Rattle.std.proofs.lemmas.List.Elements.{All-map}
-use Rattle.dsr_ir.specs.Trees.{FieldTree, named, skipped, StructureTree, TreeShape}
-use Rattle.dsr_ir.specs.declared.faults.Condition.TheVariants as conditions
-use Rattle.dsr_ir.specs.declared.faults.Fault.{Fault}
-use Rattle.dsr_meaning.specs.Declarations.{FieldPosition, is_declared_above, is_bytewise, is_misplaced, width_faults, maybe_expr_faults, content_faults, expr_faults, extent_of, field_faults, position_of, structure_faults, declaration_faults}
+use Rattle.dsr_tree.specs.Trees.{FieldTree, named, skipped, StructureTree, TreeShape}
+use Rattle.dsr_tree.specs.declared.faults.Condition.TheVariants as conditions
+use Rattle.dsr_tree.specs.declared.faults.Fault.{Fault}
+use Rattle.dsr_text.specs.Declarations.{FieldPosition, is_declared_above, is_bytewise, is_misplaced, width_faults, maybe_expr_faults, content_faults, expr_faults, extent_of, field_faults, position_of, structure_faults, declaration_faults}
 use Rattle.dsr_meaning.specs.Extents.{bit_behind, bit_behind_all}
-use Rattle.dsr_meaning.specs.Faults.{when, each_at}
-use Rattle.dsr_meaning.specs.Names.{Names, names_of}
-use Rattle.dsr_meaning.specs.Tables.{typed_expr, typed_field, typed_structure, typed_pool, typed_set, typed_relation, tables}
+use Rattle.dsr_text.specs.Faults.{when}
+use Rattle.dsr_meaning.specs.Lists.{each_at}
+use Rattle.dsr_text.specs.Names.{Names, names_of}
+use Rattle.dsr_text.specs.Tables.{typed_expr, typed_field, typed_structure, typed_pool, typed_set, typed_relation, tables}
 use Rattle.dsr_meaning.specs.Typed.{HasLegalWidth as IsLegal, begins_byte, plain_extent, AreAligned, IsTypedStructure, AreTyped}
 use Rattle.dsr_meaning.proofs.Bits.{bit_behind_append}
-use Rattle.dsr_meaning.proofs.Empty.{both_empty, third_empty, when_absent, each_has}
+use Rattle.dsr_meaning.proofs.Empty.{both_empty, third_empty, each_has}
+use Rattle.dsr_text.proofs.Absent.{when_absent}
 use Rattle.dsr_struct.proofs.Extents.{begins_same, legal_field, extent_same}
 use Rattle.dsr_struct.proofs.Faultless.{all_empty, legal_width, fields_empty, few_fields}
 

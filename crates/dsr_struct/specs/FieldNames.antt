@@ -1,7 +1,7 @@
 -- The name of a field.
 use Rattle.std.specs.Prelude.{ℕ, List, Option, None, Some}
-use Rattle.dsr_ir.specs.declared.tree.Field.{Field}
-use Rattle.dsr_ir.specs.declared.tree.Field.TheVariants as fields
+use Rattle.dsr_tree.specs.declared.tree.Field.{Field}
+use Rattle.dsr_tree.specs.declared.tree.Field.TheVariants as fields
 
 -- the name of a field; a gap has none
 abbrev pub field_name : Field → Option (List ℕ)

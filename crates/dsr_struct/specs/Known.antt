@@ -2,10 +2,10 @@
 use Rattle.std.specs.Prelude.{◌≡◌, ◌<◌, ◌-◌, ◌^◌, ℕ, Bool, false, List, [], Option, None, Some, IfSome, All, is_some, map, if◌then◌else◌}
 use Rattle.std.specs.Str.{bytes_eq}
 use Rattle.indexmap.specs.IndexMap.{get}
-use Rattle.dsr_ir.specs.Trees.{FieldTree, named, skipped, StructureTree, tree_shape}
-use Rattle.dsr_ir.specs.declared.tree.Tree.{Tree}
-use Rattle.dsr_meaning.specs.Declarations.{FieldPosition, width_faults}
-use Rattle.dsr_meaning.specs.Names.{Names}
+use Rattle.dsr_tree.specs.Trees.{FieldTree, named, skipped, StructureTree, tree_shape}
+use Rattle.dsr_tree.specs.declared.tree.Tree.{Tree}
+use Rattle.dsr_text.specs.Declarations.{FieldPosition, width_faults}
+use Rattle.dsr_text.specs.Names.{Names}
 use Rattle.dsr_struct.specs.declared.names.NameTables.{NameTables}
 use Rattle.dsr_struct.specs.declared.lookups.Names.{Names as NamesOfTree}
 use Rattle.dsr_struct.specs.declared.field_checks.Position.{Position}

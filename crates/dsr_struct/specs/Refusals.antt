@@ -1,9 +1,9 @@
 -- What a refusal says.
 use Rattle.std.specs.Prelude.{◌≡◌, List}
-use Rattle.dsr_ir.specs.Faults.{kind_number}
-use Rattle.dsr_ir.specs.declared.faults.Condition.{Condition}
-use Rattle.dsr_ir.specs.declared.faults.Fault.{Fault}
-use Rattle.dsr_meaning.specs.Faults.{IsToldOf}
+use Rattle.dsr_tree.specs.Faults.{kind_number}
+use Rattle.dsr_tree.specs.declared.faults.Condition.{Condition}
+use Rattle.dsr_tree.specs.declared.faults.Fault.{Fault}
+use Rattle.dsr_text.specs.Faults.{IsToldOf}
 use Rattle.dsr_struct.specs.declared.refusals.SpecFault.{SpecFault}
 use Rattle.dsr_struct.specs.declared.refusals.SpecFault.TheVariants as spec_faults
 

@@ -1,7 +1,7 @@
 -- The fault that is to be told, among those that were found so far.
 use Rattle.std.specs.Prelude.{◌≡◌, List, [], ◌∷◌, Option, None, Some, if◌then◌else◌}
-use Rattle.dsr_ir.specs.Faults.{is_before}
-use Rattle.dsr_ir.specs.declared.faults.Fault.{Fault}
+use Rattle.dsr_tree.specs.Faults.{is_before}
+use Rattle.dsr_tree.specs.declared.faults.Fault.{Fault}
 
 -- the one of two faults that is told; the earlier found one where neither is before the other
 abbrev pub told_of : Option Fault → Fault → Option Fault

@@ -1,12 +1,13 @@
 // The faults of all declarations before the rules.
-ghost use Rattle.dsr_meaning.specs.Declarations.{head_faults, faults_with};
+ghost use Rattle.dsr_text.specs.Declarations.{head_faults, faults_with};
 ghost use Rattle.std.specs.Prelude.{◌≡◌, None, codes};
 ghost use Rattle.dsr_struct.specs.Known.{known_of};
 ghost use Rattle.dsr_struct.specs.Telling.{Finds};
 
 use crate::lookups::Names;
 use crate::telling::Told;
-use dsr_ir::{Condition, Fault, Name};
+use dsr_ir::Name;
+use dsr_tree::{Condition, Fault};
 
 impl Names<'_> {
     // No structure `Head`; the name is given.

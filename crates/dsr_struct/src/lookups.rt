@@ -2,12 +2,12 @@
 ghost use Rattle.std.specs.Prelude.{◌≡◌, is_some, length, slice_get};
 ghost use Rattle.std.specs.Str.{bytes_eq};
 ghost use Rattle.indexmap.specs.IndexMap.{get};
-ghost use Rattle.dsr_meaning.specs.Names.{is_at, used_structure, ancestors_of, own_field, inherits, descends, pool_structure, is_complement, plain_number, plain_set, set_pool};
+ghost use Rattle.dsr_text.specs.Names.{is_at, used_structure, ancestors_of, own_field, inherits, descends, pool_structure, is_complement, plain_number, plain_set, set_pool};
 ghost use Rattle.dsr_struct.specs.Known.{known_of};
 
 use crate::names::{NameTables, is_head};
 use dsr_ir::Name;
-use dsr_ir::tree::{Tree, View};
+use dsr_tree::{Tree, View};
 
 /// A tree, and what its names stand for.
 #[derive(Clone, Copy)]

@@ -3,11 +3,11 @@ ghost use Rattle.std.specs.Prelude.{◌≡◌, ◌<◌, ℕ, List, [], map, leng
 ghost use Rattle.std.specs.List.{position_from};
 ghost use Rattle.std.specs.Str.{bytes_eq};
 ghost use Rattle.indexmap.specs.IndexMap.{get};
-ghost use Rattle.dsr_ir.specs.Trees.{field_shape, structure_shape, tree_shape};
-ghost use Rattle.dsr_meaning.specs.Names.{has_name, has_fixed_name, field_number, fixed_in, before, is_head, with_ancestors, all_ancestors, parent_number, names_of};
+ghost use Rattle.dsr_tree.specs.Trees.{field_shape, structure_shape, tree_shape};
+ghost use Rattle.dsr_text.specs.Names.{has_name, has_fixed_name, field_number, fixed_in, before, is_head, with_ancestors, all_ancestors, parent_number, names_of};
 ghost use Rattle.dsr_struct.specs.Known.{is_named, entered, told_by};
 
-use dsr_ir::tree::{Field, Fresh, PlacedName, Pool, Relation, Set, Structure, Tree};
+use dsr_tree::{Field, Fresh, PlacedName, Pool, Relation, Set, Structure, Tree};
 use dsr_ir::{Name, NoMemory, TryClone};
 use indexmap::IndexMap;
 use std::alloc::Global;

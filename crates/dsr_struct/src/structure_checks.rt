@@ -1,16 +1,16 @@
 // The faults of structures and pools.
 ghost use Rattle.std.specs.Prelude.{◌≡◌, map};
-ghost use Rattle.dsr_ir.specs.Trees.{structure_shape, pool_shape};
-ghost use Rattle.dsr_meaning.specs.Declarations.{is_not_before, parent_faults, structure_faults, pool_faults};
-ghost use Rattle.dsr_meaning.specs.Faults.{each_at};
+ghost use Rattle.dsr_tree.specs.Trees.{structure_shape, pool_shape};
+ghost use Rattle.dsr_text.specs.Declarations.{is_not_before, parent_faults, structure_faults, pool_faults};
+ghost use Rattle.dsr_meaning.specs.Lists.{each_at};
 ghost use Rattle.dsr_struct.specs.Known.{known_of};
 ghost use Rattle.dsr_struct.specs.Telling.{Finds};
 
 use crate::expr_checks::{check_expr, check_maybe_expr};
 use crate::lookups::{Names, is_at};
 use crate::telling::Told;
-use dsr_ir::Condition;
-use dsr_ir::tree::{PlacedName, Pool, Structure};
+use dsr_tree::Condition;
+use dsr_tree::{PlacedName, Pool, Structure};
 
 // Whether a number was found that isn't less than another one.
 fn is_not_before(number: usize, found: Option<usize>) -> bool

@@ -1,11 +1,11 @@
 // The fault that is to be told, among those that were found so far.
 ghost use Rattle.std.specs.Prelude.{◌≡◌, is_none};
-ghost use Rattle.dsr_ir.specs.declared.faults.Condition.TheVariants as conditions;
-ghost use Rattle.dsr_meaning.specs.Faults.{when};
+ghost use Rattle.dsr_tree.specs.declared.faults.Condition.TheVariants as conditions;
+ghost use Rattle.dsr_text.specs.Faults.{when};
 ghost use Rattle.dsr_struct.specs.Telling.{Finds, told_of};
 
-use dsr_ir::tree::PlacedName;
-use dsr_ir::{Condition, Fault};
+use dsr_tree::PlacedName;
+use dsr_tree::{Condition, Fault};
 
 /// The fault with the least place of those that were found, and of those the least condition.
 #[derive(Drop)]

@@ -1,10 +1,10 @@
 // The typed tables of a tree, or its first fault.
 ghost use Rattle.std.specs.Prelude.{◌≡◌, [], All, codes, unwrap_or, IfOk, IfErr};
 ghost use Rattle.dsr_ir.specs.Shapes.{structures_shape};
-ghost use Rattle.dsr_ir.specs.Trees.{tree_shape};
-ghost use Rattle.dsr_meaning.specs.Declarations.{declaration_faults};
+ghost use Rattle.dsr_tree.specs.Trees.{tree_shape};
+ghost use Rattle.dsr_text.specs.Declarations.{declaration_faults};
 ghost use Rattle.dsr_meaning.specs.Resolved.{AreResolved};
-ghost use Rattle.dsr_meaning.specs.Tables.{tables, tables_with, version_of};
+ghost use Rattle.dsr_text.specs.Tables.{tables, tables_with, version_of};
 ghost use Rattle.dsr_meaning.specs.Typed.{AreTyped};
 ghost use Rattle.dsr_struct.specs.Known.{known_of, AllFit, HasLegalWidths};
 ghost use Rattle.dsr_struct.specs.Refusals.{Tells};
@@ -12,7 +12,7 @@ ghost use Rattle.dsr_struct.specs.Refusals.{Tells};
 use crate::lookups::Names;
 use crate::names::{head_name, name_tables};
 use crate::refusals::SpecFault;
-use dsr_ir::tree::Tree;
+use dsr_tree::Tree;
 use dsr_ir::{Name, NoMemory, Structures};
 use std::alloc::Global;
 

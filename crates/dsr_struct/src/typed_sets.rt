@@ -1,12 +1,12 @@
 // The tables of sets and relations.
 ghost use Rattle.std.specs.Prelude.{◌≡◌, map, unwrap_or, option_and_then, IfOk};
-ghost use Rattle.dsr_meaning.specs.Names.{pool_structure};
-ghost use Rattle.dsr_meaning.specs.Tables.{set_structure, base_of, typed_set, typed_source, typed_target, typed_relation};
+ghost use Rattle.dsr_text.specs.Names.{pool_structure};
+ghost use Rattle.dsr_text.specs.Tables.{set_structure, base_of, typed_set, typed_source, typed_target, typed_relation};
 ghost use Rattle.dsr_struct.specs.Known.{known_of, AllFit};
 
 use crate::lookups::Names;
 use crate::typed_exprs::number_in;
-use dsr_ir::tree::{Relation, Set, Target, Var, View};
+use dsr_tree::{Relation, Set, Target, Var, View};
 use dsr_ir::{NoMemory, Rel, Seq, SetDecl, TryClone};
 use std::alloc::Global;
 

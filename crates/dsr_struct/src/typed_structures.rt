@@ -1,15 +1,15 @@
 // The tables of structures and pools.
 ghost use Rattle.std.specs.Prelude.{◌≡◌, ◌∷◌, [], All, map, option_map, option_and_then, IfOk};
 ghost use Rattle.dsr_ir.specs.Shapes.{field_shape as shape_of_field, structure_shape as shape_of_structure, pool_shape as shape_of_pool};
-ghost use Rattle.dsr_ir.specs.Trees.{named, named_shape, field_shape, structure_shape, pool_shape};
-ghost use Rattle.dsr_meaning.specs.Declarations.{width_faults};
-ghost use Rattle.dsr_meaning.specs.Names.{used_structure};
-ghost use Rattle.dsr_meaning.specs.Tables.{number_in, pool_in, typed_width, typed_content, typed_field, typed_structure, typed_pool, avoided_by, avoided};
+ghost use Rattle.dsr_tree.specs.Trees.{named, named_shape, field_shape, structure_shape, pool_shape};
+ghost use Rattle.dsr_text.specs.Declarations.{width_faults};
+ghost use Rattle.dsr_text.specs.Names.{used_structure};
+ghost use Rattle.dsr_text.specs.Tables.{number_in, pool_in, typed_width, typed_content, typed_field, typed_structure, typed_pool, avoided_by, avoided};
 ghost use Rattle.dsr_struct.specs.Known.{known_of, AllFit, HasLegalWidth, HasLegalWidths};
 
 use crate::lookups::Names;
 use crate::typed_exprs::{number_in, typed_expr, typed_maybe_expr};
-use dsr_ir::tree::{self, Content, Fresh, NamedField, PlacedName};
+use dsr_tree::{self_, Content, Fresh, NamedField, PlacedName};
 use dsr_ir::{Field, Kind, Name, NoMemory, Pool, Seq, Structure, TryClone, Width};
 use std::alloc::Global;
 

@@ -1,7 +1,7 @@
 -- A text is cut in one way.
 use Rattle.std.proofs.Common.{◌≡◌, ◌≢◌, ℕ, List, [], ◌++◌, length, Bool, refl, ap, ◌∙◌, sym, subst, arith, append_assoc}
-use Rattle.dsr_ir.specs.declared.tokens.Lexeme.{Lexeme}
-use Rattle.dsr_meaning.specs.Tokens.{Begins, IsCut, here, further}
+use Rattle.dsr_tree.specs.declared.tokens.Lexeme.{Lexeme}
+use Rattle.dsr_text.specs.Tokens.{Begins, IsCut, here, further}
 use Rattle.dsr_tokens.proofs.Steps.{begins_once, begins_some}
 
 -- one cut behind another

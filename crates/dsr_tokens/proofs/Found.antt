@@ -3,11 +3,11 @@ use Rattle.std.proofs.Common.{◌≡◌, ◌≢◌, ℕ, zero, suc, ◌+◌, ◌
 use Rattle.std.specs.List.{prefix_len}
 use Rattle.std.proofs.lemmas.List.{take-append-drop, take_at, take_all, length-take-le}
 use Rattle.std.proofs.lemmas.List.Sums.{prefix_len-le-length}
-use Rattle.dsr_ir.specs.declared.tokens.Keyword.{Keyword}
-use Rattle.dsr_ir.specs.declared.tokens.Sign.{Sign}
-use Rattle.dsr_ir.specs.declared.tokens.Token.{Token}
-use Rattle.dsr_ir.specs.declared.tokens.Token.TheVariants as token
-use Rattle.dsr_meaning.specs.Tokens.{is_letter, is_digit, is_hexadecimal_digit, is_in_word, every, keyword_spelling, sign_spelling, value_after, is_keyword, Spells, a_keyword, a_name, a_decimal, a_hexadecimal, a_sign, IsWithinLimits}
+use Rattle.dsr_tree.specs.declared.tokens.Keyword.{Keyword}
+use Rattle.dsr_tree.specs.declared.tokens.Sign.{Sign}
+use Rattle.dsr_tree.specs.declared.tokens.Token.{Token}
+use Rattle.dsr_tree.specs.declared.tokens.Token.TheVariants as token
+use Rattle.dsr_text.specs.Tokens.{is_letter, is_digit, is_hexadecimal_digit, is_in_word, every, keyword_spelling, sign_spelling, value_after, is_keyword, Spells, a_keyword, a_name, a_decimal, a_hexadecimal, a_sign, IsWithinLimits}
 use Rattle.dsr_tokens.specs.Front.{begins, begins_hexadecimal, number_below, StandsAt, NoneStands}
 use Rattle.dsr_tokens.specs.Spelled.{BeginsWithSign}
 use Rattle.dsr_tokens.proofs.Lookups.{sign_some}

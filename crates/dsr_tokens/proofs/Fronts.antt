@@ -1,12 +1,12 @@
 -- Tokens that stand first in a text, and how two such lists compare.
 use Rattle.std.proofs.Common.{◌≡◌, ℕ, ◌+◌, List, [], ◌∷◌, ◌++◌, length, Bool, true, false, Option, Some, None, refl, ap, ◌∙◌, sym, subst, map, ◌⊎◌, inl, inr, append_assoc, arith}
-use Rattle.dsr_ir.specs.declared.tokens.Keyword.{Keyword}
-use Rattle.dsr_ir.specs.declared.tokens.Keyword.TheVariants as keyword
-use Rattle.dsr_ir.specs.declared.tokens.Token.{Token}
-use Rattle.dsr_ir.specs.declared.tokens.Token.TheVariants as token
-use Rattle.dsr_ir.specs.declared.tokens.Lexeme.{Lexeme}
-use Rattle.dsr_meaning.specs.Tokens.{is_keyword, is_version, is_two, is_second_version, Spells, a_keyword, a_name, a_decimal, a_hexadecimal, a_sign, Stands, Begins, a_blank, a_comment, a_token, IsCut, here, further}
-use Rattle.dsr_meaning.specs.Sentences.{StandFirst}
+use Rattle.dsr_tree.specs.declared.tokens.Keyword.{Keyword}
+use Rattle.dsr_tree.specs.declared.tokens.Keyword.TheVariants as keyword
+use Rattle.dsr_tree.specs.declared.tokens.Token.{Token}
+use Rattle.dsr_tree.specs.declared.tokens.Token.TheVariants as token
+use Rattle.dsr_tree.specs.declared.tokens.Lexeme.{Lexeme}
+use Rattle.dsr_text.specs.Tokens.{is_keyword, is_version, is_two, is_second_version, Spells, a_keyword, a_name, a_decimal, a_hexadecimal, a_sign, Stands, Begins, a_blank, a_comment, a_token, IsCut, here, further}
+use Rattle.dsr_text.specs.Sentences.{StandFirst}
 use Rattle.dsr_tokens.specs.Lexing.{IsFrontOf}
 use Rattle.dsr_tokens.proofs.Shapes.{both}
 use Rattle.dsr_tokens.proofs.Steps.{begins_once}

@@ -1,10 +1,10 @@
 -- A text has one list of tokens, or one fault.
 use Rattle.std.proofs.Common.{◌≡◌, ℕ, ◌+◌, List, [], ◌∷◌, ◌++◌, length, Bool, true, false, ◌&&◌, refl, ap, ◌∙◌, sym, subst, map, ◌⊎◌, inl, inr}
-use Rattle.dsr_ir.specs.declared.tokens.Token.{Token}
-use Rattle.dsr_ir.specs.declared.tokens.Token.TheVariants as token
+use Rattle.dsr_tree.specs.declared.tokens.Token.{Token}
+use Rattle.dsr_tree.specs.declared.tokens.Token.TheVariants as token
 use Rattle.std.proofs.lemmas.List.{append-nil}
-use Rattle.dsr_ir.specs.declared.tokens.Lexeme.{Lexeme}
-use Rattle.dsr_meaning.specs.Tokens.{is_version, is_two, is_second_version, Begins, a_blank, a_comment, a_token, IsCut, here, further, IsLexed, HasTokenFault}
+use Rattle.dsr_tree.specs.declared.tokens.Lexeme.{Lexeme}
+use Rattle.dsr_text.specs.Tokens.{is_version, is_two, is_second_version, Begins, a_blank, a_comment, a_token, IsCut, here, further, IsLexed, HasTokenFault}
 use Rattle.dsr_tokens.proofs.Cuts.{cut_more, cut_once, SameCut, Stops, end_stops}
 use Rattle.dsr_tokens.proofs.Shapes.{both}
 use Rattle.dsr_tokens.proofs.Versions.{marked, marked_lexeme, cut_marked, stops_marked, marked_second}

@@ -5,11 +5,11 @@ use Rattle.std.specs.List.{starts_with}
 use Rattle.std.specs.Str.{bytes_eq}
 use Rattle.std.proofs.lemmas.List.{take-append-drop}
 use Rattle.std.proofs.lemmas.Slice.Eq.{bytes_eq-Decides}
-use Rattle.dsr_ir.specs.declared.tokens.Keyword.{Keyword}
-use Rattle.dsr_ir.specs.declared.tokens.Keyword.TheVariants as keyword
-use Rattle.dsr_ir.specs.declared.tokens.Sign.{Sign}
-use Rattle.dsr_ir.specs.declared.tokens.Sign.TheVariants as sign
-use Rattle.dsr_meaning.specs.Tokens.{keyword_spelling, sign_spelling, is_keyword}
+use Rattle.dsr_tree.specs.declared.tokens.Keyword.{Keyword}
+use Rattle.dsr_tree.specs.declared.tokens.Keyword.TheVariants as keyword
+use Rattle.dsr_tree.specs.declared.tokens.Sign.{Sign}
+use Rattle.dsr_tree.specs.declared.tokens.Sign.TheVariants as sign
+use Rattle.dsr_text.specs.Tokens.{keyword_spelling, sign_spelling, is_keyword}
 use Rattle.dsr_tokens.specs.Spelled.{keyword_among, sign_among, BeginsWithSign, FindsSign}
 use Rattle.dsr_tokens.specs.declared.spellings.TheConstants.{KEYWORDS, LONG_SIGNS, SHORT_SIGNS}
 

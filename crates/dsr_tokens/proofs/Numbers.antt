@@ -2,7 +2,7 @@
 use Rattle.std.proofs.Common.{◌≡◌, ℕ, suc, ◌+◌, ◌*◌, ◌<◌, ◌≤◌, List, [], ◌∷◌, length, get_or, drop, true, false, Some, None, refl, subst, drop-cons, arith, nat_lt, cond}
 use Rattle.std.proofs.Math.Nat.{le-mul_of_pos_right}
 use Rattle.std.proofs.lemmas.Bool.Decides.{nat_tests}
-use Rattle.dsr_meaning.specs.Tokens.{value_after, digit_value}
+use Rattle.dsr_text.specs.Tokens.{value_after, digit_value}
 use Rattle.dsr_tokens.specs.Front.{number_below}
 
 pub mul_grows : (n base : ℕ) → 1 ≤ base → n ≤ n * base

@@ -1,8 +1,8 @@
 -- What the loop over a text keeps.
 use Rattle.std.proofs.Common.{◌≡◌, ℕ, ◌+◌, ◌<◌, ◌≤◌, List, [], ◌++◌, length, take, drop, Some, None, Ok, ap, ◌∙◌, sym, subst, length-drop, arith}
 use Rattle.std.proofs.lemmas.List.{drop_all, drop-drop, take-append-drop, length-take-le}
-use Rattle.dsr_ir.specs.declared.tokens.Lexeme.{Lexeme}
-use Rattle.dsr_meaning.specs.Tokens.{is_second_version, IsCut, here, IsLexed}
+use Rattle.dsr_tree.specs.declared.tokens.Lexeme.{Lexeme}
+use Rattle.dsr_text.specs.Tokens.{is_second_version, IsCut, here, IsLexed}
 use Rattle.dsr_tokens.specs.Lexing.{Steps, StepsOn, IsFrontOf}
 use Rattle.dsr_tokens.proofs.Laws.{cut_step}
 

@@ -2,13 +2,13 @@
 use Rattle.std.proofs.Common.{◌≡◌, ℕ, suc, ◌+◌, ◌≤◌, List, [], ◌∷◌, ◌++◌, length, take, drop, Bool, true, false, not, ◌&&◌, ◌||◌, refl, ap, ◌∙◌, sym, subst, cond, inl, inr, Some, nat_eq, arith}
 use Rattle.std.specs.List.{prefix_len}
 use Rattle.std.proofs.lemmas.Bool.Decides.{nat_tests}
-use Rattle.dsr_ir.specs.declared.tokens.Keyword.{Keyword}
-use Rattle.dsr_ir.specs.declared.tokens.Keyword.TheVariants as keyword
-use Rattle.dsr_ir.specs.declared.tokens.Sign.{Sign}
-use Rattle.dsr_ir.specs.declared.tokens.Sign.TheVariants as sign
-use Rattle.dsr_ir.specs.declared.tokens.Token.{Token}
-use Rattle.dsr_ir.specs.declared.tokens.Token.TheVariants as token
-use Rattle.dsr_meaning.specs.Tokens.{is_letter, is_digit, is_hexadecimal_digit, is_in_word, is_blank, every, keyword_spelling, sign_spelling, value_after, Spells, a_keyword, a_name, a_decimal, a_hexadecimal, a_sign}
+use Rattle.dsr_tree.specs.declared.tokens.Keyword.{Keyword}
+use Rattle.dsr_tree.specs.declared.tokens.Keyword.TheVariants as keyword
+use Rattle.dsr_tree.specs.declared.tokens.Sign.{Sign}
+use Rattle.dsr_tree.specs.declared.tokens.Sign.TheVariants as sign
+use Rattle.dsr_tree.specs.declared.tokens.Token.{Token}
+use Rattle.dsr_tree.specs.declared.tokens.Token.TheVariants as token
+use Rattle.dsr_text.specs.Tokens.{is_letter, is_digit, is_hexadecimal_digit, is_in_word, is_blank, every, keyword_spelling, sign_spelling, value_after, Spells, a_keyword, a_name, a_decimal, a_hexadecimal, a_sign}
 use Rattle.dsr_tokens.specs.Front.{begins}
 use Rattle.dsr_tokens.specs.declared.spellings.TheConstants.{KEYWORDS, LONG_SIGNS, SHORT_SIGNS}
 use Rattle.dsr_tokens.specs.Spelled.{keyword_among, sign_among}

@@ -5,9 +5,9 @@ use Rattle.std.proofs.Math.Seq.{take-append_seam, drop-append_seam}
 use Rattle.std.proofs.lemmas.List.{take_at, take_all, drop_at}
 use Rattle.std.proofs.lemmas.List.Sums.{prefix_len-le-length}
 use Rattle.std.proofs.lemmas.Bool.Decides.{nat_tests}
-use Rattle.dsr_ir.specs.declared.tokens.Token.{Token}
-use Rattle.dsr_ir.specs.declared.tokens.Lexeme.{Lexeme}
-use Rattle.dsr_meaning.specs.Tokens.{is_second_version, is_letter, is_digit, is_blank, is_in_line, every, keyword_spelling, sign_spelling, Spells, a_keyword, a_name, a_decimal, a_hexadecimal, a_sign, Stands, EndsLine, Begins, a_blank, a_comment, a_token}
+use Rattle.dsr_tree.specs.declared.tokens.Token.{Token}
+use Rattle.dsr_tree.specs.declared.tokens.Lexeme.{Lexeme}
+use Rattle.dsr_text.specs.Tokens.{is_second_version, is_letter, is_digit, is_blank, is_in_line, every, keyword_spelling, sign_spelling, Spells, a_keyword, a_name, a_decimal, a_hexadecimal, a_sign, Stands, EndsLine, Begins, a_blank, a_comment, a_token}
 use Rattle.dsr_tokens.specs.Lexing.{IsGap, FindsGap, Steps}
 use Rattle.dsr_tokens.specs.Front.{begins, StandsAt}
 use Rattle.dsr_tokens.proofs.Shapes.{both, is_mark, apart, spelled_once, keyword_begins, sign_begins, every_front}

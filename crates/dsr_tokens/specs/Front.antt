@@ -1,8 +1,8 @@
 -- The token at the front of a text.
 use Rattle.std.specs.Prelude.{◌≢◌, ℕ, ◌<◌, ◌≤◌, List, [], ◌∷◌, ◌++◌, length, take, drop, Bool, false, ◌&&◌, nat_eq, Option, Some, None, Result, Ok, Err, nat_lt, if◌then◌else◌}
-use Rattle.dsr_ir.specs.declared.tokens.Token.{Token}
+use Rattle.dsr_tree.specs.declared.tokens.Token.{Token}
 use Rattle.dsr_ir.specs.declared.memory.NoMemory.{NoMemory}
-use Rattle.dsr_meaning.specs.Tokens.{is_hexadecimal_digit, Stands}
+use Rattle.dsr_text.specs.Tokens.{is_hexadecimal_digit, Stands}
 use Rattle.dsr_tokens.specs.declared.words.Found.{Found}
 
 -- whether the first byte passes

@@ -1,9 +1,9 @@
 -- How a text is read.
 use Rattle.std.specs.Prelude.{◌≡◌, ◌≢◌, ℕ, ◌+◌, ◌<◌, ◌≤◌, List, [], ◌++◌, length, take, drop, Bool, Option, Some, None, Result, Ok, Err, Vec}
 use Rattle.std.specs.declared.alloc.Global.{Global}
-use Rattle.dsr_ir.specs.declared.tokens.Lexeme.{Lexeme}
+use Rattle.dsr_tree.specs.declared.tokens.Lexeme.{Lexeme}
 use Rattle.dsr_ir.specs.declared.memory.NoMemory.{NoMemory}
-use Rattle.dsr_meaning.specs.Tokens.{Begins, is_second_version, IsLexed, HasTokenFault}
+use Rattle.dsr_text.specs.Tokens.{Begins, is_second_version, IsLexed, HasTokenFault}
 use Rattle.dsr_tokens.specs.declared.lexer.TokenFault.{TokenFault}
 use Rattle.dsr_tokens.specs.declared.lexer.TokenFault.TheVariants as fault
 

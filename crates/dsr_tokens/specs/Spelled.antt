@@ -2,9 +2,9 @@
 use Rattle.std.specs.Prelude.{◌≡◌, ◌≢◌, ℕ, ◌≤◌, List, [], ◌∷◌, ◌++◌, length, Bool, Option, Some, None, nat_eq, IsTrue, if◌then◌else◌}
 use Rattle.std.specs.List.{starts_with}
 use Rattle.std.specs.Str.{bytes_eq}
-use Rattle.dsr_ir.specs.declared.tokens.Keyword.{Keyword}
-use Rattle.dsr_ir.specs.declared.tokens.Sign.{Sign}
-use Rattle.dsr_meaning.specs.Tokens.{keyword_spelling, sign_spelling, is_keyword}
+use Rattle.dsr_tree.specs.declared.tokens.Keyword.{Keyword}
+use Rattle.dsr_tree.specs.declared.tokens.Sign.{Sign}
+use Rattle.dsr_text.specs.Tokens.{keyword_spelling, sign_spelling, is_keyword}
 
 -- the first of these keywords that is spelled so
 abbrev pub keyword_among : List Keyword → List ℕ → Option Keyword

@@ -1,7 +1,7 @@
 // The bytes that tokens are made of, and runs of them.
 ghost use Rattle.std.specs.Prelude.{◌≡◌, IsTrue};
 ghost use Rattle.std.specs.List.{prefix_len};
-ghost use Rattle.dsr_meaning.specs.Tokens.{is_letter, is_digit, is_hexadecimal_digit, is_in_word, is_in_line, is_blank, digit_value};
+ghost use Rattle.dsr_text.specs.Tokens.{is_letter, is_digit, is_hexadecimal_digit, is_in_word, is_in_line, is_blank, digit_value};
 
 pub fn is_letter_byte(b: u8) -> bool
     ensures { result ≡ is_letter b }

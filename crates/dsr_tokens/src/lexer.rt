@@ -1,11 +1,12 @@
 // The tokens of a text.
 ghost use Rattle.std.specs.Prelude.{◌≡◌, ◌<◌, length, drop, IfOk};
-ghost use Rattle.dsr_meaning.specs.Tokens.{is_second_version, is_two, is_version};
+ghost use Rattle.dsr_text.specs.Tokens.{is_second_version, is_two, is_version};
 ghost use Rattle.dsr_tokens.specs.Lexing.{FindsGap, IsFrontOf, Lexes, StepsOn};
 
 use crate::bytes::{is_blank_byte, line_len};
 use crate::words::find_token;
-use dsr_ir::{Keyword, Lexeme, NoMemory, Token};
+use dsr_ir::NoMemory;
+use dsr_tree::{Keyword, Lexeme, Token};
 use std::alloc::{AllocFailed, Global};
 use thiserror::Error;
 

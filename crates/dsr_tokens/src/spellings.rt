@@ -1,9 +1,9 @@
 // How keywords and signs are spelled.
 ghost use Rattle.std.specs.Prelude.{◌≡◌};
-ghost use Rattle.dsr_meaning.specs.Tokens.{is_keyword, keyword_spelling, sign_spelling};
+ghost use Rattle.dsr_text.specs.Tokens.{is_keyword, keyword_spelling, sign_spelling};
 ghost use Rattle.dsr_tokens.specs.Spelled.{keyword_among, sign_among, FindsKeyword, FindsSign};
 
-use dsr_ir::{Keyword, Sign};
+use dsr_tree::{Keyword, Sign};
 
 const KEYWORDS: [Keyword; 42] = [
     Keyword::Version,

@@ -1,6 +1,6 @@
 // Texts and their tokens, counted by hand from the lexical grammar.
 use crate::{TokenFault, tokens};
-use dsr_ir::{Lexeme, Token};
+use dsr_tree::{Lexeme, Token};
 use std::alloc::Global;
 use std::test::Fail;
 

@@ -1,6 +1,6 @@
 // The token at the front of a text.
 ghost use Rattle.std.specs.Prelude.{◌≡◌, ◌≤◌, ◌^◌, Bool, false, IsTrue};
-ghost use Rattle.dsr_meaning.specs.Tokens.{every, is_letter, is_digit, is_hexadecimal_digit, value_after};
+ghost use Rattle.dsr_text.specs.Tokens.{every, is_letter, is_digit, is_hexadecimal_digit, value_after};
 ghost use Rattle.dsr_tokens.specs.Front.{begins, begins_hexadecimal, number_below, FindsFront, FindsToken};
 
 use crate::bytes::{
@@ -8,7 +8,8 @@ use crate::bytes::{
     word_len,
 };
 use crate::spellings::{find_keyword, find_sign, sign_bytes};
-use dsr_ir::{Name, NoMemory, Token};
+use dsr_ir::{Name, NoMemory};
+use dsr_tree::Token;
 use std::alloc::Global;
 
 const NAME_LIMIT: usize = 32;

@@ -8,7 +8,8 @@ use crate::reader::forms::{Clause, Conclusion, Demand, Entry, Form, Link, Premis
 use crate::reader::names::number_in_names;
 use crate::reader::statements::{name_in, number_in};
 use crate::reader::typed::make_name;
-use dsr_ir::{Keyword, Name, Seq, Sign, Token};
+use dsr_ir::{Name, Seq};
+use dsr_tree::{Keyword, Sign, Token};
 use std::alloc::{AllocError, AllocFailed, Global};
 
 fn statement_of(statements: &[Seq<Token>], number: usize) -> &[Token]

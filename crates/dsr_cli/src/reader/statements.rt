@@ -2,7 +2,8 @@
 ghost use Rattle.std.specs.Prelude.{◌≡◌, ◌++◌, [], IfOk, map, IsTrue};
 ghost use Rattle.dsr_cli.specs.FormStatements.{is_end, cut, token_of, name_at, number_at};
 
-use dsr_ir::{Lexeme, Name, Seq, Sign, Token};
+use dsr_ir::{Name, Seq};
+use dsr_tree::{Lexeme, Sign, Token};
 use std::alloc::{AllocError, AllocFailed, Global};
 
 fn is_end_token(token: &Token) -> bool

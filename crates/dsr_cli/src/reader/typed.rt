@@ -5,11 +5,7 @@ ghost use Rattle.dsr_cli.specs.FormSpecs.{sort_width, sort_kind, entry_field, st
 
 use crate::reader::conditions::{is_fixed_sort, size_of_fields};
 use crate::reader::forms::{Clause, Conclusion, Entry, Form, Link, Premise, Side, Sort};
-use dsr_ir::{
-    Atom, Bound, Conj, Constraint, Expr, Field, FieldRef, Inc, Kind, Literal, Measure, Name, Op,
-    Order, Path, Pool, Quant, Rel, Rule, Seq, SetDecl, Span, Spec, Structure, Structures, Var,
-    Width,
-};
+use dsr_ir::{Atom, Bound, Conj, Constraint, Expr, Field, FieldRef, Inc, Kind, Literal, Measure, Name, Op, Order, Path, Pool, Quant, Rel, Rule, Seq, SetDecl, Span, Spec, Structure, Structures, Var, Width};
 use std::alloc::{AllocError, AllocFailed, Global};
 
 /// The name of these bytes.

@@ -6,7 +6,8 @@ ghost use Rattle.dsr_cli.specs.FormTokens.{entry_name, count_name, set_name, rel
 use crate::reader::conditions::{fields_of_premise, size_of_fields};
 use crate::reader::forms::{Clause, Conclusion, Entry, Form, Link, Premise, Side, Sort};
 use crate::reader::names::name_of;
-use dsr_ir::{Keyword, Name, Seq, Sign, Token};
+use dsr_ir::{Name, Seq};
+use dsr_tree::{Keyword, Sign, Token};
 use std::alloc::{AllocError, AllocFailed, Global};
 
 /// A token to write, with a name that lies elsewhere.

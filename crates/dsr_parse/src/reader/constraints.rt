@@ -2,14 +2,15 @@
 ghost use Rattle.std.specs.Prelude.{IfOk, IfErr, ◌∷◌, []};
 ghost use Rattle.dsr_ir.specs.Trees as shapes;
 ghost use Rattle.dsr_meaning.specs.Grammar as grammar;
-ghost use Rattle.dsr_meaning.specs.Phrases.{in_turn};
-ghost use Rattle.dsr_meaning.specs.Syntax.{Many};
+ghost use Rattle.dsr_text.specs.Phrases.{in_turn};
+ghost use Rattle.dsr_text.specs.Syntax.{Many};
 ghost use Rattle.dsr_meaning.specs.TreeTexts as texts;
 ghost use Rattle.dsr_parse.specs.Reading.{Reads, Halts, said_constraint};
 
 use crate::reader::{Reader, Stop};
-use dsr_ir::tree::{Binder, Constraint, PlacedNumber, Quantifier, Tree};
-use dsr_ir::{Keyword, Order, Seq, Sign};
+use dsr_tree::{Binder, Constraint, PlacedNumber, Quantifier, Tree};
+use dsr_ir::{Order, Seq};
+use dsr_tree::{Keyword, Sign};
 
 impl<'a> Reader<'a> {
     // Reads the tree of a whole text; what stands behind it is left.

@@ -2,14 +2,14 @@
 ghost use Rattle.std.specs.Prelude.{◌≤◌, IfOk, IfErr, ◌∷◌, []};
 ghost use Rattle.dsr_ir.specs.Trees as shapes;
 ghost use Rattle.dsr_meaning.specs.Grammar as grammar;
-ghost use Rattle.dsr_meaning.specs.Phrases.{in_turn};
-ghost use Rattle.dsr_meaning.specs.Syntax.{Many, a_word};
+ghost use Rattle.dsr_text.specs.Phrases.{in_turn};
+ghost use Rattle.dsr_text.specs.Syntax.{Many, a_word};
 ghost use Rattle.dsr_meaning.specs.TreeTexts as texts;
 ghost use Rattle.dsr_parse.specs.Reading.{Reads, Halts, Next, Found, said_term, said_factor};
 
 use crate::reader::{Reader, Stop};
-use dsr_ir::tree::{Expr, Factor, MoreFactor, MoreTerm, ProductSign, SumSign, Term2};
-use dsr_ir::{Keyword, Sign};
+use dsr_tree::{Expr, Factor, MoreFactor, MoreTerm, ProductSign, SumSign, Term2};
+use dsr_tree::{Keyword, Sign};
 
 impl<'a> Reader<'a> {
     // Reads an expression, inside so many parentheses.

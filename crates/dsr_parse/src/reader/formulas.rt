@@ -2,14 +2,14 @@
 ghost use Rattle.std.specs.Prelude.{◌≡◌, ◌≤◌, IfOk, IfErr, ◌∷◌, []};
 ghost use Rattle.dsr_ir.specs.Trees as shapes;
 ghost use Rattle.dsr_meaning.specs.Grammar as grammar;
-ghost use Rattle.dsr_meaning.specs.Phrases.{in_turn};
-ghost use Rattle.dsr_meaning.specs.Syntax.{Many, free};
+ghost use Rattle.dsr_text.specs.Phrases.{in_turn};
+ghost use Rattle.dsr_text.specs.Syntax.{Many, free};
 ghost use Rattle.dsr_meaning.specs.TreeTexts as texts;
 ghost use Rattle.dsr_parse.specs.Reading.{Reads, Halts, said_join, said_unit};
 
 use crate::reader::{Reader, Stop};
-use dsr_ir::tree::{Atom, Bound, Compare, Formula, Join, Measure, PlacedName, Size, Unit, Var};
-use dsr_ir::{Keyword, Sign};
+use dsr_tree::{Atom, Bound, Compare, Formula, Join, Measure, PlacedName, Size, Unit, Var};
+use dsr_tree::{Keyword, Sign};
 
 impl<'a> Reader<'a> {
     // Reads a formula, inside so many constructs.

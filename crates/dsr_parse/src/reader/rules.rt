@@ -1,17 +1,18 @@
 // Rules.
 ghost use Rattle.std.specs.Prelude.{IfOk, IfErr, ◌∷◌, []};
 ghost use Rattle.dsr_meaning.specs.Grammar as grammar;
-ghost use Rattle.dsr_meaning.specs.Phrases.{in_turn};
-ghost use Rattle.dsr_meaning.specs.Syntax.{Many};
+ghost use Rattle.dsr_text.specs.Phrases.{in_turn};
+ghost use Rattle.dsr_text.specs.Syntax.{Many};
 ghost use Rattle.dsr_meaning.specs.TreeTexts as texts;
 ghost use Rattle.dsr_parse.specs.Reading.{Reads, Halts, Found};
 
 use crate::reader::{Reader, Stop};
-use dsr_ir::tree::{
+use dsr_tree::{
     Guard, Guards, Inclusion, Index, Member, MemberPart, Path, PlacedName, Premise, RefTest, Rule,
     Span, Term,
 };
-use dsr_ir::{Keyword, Seq, Sign};
+use dsr_ir::Seq;
+use dsr_tree::{Keyword, Sign};
 
 impl<'a> Reader<'a> {
     pub fn rules(&mut self) -> Result<Vec<Rule>, Stop>

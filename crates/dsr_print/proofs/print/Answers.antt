@@ -1,6 +1,6 @@
 use Rattle.std.proofs.Common.{sym, subst}
-use Rattle.dsr_meaning.specs.Parsing.{IsReprinted}
-use Rattle.dsr_ir.specs.Trees.{tree_shape}
+use Rattle.dsr_text.specs.Parsing.{IsReprinted}
+use Rattle.dsr_tree.specs.Trees.{tree_shape}
 use Rattle.dsr_print.proofs.Printed.{printed}
 use Rattle.dsr_print.proofs.Reprinting.{reprinted}
 use Rattle.dsr_print.proofs.print.Goals as goal

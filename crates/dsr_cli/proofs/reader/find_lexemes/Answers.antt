@@ -1,4 +1,4 @@
-use Rattle.dsr_meaning.specs.Tokens.{HasTokenFault}
+use Rattle.dsr_text.specs.Tokens.{HasTokenFault}
 use Rattle.dsr_tokens.proofs.Laws.{fault_not_lexed}
 use Rattle.dsr_cli.proofs.reader.find_lexemes.Goals as goal
 

@@ -1,5 +1,5 @@
 use Rattle.std.proofs.Common.{◌≡◌, drop}
-use Rattle.dsr_meaning.specs.Tokens.{every}
+use Rattle.dsr_text.specs.Tokens.{every}
 use Rattle.dsr_cli.specs.FormTexts.{is_no_mark}
 use Rattle.dsr_cli.proofs.reader.has_no_comment.Given as goal
 

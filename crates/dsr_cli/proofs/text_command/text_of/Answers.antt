@@ -1,6 +1,6 @@
 use Rattle.std.proofs.Common.{sym, ◌∙◌}
-use Rattle.dsr_ir.specs.Trees.{tree_shape}
-use Rattle.dsr_meaning.specs.Canonical.{canonical}
+use Rattle.dsr_tree.specs.Trees.{tree_shape}
+use Rattle.dsr_text.specs.Canonical.{canonical}
 use Rattle.dsr_cli.specs.Answers.{printed, spec_refused, with_rules}
 use Rattle.dsr_cli.specs.declared.status.Status.TheVariants.{Ok}
 use Rattle.dsr_cli.proofs.Tellings.{told_fault, told_print, told_spec_fault}

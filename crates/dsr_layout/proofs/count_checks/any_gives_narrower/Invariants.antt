@@ -1,5 +1,5 @@
 use Rattle.std.proofs.Common.{◌≡◌, drop}
-use Rattle.dsr_meaning.specs.Names.{any_of}
+use Rattle.dsr_meaning.specs.Lists.{any_of}
 use Rattle.dsr_meaning.specs.Refusals.{gives_narrower}
 use Rattle.dsr_layout.proofs.count_checks.any_gives_narrower.Given as goal
 

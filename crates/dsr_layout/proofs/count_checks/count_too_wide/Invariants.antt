@@ -1,5 +1,5 @@
 use Rattle.std.proofs.Common.{◌≡◌, drop}
-use Rattle.dsr_meaning.specs.Faults.{each_at}
+use Rattle.dsr_meaning.specs.Lists.{each_at}
 use Rattle.dsr_layout.specs.Telling.{told_of}
 use Rattle.dsr_meaning.specs.Refusals.{CountTooWide, refused_when, constraint_outgrows, count_refusals}
 use Rattle.dsr_layout.proofs.count_checks.count_too_wide.Given as goal

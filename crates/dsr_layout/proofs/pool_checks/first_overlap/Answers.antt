@@ -1,6 +1,6 @@
 use Rattle.std.proofs.Common.{◌≡◌, ◌<◌, ◌+◌, ◌-◌, ℕ, suc, List, ◌∷◌, drop, take, map, length, get_or, Option, true, is_some, None, sym, ap, ◌∙◌, add-one}
 use Rattle.std.proofs.lemmas.List.{take_rest}
-use Rattle.dsr_meaning.specs.Faults.{each_at}
+use Rattle.dsr_meaning.specs.Lists.{each_at}
 use Rattle.dsr_meaning.specs.Refusals.{Overlap, refused_when, share_byte, overlaps}
 use Rattle.dsr_layout.specs.Ranges.{range_of}
 use Rattle.dsr_layout.specs.Telling.{told_of}

@@ -1,5 +1,5 @@
 use Rattle.std.proofs.Common.{◌≡◌, ◌+◌, drop}
-use Rattle.dsr_meaning.specs.Faults.{each_at}
+use Rattle.dsr_meaning.specs.Lists.{each_at}
 use Rattle.dsr_layout.specs.Telling.{told_of}
 use Rattle.dsr_meaning.specs.Refusals.{NoneIsCode, refused_when, is_code_below, none_refusals}
 use Rattle.dsr_layout.proofs.pool_checks.none_is_code.Given as goal

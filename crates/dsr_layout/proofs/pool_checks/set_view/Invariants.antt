@@ -1,5 +1,5 @@
 use Rattle.std.proofs.Common.{◌≡◌, nat_eq, drop, [], if◌then◌else◌}
-use Rattle.dsr_meaning.specs.Faults.{each_at}
+use Rattle.dsr_meaning.specs.Lists.{each_at}
 use Rattle.dsr_layout.specs.Tables.{size_in}
 use Rattle.dsr_layout.specs.Telling.{told_of}
 use Rattle.dsr_meaning.specs.Refusals.{view_refusals, set_refusals}

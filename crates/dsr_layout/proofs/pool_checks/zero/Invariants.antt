@@ -1,5 +1,5 @@
 use Rattle.std.proofs.Common.{◌≡◌, ◌+◌, nat_eq, ◌||◌, drop}
-use Rattle.dsr_meaning.specs.Faults.{each_at}
+use Rattle.dsr_meaning.specs.Lists.{each_at}
 use Rattle.dsr_layout.specs.Telling.{told_of}
 use Rattle.dsr_meaning.specs.Refusals.{Zero, refused_when, zero_refusals}
 use Rattle.dsr_layout.proofs.pool_checks.zero.Given as goal

@@ -1,5 +1,5 @@
 use Rattle.std.proofs.Common.{inr, sym, ◌∙◌, arith}
-use Rattle.dsr_ir.specs.Trees.{tree_shape}
+use Rattle.dsr_tree.specs.Trees.{tree_shape}
 use Rattle.dsr_parse.specs.declared.parser.SyntaxFault.TheVariants.{Token}
 use Rattle.dsr_parse.proofs.Told.{told, not_read, no_fault, tree_stops, tree_no_token, tree_read, tree_spec}
 use Rattle.dsr_parse.proofs.parser.parse.Goals as goal

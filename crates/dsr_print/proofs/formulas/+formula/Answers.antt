@@ -1,5 +1,5 @@
 use Rattle.std.proofs.lemmas.Result.{on_ok_weaker}
-use Rattle.dsr_ir.specs.Trees.{join_shape, unit_shape}
+use Rattle.dsr_tree.specs.Trees.{join_shape, unit_shape}
 use Rattle.dsr_print.specs.Writing.{behind_or, behind_and}
 use Rattle.dsr_print.proofs.Steps.{adds_then, adds_shape}
 use Rattle.dsr_print.proofs.Rows.{formula_is, join_is}

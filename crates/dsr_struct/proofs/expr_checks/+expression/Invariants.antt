@@ -1,8 +1,8 @@
 use Rattle.std.proofs.Common.{map, take}
 use Rattle.std.specs.Str.{bytes_eq}
 use Rattle.indexmap.specs.IndexMap.{get}
-use Rattle.dsr_ir.specs.Trees.{more_term_shape, more_factor_shape, in_terms, in_factors}
-use Rattle.dsr_meaning.specs.Declarations.{more_terms_faults, more_factors_faults}
+use Rattle.dsr_tree.specs.Trees.{more_term_shape, more_factor_shape, in_terms, in_factors}
+use Rattle.dsr_text.specs.Declarations.{more_terms_faults, more_factors_faults}
 use Rattle.dsr_struct.specs.Telling.{Finds}
 use Rattle.dsr_struct.proofs.expr_checks.+expression.Given as goal
 

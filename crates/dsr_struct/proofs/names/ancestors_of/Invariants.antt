@@ -1,8 +1,8 @@
 use Rattle.std.proofs.Common.{◌≡◌, map, take}
 use Rattle.std.specs.Str.{bytes_eq}
 use Rattle.indexmap.specs.IndexMap.{get}
-use Rattle.dsr_ir.specs.Trees.{structure_shape}
-use Rattle.dsr_meaning.specs.Names.{all_ancestors}
+use Rattle.dsr_tree.specs.Trees.{structure_shape}
+use Rattle.dsr_text.specs.Names.{all_ancestors}
 use Rattle.dsr_struct.proofs.names.ancestors_of.Given as goal
 
 abbrev pub invariant-loop-structure : goal.invariant-loop-structure

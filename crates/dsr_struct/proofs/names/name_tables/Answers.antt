@@ -4,8 +4,8 @@ use Rattle.std.proofs.Math.Nat.{min_comm}
 use Rattle.std.specs.List.{position_from}
 use Rattle.std.specs.Str.{bytes_eq}
 use Rattle.indexmap.specs.IndexMap.{get}
-use Rattle.dsr_ir.specs.Trees.{structure_shape, tree_shape}
-use Rattle.dsr_meaning.specs.Names.{all_ancestors, field_number, fixed_in}
+use Rattle.dsr_tree.specs.Trees.{structure_shape, tree_shape}
+use Rattle.dsr_text.specs.Names.{all_ancestors, field_number, fixed_in}
 use Rattle.dsr_struct.specs.Known.{is_named, told_by}
 use Rattle.dsr_struct.proofs.Tables.{tables_tell}
 use Rattle.dsr_struct.proofs.names.name_tables.Goals as goal

@@ -1,7 +1,7 @@
 use Rattle.std.proofs.Common.{sym, ap, ◌∙◌, subst}
 use Rattle.std.proofs.lemmas.Result.{err_from_is_err_and}
-use Rattle.dsr_ir.specs.Trees.{tree_shape}
-use Rattle.dsr_meaning.specs.Tables.{tables_with}
+use Rattle.dsr_tree.specs.Trees.{tree_shape}
+use Rattle.dsr_text.specs.Tables.{tables_with}
 use Rattle.dsr_struct.specs.Known.{told_by}
 use Rattle.dsr_meaning.specs.Resolved.{AreResolved}
 use Rattle.dsr_meaning.specs.Typed.{AreTyped}

@@ -1,5 +1,5 @@
 use Rattle.std.proofs.Common.{◌-◌, ◌≤◌, length, drop}
-use Rattle.dsr_meaning.specs.Tokens.{IsCut, is_second_version}
+use Rattle.dsr_text.specs.Tokens.{IsCut, is_second_version}
 use Rattle.dsr_tokens.proofs.lexer.front.Given as goal
 
 abbrev pub decreases-loop-place : goal.decreases-loop-place

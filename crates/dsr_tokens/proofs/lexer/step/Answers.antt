@@ -1,5 +1,5 @@
 use Rattle.std.proofs.Common.{◌-◌, take, drop, length, Some, ◌∙◌, subst, ap}
-use Rattle.dsr_meaning.specs.Tokens.{is_second_version}
+use Rattle.dsr_text.specs.Tokens.{is_second_version}
 use Rattle.dsr_tokens.specs.Front.{StandsAt, FindsFront}
 use Rattle.dsr_tokens.proofs.Steps.{token_step}
 use Rattle.dsr_tokens.proofs.lexer.step.Goals as goal

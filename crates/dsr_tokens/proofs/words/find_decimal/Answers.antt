@@ -1,5 +1,5 @@
 use Rattle.std.proofs.Common.{take, sym, subst, ◌∙◌}
-use Rattle.dsr_meaning.specs.Tokens.{value_after}
+use Rattle.dsr_text.specs.Tokens.{value_after}
 use Rattle.dsr_tokens.specs.Front.{FindsFront}
 use Rattle.dsr_tokens.proofs.Found.{decimal_digits, decimal_front, number_stands, number_too_large}
 use Rattle.dsr_tokens.proofs.words.find_decimal.Goals as goal

@@ -1,5 +1,5 @@
 use Rattle.std.proofs.Common.{◌-◌, ◌+◌, take, drop, length, sym, subst, ◌∙◌}
-use Rattle.dsr_meaning.specs.Tokens.{value_after}
+use Rattle.dsr_text.specs.Tokens.{value_after}
 use Rattle.dsr_tokens.specs.Front.{FindsFront}
 use Rattle.dsr_tokens.proofs.Found.{hexadecimal_digits, hexadecimal_at, number_stands, number_too_large}
 use Rattle.dsr_tokens.proofs.words.find_hexadecimal.Goals as goal

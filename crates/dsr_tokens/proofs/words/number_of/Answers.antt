@@ -1,6 +1,6 @@
 use Rattle.std.proofs.Common.{◌≡◌, ◌∙◌, sym, subst, Some, arith}
 use Rattle.dsr_tokens.specs.Front.{number_below}
-use Rattle.dsr_meaning.specs.Tokens.{value_after}
+use Rattle.dsr_text.specs.Tokens.{value_after}
 use Rattle.std.proofs.lemmas.Grind.{common_steps}
 use Rattle.dsr_tokens.proofs.Numbers.{passes_limit, stays_below}
 use Rattle.dsr_tokens.proofs.words.number_of.Goals as goal

@@ -1,5 +1,5 @@
 use Rattle.std.proofs.Common.{◌≡◌, drop, ◌<◌, ◌^◌, IsTrue}
-use Rattle.dsr_meaning.specs.Tokens.{every, is_hexadecimal_digit, value_after}
+use Rattle.dsr_text.specs.Tokens.{every, is_hexadecimal_digit, value_after}
 use Rattle.dsr_tokens.proofs.words.number_of.Given as goal
 
 abbrev pub invariant-loop-digit : goal.invariant-loop-digit

@@ -44,7 +44,7 @@ factor-returns-in_err-sign-clause-err t c = passed_on c.from_residual-in_err-sig
 
 pub factor-returns-clause-ok : goal.factor-returns-clause-ok
 factor-returns-clause-ok t c =
-    let inner = ap (λ e. Rattle.dsr_meaning.specs.TreeTexts.expr_text (Rattle.dsr_ir.specs.Trees.expr_shape e)) c.in_ok-inner-2.ensures.ok in
+    let inner = ap (λ e. Rattle.dsr_text.specs.TreeTexts.expr_text (Rattle.dsr_tree.specs.Trees.expr_shape e)) c.in_ok-inner-2.ensures.ok in
     reads_right refl (other_is (sym c.is_number.ensures ∙ c.if-is_number.false)) (reads_right refl (other_is (sym c.is_name.ensures ∙ c.if-is_name.false)) (reads_then c.in_ok-place.ensures.ok (reads_then (reads_as inner (expression_inside c.in_ok-inner.ensures.ok)) (reads_unkept c.in_ok-sign.ensures.ok))))
 
 pub more_terms-loop-terms-init : goal.more_terms-loop-terms-init

@@ -1,6 +1,6 @@
 use Rattle.std.proofs.Common.{refl, sym, ap, ◌∙◌, arith}
-use Rattle.dsr_meaning.specs.TreeTexts.{unit_text, formula_text}
-use Rattle.dsr_ir.specs.Trees.{unit_shape, formula_shape}
+use Rattle.dsr_text.specs.TreeTexts.{unit_text, formula_text}
+use Rattle.dsr_tree.specs.Trees.{unit_shape, formula_shape}
 use Rattle.dsr_parse.proofs.Passing.{passed_on, next_is, other_is, halts_first, halts_rest, halts_left, halts_right, reads_then, reads_left, reads_right, reads_unkept, reads_as, reads_within, says_within, unit_inside, unit_halts, formula_inside, formula_halts, items_none, items_more, items_halt}
 use Rattle.dsr_parse.proofs.Staying.{took, took_next, token_shorter}
 use Rattle.dsr_parse.proofs.TreeRows.{formula_made, join_made}

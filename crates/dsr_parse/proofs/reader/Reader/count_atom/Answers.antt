@@ -1,6 +1,6 @@
 use Rattle.std.proofs.Common.{ap}
-use Rattle.dsr_ir.specs.declared.tokens.Keyword.TheVariants.{Size}
-use Rattle.dsr_meaning.specs.TreeTexts.{word_at}
+use Rattle.dsr_tree.specs.declared.tokens.Keyword.TheVariants.{Size}
+use Rattle.dsr_text.specs.TreeTexts.{word_at}
 use Rattle.dsr_parse.proofs.Passing.{passed_on, halts_first, halts_rest, reads_then, reads_as}
 use Rattle.dsr_parse.proofs.reader.Reader.count_atom.Goals as goal
 

@@ -1,5 +1,5 @@
 use Rattle.std.proofs.Common.{not, refl, ap, ◌∙◌}
-use Rattle.dsr_meaning.specs.TreeTexts.{more_guard_text}
+use Rattle.dsr_text.specs.TreeTexts.{more_guard_text}
 use Rattle.dsr_parse.proofs.Passing.{passed_on, next_is, other_is, halts_first, halts_rest, halts_left, reads_then, reads_left}
 use Rattle.dsr_parse.proofs.Taking.{some_read, some_next, none_known, reads_nothing, turns_as}
 use Rattle.dsr_parse.proofs.reader.Reader.guards.Goals as goal

@@ -1,5 +1,5 @@
 use Rattle.std.proofs.Common.{refl, sym, ◌∙◌, ap}
-use Rattle.dsr_ir.specs.declared.tokens.Token.TheVariants as tokens
+use Rattle.dsr_tree.specs.declared.tokens.Token.TheVariants as tokens
 use Rattle.dsr_parse.proofs.Passing.{taken}
 use Rattle.dsr_parse.proofs.reader.Reader.name.Goals as goal
 

@@ -1,5 +1,5 @@
-use Rattle.dsr_ir.specs.Trees.{structure_shape, pool_shape, constraint_shape}
-use Rattle.dsr_meaning.specs.TreeTexts.{structure_text, pool_text, set_text, relation_text, fresh_text, rule_text, constraint_text}
+use Rattle.dsr_tree.specs.Trees.{structure_shape, pool_shape, constraint_shape}
+use Rattle.dsr_text.specs.TreeTexts.{structure_text, pool_text, set_text, relation_text, fresh_text, rule_text, constraint_text}
 use Rattle.dsr_parse.proofs.Passing.{passed_on, halts_first, halts_rest, reads_then}
 use Rattle.dsr_parse.proofs.Taking.{turns_as, turns_mapped}
 use Rattle.dsr_parse.proofs.reader.Reader.tree.Goals as goal

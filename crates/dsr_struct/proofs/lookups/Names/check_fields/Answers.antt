@@ -1,5 +1,5 @@
 use Rattle.std.proofs.Common.{ap, sym, map, ◌∙◌}
-use Rattle.dsr_ir.specs.Trees.{field_shape}
+use Rattle.dsr_tree.specs.Trees.{field_shape}
 use Rattle.dsr_struct.proofs.Fields.{field_first, field_next, field_last, in_byte}
 use Rattle.dsr_struct.proofs.lookups.Names.check_fields.Goals as goal
 use Rattle.dsr_struct.proofs.lookups.Names.check_fields.Goals.{then-behind_open, else-behind_open}

@@ -1,4 +1,4 @@
-use Rattle.dsr_ir.specs.Trees.{structure_shape}
+use Rattle.dsr_tree.specs.Trees.{structure_shape}
 use Rattle.dsr_struct.specs.Known.{known_of}
 use Rattle.dsr_struct.proofs.Fields.{IsBefore}
 use Rattle.dsr_struct.proofs.lookups.Names.check_fields.Given as goal

@@ -1,5 +1,5 @@
-use Rattle.dsr_ir.specs.Trees.{structure_shape}
-use Rattle.dsr_meaning.specs.Declarations.{structure_faults}
+use Rattle.dsr_tree.specs.Trees.{structure_shape}
+use Rattle.dsr_text.specs.Declarations.{structure_faults}
 use Rattle.dsr_struct.specs.Known.{known_of}
 use Rattle.dsr_struct.proofs.Finding.{finds_next}
 use Rattle.dsr_struct.proofs.lookups.Names.check_structures.Goals as goal

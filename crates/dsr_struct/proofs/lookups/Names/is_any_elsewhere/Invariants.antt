@@ -1,6 +1,6 @@
 use Rattle.std.proofs.Common.{◌≡◌, drop}
-use Rattle.dsr_meaning.specs.Declarations.{is_elsewhere}
-use Rattle.dsr_meaning.specs.Names.{any_of}
+use Rattle.dsr_text.specs.Declarations.{is_elsewhere}
+use Rattle.dsr_meaning.specs.Lists.{any_of}
 use Rattle.dsr_struct.specs.Known.{known_of}
 use Rattle.dsr_struct.proofs.lookups.Names.is_any_elsewhere.Given as goal
 

@@ -1,7 +1,7 @@
 use Rattle.std.proofs.Common.{◌≡◌, map, take}
 use Rattle.dsr_ir.specs.Shapes.{field_shape as shape_of_field}
-use Rattle.dsr_ir.specs.Trees.{field_shape}
-use Rattle.dsr_meaning.specs.Tables.{typed_field}
+use Rattle.dsr_tree.specs.Trees.{field_shape}
+use Rattle.dsr_text.specs.Tables.{typed_field}
 use Rattle.dsr_struct.specs.Known.{known_of}
 use Rattle.dsr_struct.proofs.lookups.Names.typed_fields.Given as goal
 

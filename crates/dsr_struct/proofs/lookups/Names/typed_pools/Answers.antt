@@ -1,6 +1,6 @@
 use Rattle.dsr_ir.specs.Shapes.{pool_shape as shape_of_pool}
-use Rattle.dsr_ir.specs.Trees.{pool_shape}
-use Rattle.dsr_meaning.specs.Tables.{typed_pool}
+use Rattle.dsr_tree.specs.Trees.{pool_shape}
+use Rattle.dsr_text.specs.Tables.{typed_pool}
 use Rattle.dsr_struct.specs.Known.{known_of}
 use Rattle.dsr_struct.proofs.Mapped.{made_next}
 use Rattle.dsr_struct.proofs.lookups.Names.typed_pools.Goals as goal

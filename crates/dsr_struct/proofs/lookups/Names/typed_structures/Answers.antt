@@ -1,7 +1,7 @@
 use Rattle.std.proofs.Common.{All, map, subst, sym}
 use Rattle.dsr_ir.specs.Shapes.{structure_shape as shape_of_structure}
-use Rattle.dsr_ir.specs.Trees.{structure_shape}
-use Rattle.dsr_meaning.specs.Tables.{typed_structure}
+use Rattle.dsr_tree.specs.Trees.{structure_shape}
+use Rattle.dsr_text.specs.Tables.{typed_structure}
 use Rattle.dsr_struct.specs.Known.{known_of, HasLegalWidths}
 use Rattle.dsr_struct.proofs.Mapped.{item_has, made_next}
 use Rattle.dsr_struct.proofs.lookups.Names.typed_structures.Goals as goal

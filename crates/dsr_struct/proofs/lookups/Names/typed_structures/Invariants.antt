@@ -1,7 +1,7 @@
 use Rattle.std.proofs.Common.{◌≡◌, map, take}
 use Rattle.dsr_ir.specs.Shapes.{structure_shape as shape_of_structure}
-use Rattle.dsr_ir.specs.Trees.{structure_shape}
-use Rattle.dsr_meaning.specs.Tables.{typed_structure}
+use Rattle.dsr_tree.specs.Trees.{structure_shape}
+use Rattle.dsr_text.specs.Tables.{typed_structure}
 use Rattle.dsr_struct.specs.Known.{known_of}
 use Rattle.dsr_struct.proofs.lookups.Names.typed_structures.Given as goal
 

@@ -1,0 +1,13 @@
+pub mod Bare
+pub mod Canonical
+pub mod Declarations
+pub mod Faults
+pub mod Grammar
+pub mod Names
+pub mod Parsing
+pub mod Phrases
+pub mod Sentences
+pub mod Syntax
+pub mod Tables
+pub mod Tokens
+pub mod TreeTexts

@@ -1,0 +1,118 @@
+// The tokens of a specification's text.
+use dsr_ir::{Name, NoMemory, TryClone};
+use std::alloc::Global;
+
+/// A word that is no name.
+#[derive(Clone, Copy, PartialEq, Eq)]
+pub enum Keyword {
+    Version,
+    Order,
+    Little,
+    Big,
+    Structure,
+    Extends,
+    Fixed,
+    U8,
+    U16,
+    U32,
+    U64,
+    Bits,
+    Init,
+    Skip,
+    Pool,
+    Slot,
+    At,
+    Codes,
+    Step,
+    None,
+    Set,
+    Of,
+    As,
+    Except,
+    Relation,
+    Head,
+    Number,
+    Fresh,
+    Avoid,
+    Rule,
+    In,
+    When,
+    And,
+    Legal,
+    Illegal,
+    Some,
+    Constraint,
+    Forall,
+    Or,
+    Not,
+    Given,
+    Size,
+}
+
+/// A token of one or two marks.
+#[derive(Clone, Copy, PartialEq, Eq)]
+pub enum Sign {
+    Semicolon,
+    Colon,
+    Comma,
+    Dot,
+    OpenBrace,
+    CloseBrace,
+    OpenBracket,
+    CloseBracket,
+    OpenParenthesis,
+    CloseParenthesis,
+    /// `->`
+    Arrow,
+    /// `=>`
+    Gives,
+    Plus,
+    Minus,
+    Times,
+    Over,
+    Equal,
+    /// `!=`
+    Differs,
+    Less,
+    /// `<=`
+    AtMost,
+    Greater,
+    /// `>=`
+    AtLeast,
+}
+
+/// A token: a keyword, a name that is no keyword, a number, or a sign.
+#[derive(Drop, PartialEq, Eq)]
+pub enum Token {
+    Keyword(Keyword),
+    Name(Name),
+    Number(u64),
+    Sign(Sign),
+}
+
+impl TryClone for Token {
+    fn clone(&self, alloc: Global) -> Result<Token, NoMemory> {
+        Ok(match self {
+            Token::Keyword(keyword) => Token::Keyword(*keyword),
+            Token::Name(name) => Token::Name(name.clone(alloc)?),
+            Token::Number(number) => Token::Number(*number),
+            Token::Sign(sign) => Token::Sign(*sign),
+        })
+    }
+}
+
+/// A token with the place of its first byte in the text, counted from 0.
+#[derive(Drop)]
+pub struct Lexeme {
+    pub token: Token,
+    pub place: u64,
+}
+
+impl TryClone for Lexeme {
+    fn clone(&self, alloc: Global) -> Result<Lexeme, NoMemory> {
+        Ok(Lexeme {
+            token: self.token.clone(alloc)?,
+            place: self.place,
+        })
+    }
+}

@@ -1,6 +1,9 @@
 -- What an expression says, apart from where its parts lie in memory.
-use Rattle.std.specs.Prelude.{◌≡◌, refl, ℕ, zero, suc, ◌++◌, List, [], ◌∷◌, Bool, false, ◌&&◌, nat_eq}
-use Rattle.std.proofs.Common.{◌∙◌, ap}
+use Rattle.std.specs.Prelude.{◌≡◌, refl, ℕ, zero, suc, ◌++◌, List, [], ◌∷◌, Bool, true, false, ◌&&◌, nat_eq}
+use Rattle.std.proofs.Common.{◌∙◌, ap, sym}
+use Rattle.std.specs.Bool.{Decides}
+use Rattle.std.specs.Cmp.{IsEquivalence, decided, unsigned_Decides, first_so, second_so}
+use mathlib.Core.Bool.{true≢false}
 use Rattle.std.specs.Coded.{Coded, code_by, coded×, coded_ℕ, coded_list}
 use Rattle.dsr_ir.specs.declared.expressions.ExprNode.{ExprNode, Num, Fixed, Sum', Less', Times', Over'}
 
@@ -34,17 +37,17 @@ postfix (TimesOf a b) = postfix a ++ (postfix b ++ (4, 0) ∷ [])
 postfix (OverOf a b) = postfix a ++ (postfix b ++ (5, 0) ∷ [])
 
 -- the operation on the two last expressions, the last one being its right side
-abbrev pub joined : (ExprShape → ExprShape → ExprShape) → List ExprShape → List ExprShape
-joined operation (b ∷ a ∷ rest) = operation a b ∷ rest
-joined operation other = other
+abbrev pub combined : (ExprShape → ExprShape → ExprShape) → List ExprShape → List ExprShape
+combined operation (b ∷ a ∷ rest) = operation a b ∷ rest
+combined operation other = other
 
 abbrev pub taken : ℕ → ℕ → List ExprShape → List ExprShape
 taken zero n stack = NumOf n ∷ stack
 taken (suc zero) n stack = FixedOf n ∷ stack
-taken (suc (suc zero)) n stack = joined SumOf stack
-taken (suc (suc (suc zero))) n stack = joined LessOf stack
-taken (suc (suc (suc (suc zero)))) n stack = joined TimesOf stack
-taken (suc (suc (suc (suc (suc k))))) n stack = joined OverOf stack
+taken (suc (suc zero)) n stack = combined SumOf stack
+taken (suc (suc (suc zero))) n stack = combined LessOf stack
+taken (suc (suc (suc (suc zero)))) n stack = combined TimesOf stack
+taken (suc (suc (suc (suc (suc k))))) n stack = combined OverOf stack
 
 abbrev pub run : List (ℕ × ℕ) → List ExprShape → List ExprShape
 run [] stack = stack
@@ -93,3 +96,32 @@ is_same (LessOf a b) (LessOf c d) = is_same a c && is_same b d
 is_same (TimesOf a b) (TimesOf c d) = is_same a c && is_same b d
 is_same (OverOf a b) (OverOf c d) = is_same a c && is_same b d
 is_same _ _ = false
+
+both : (F : ExprShape → ExprShape → ExprShape) (p q : Bool) (a b c d : ExprShape) → (p ≡ true → a ≡ c) → (q ≡ true → b ≡ d) → (p && q) ≡ true → F a b ≡ F c d
+both F p q a b c d f g e =
+    let left = f (first_so p q e) in
+    let right = g (second_so p q e) in
+    λ i. F (left i) (right i)
+
+same_so : (s t : ExprShape) → is_same s t ≡ true → s ≡ t
+same_so (NumOf m) (NumOf n) e = ap NumOf ((unsigned_Decides m n).0 e)
+same_so (FixedOf m) (FixedOf n) e = ap FixedOf ((unsigned_Decides m n).0 e)
+same_so (SumOf a b) (SumOf c d) e = both SumOf (is_same a c) (is_same b d) a b c d (same_so a c) (same_so b d) e
+same_so (LessOf a b) (LessOf c d) e = both LessOf (is_same a c) (is_same b d) a b c d (same_so a c) (same_so b d) e
+same_so (TimesOf a b) (TimesOf c d) e = both TimesOf (is_same a c) (is_same b d) a b c d (same_so a c) (same_so b d) e
+same_so (OverOf a b) (OverOf c d) e = both OverOf (is_same a c) (is_same b d) a b c d (same_so a c) (same_so b d) e
+same_so s t e = absurd (true≢false (sym e))
+
+itself : (s : ExprShape) → is_same s s ≡ true
+itself (NumOf m) = (unsigned_Decides m m).1 refl
+itself (FixedOf m) = (unsigned_Decides m m).1 refl
+itself (SumOf a b) = λ i. itself a i && itself b i
+itself (LessOf a b) = λ i. itself a i && itself b i
+itself (TimesOf a b) = λ i. itself a i && itself b i
+itself (OverOf a b) = λ i. itself a i && itself b i
+
+pub is_same_decides : (s t : ExprShape) → Decides (is_same s t) (s ≡ t)
+is_same_decides s t = (same_so s t, λ e. ap (is_same s) (sym e) ∙ itself s)
+
+pub is_same_equiv : IsEquivalence is_same
+is_same_equiv = decided is_same is_same_decides

@@ -1,2 +1,4 @@
 pub mod Exprs
+pub mod Formulas
 pub mod Layouts
+pub mod Rules

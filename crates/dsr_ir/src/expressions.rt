@@ -110,6 +110,39 @@ impl TryClone for Expr {
     }
 }
 
+impl PartialEq for Expr {
+    ghost use Rattle.std.specs.Cmp.{partial_equiv_from_equiv};
+    ghost use Rattle.dsr_ir.specs.Exprs.{is_same, is_same_equiv};
+
+    ghost eq = { is_same };
+
+    ghost laws = { partial_equiv_from_equiv is_same_equiv };
+
+    fn eq(&self, other: &Expr) -> bool {
+        say_the_same(&self.node, &other.node)
+    }
+}
+
+impl Eq for Expr {
+    ghost use Rattle.dsr_ir.specs.Exprs.{is_same_equiv};
+
+    ghost laws = { is_same_equiv };
+}
+
+fn say_the_same(left: &ExprNode, right: &ExprNode) -> bool
+    ensures { result ≡ is_same (expr_shape left.now) (expr_shape right.now) }
+{
+    match (left, right) {
+        (ExprNode::Num(m), ExprNode::Num(n)) => *m == *n,
+        (ExprNode::Fixed(m), ExprNode::Fixed(n)) => *m == *n,
+        (ExprNode::Sum(a, b), ExprNode::Sum(c, d)) => say_the_same(a, c) && say_the_same(b, d),
+        (ExprNode::Less(a, b), ExprNode::Less(c, d)) => say_the_same(a, c) && say_the_same(b, d),
+        (ExprNode::Times(a, b), ExprNode::Times(c, d)) => say_the_same(a, c) && say_the_same(b, d),
+        (ExprNode::Over(a, b), ExprNode::Over(c, d)) => say_the_same(a, c) && say_the_same(b, d),
+        _ => false,
+    }
+}
+
 #[cycle(copies)]
 fn copy(alloc: Global, node: &ExprNode) -> Result<ExprNode, NoMemory>
     ensures { IfOk result (λ copy. expr_shape copy ≡ expr_shape node.now) }

@@ -4,6 +4,7 @@
 mod constraints;
 mod declarations;
 mod expressions;
+mod formulas;
 mod layouts;
 mod memory;
 mod names;
@@ -17,6 +18,7 @@ pub use declarations::{
     Field, FieldRef, Kind, Order, Pool, Rel, SetDecl, Spec, Structure, Structures, Width,
 };
 pub use expressions::{Expr, ExprNode};
+pub use formulas::{Formula, FormulaNode};
 pub use layouts::{Cell, FieldPlace, Layout, PoolNumbers};
 pub use memory::{NoMemory, TryClone, copied};
 pub use names::Name;

@@ -1,5 +1,5 @@
 // Model definition rules.
-use crate::{FieldRef, NoMemory, Seq, TryClone};
+use crate::{FieldRef, NoMemory, Seq, Symbol, TryClone};
 use std::alloc::Global;
 
 /// A comparison of two numbers.
@@ -72,6 +72,42 @@ pub enum Inc {
     OwnPair(u32, Path),
     /// The slot at the index with a field's value is in the relation.
     SlotPair(u32, u32, Path),
+}
+
+impl Inc {
+    ghost use Rattle.std.specs.Prelude.{◌≡◌};
+    ghost use Rattle.dsr_ir.specs.Rules.{symbol_of, target_of, gives};
+
+    /// The set of the member, or the relation of the pair.
+    pub fn symbol(&self) -> Symbol
+        ensures { result ≡ symbol_of self.now }
+    {
+        match *self {
+            Inc::Own(set) | Inc::Target(set, _) | Inc::Slot(set, _) => Symbol::Set(set),
+            Inc::OwnPair(rel, _) | Inc::SlotPair(rel, _, _) => Symbol::Rel(rel),
+        }
+    }
+
+    /// The path that is read for the target; none where the member is the record or a slot itself.
+    pub fn target(&self) -> Option<Path>
+        ensures { result ≡ target_of self.now }
+    {
+        match *self {
+            Inc::Own(_) | Inc::Slot(_, _) => None,
+            Inc::Target(_, path) | Inc::OwnPair(_, path) | Inc::SlotPair(_, _, path) => Some(path),
+        }
+    }
+
+    /// Whether facts of this set or relation are given.
+    pub fn gives(&self, symbol: Symbol) -> bool
+        ensures { result ≡ gives symbol self.now }
+    {
+        match (self.symbol(), symbol) {
+            (Symbol::Set(own), Symbol::Set(set)) => own == set,
+            (Symbol::Rel(own), Symbol::Rel(rel)) => own == rel,
+            _ => false,
+        }
+    }
 }
 
 /// A model definition rule (OOPSLA 2003): from a premise and guards to an inclusion.

@@ -1,5 +1,5 @@
--- When a literal of a constraint is true in the model of an image.
-use Rattle.std.specs.Prelude.{◌≡◌, ℕ, List, MatchBool}
+-- When a literal of a constraint is true, by what is a fact.
+use Rattle.std.specs.Prelude.{◌≡◌, ℕ, Option, None, Some, IsSomeAnd, MatchBool}
 use Rattle.dsr_ir.specs.declared.constraints.Atom.{Atom}
 use Rattle.dsr_ir.specs.declared.constraints.Atom.TheVariants as atoms
 use Rattle.dsr_ir.specs.declared.constraints.Bound.{Bound}
@@ -9,48 +9,50 @@ use Rattle.dsr_ir.specs.declared.constraints.Measure.{Measure}
 use Rattle.dsr_ir.specs.declared.constraints.Measure.TheVariants.{Whole, Out, Into}
 use Rattle.dsr_ir.specs.declared.constraints.Var.{Var}
 use Rattle.dsr_ir.specs.declared.constraints.Var.TheVariants.{Head, First, Second}
-use Rattle.dsr_ir.specs.declared.declarations.Spec.{Spec}
-use Rattle.dsr_ir.specs.declared.layouts.Layout.{Layout}
 use Rattle.dsr_ir.specs.declared.tuples.Binding.{Binding}
 use Rattle.dsr_ir.specs.declared.tuples.Binding.TheVariants as bindings
 use Rattle.dsr_ir.specs.declared.tuples.Element.{Element}
+use Rattle.dsr_ir.specs.declared.tuples.Fact.{Fact}
+use Rattle.dsr_ir.specs.declared.tuples.Fact.TheVariants as facts
 use Rattle.dsr_ir.specs.declared.tuples.Target.TheVariants.{Elem, Num}
 use Rattle.dsr_meaning.specs.Counting.{AreMany}
 use Rattle.dsr_meaning.specs.Instances.{Compares}
-use Rattle.dsr_meaning.specs.Models.{IsMember, IsPair}
 
 -- the record at byte 0
 abbrev pub head : Element
 head = record { pool = 0; slot = 0 }
 
--- the element that a variable names
-abbrev pub element_of : Binding → Var → Element
-element_of b Head = head
-element_of bindings.Once First = head
-element_of (bindings.Each x) First = x
-element_of (bindings.Pair x y) First = x
-element_of bindings.Once Second = head
-element_of (bindings.Each x) Second = head
-element_of (bindings.Pair x y) Second = y
+-- the element that a variable names; none where the binding hasn't got the variable
+abbrev pub element_of : Binding → Var → Option Element
+element_of b Head = Some head
+element_of bindings.Once First = None
+element_of (bindings.Each x) First = Some x
+element_of (bindings.Pair x y) First = Some x
+element_of bindings.Once Second = None
+element_of (bindings.Each x) Second = None
+element_of (bindings.Pair x y) Second = Some y
+
+-- In what follows, `is_fact` says what a fact is: in the model of an image, or in any other set of facts. Nothing
+-- holds of a variable that names no element.
 
 -- the size of a set is the number of its members, and that of a variable under a relation the number of its different targets or sources
-abbrev pub HasSize : Spec → Layout → List ℕ → Binding → Measure → ℕ → Type 0
-HasSize spec layout bytes b (Whole set) n = AreMany (λ e. IsMember spec layout bytes set e) n
-HasSize spec layout bytes b (Out v rel) n = AreMany (λ t. IsPair spec layout bytes rel (element_of b v) t) n
-HasSize spec layout bytes b (Into rel v) n = AreMany (λ e. IsPair spec layout bytes rel e (Elem (element_of b v))) n
+abbrev pub HasSize : (Fact → Type 0) → Binding → Measure → ℕ → Type 0
+HasSize is_fact b (Whole set) n = AreMany (λ e. is_fact (facts.Member set e)) n
+HasSize is_fact b (Out v rel) n = IsSomeAnd (element_of b v) (λ x. AreMany (λ t. is_fact (facts.Pair rel x t)) n)
+HasSize is_fact b (Into rel v) n = IsSomeAnd (element_of b v) (λ y. AreMany (λ e. is_fact (facts.Pair rel e (Elem y))) n)
 
 -- the number that values are compared with
-abbrev pub HasBound : Spec → Layout → List ℕ → Binding → Bound → ℕ → Type 0
-HasBound spec layout bytes b (bounds.Num k) n = n ≡ k
-HasBound spec layout bytes b (bounds.Size measure) n = HasSize spec layout bytes b measure n
+abbrev pub HasBound : (Fact → Type 0) → Binding → Bound → ℕ → Type 0
+HasBound is_fact b (bounds.Num k) n = n ≡ k
+HasBound is_fact b (bounds.Size measure) n = HasSize is_fact b measure n
 
 -- the atom is true
-abbrev pub AtomHolds : Spec → Layout → List ℕ → Binding → Atom → Type 0
-AtomHolds spec layout bytes b (atoms.Member v set) = IsMember spec layout bytes set (element_of b v)
-AtomHolds spec layout bytes b (atoms.Pair v w rel) = IsPair spec layout bytes rel (element_of b v) (Elem (element_of b w))
-AtomHolds spec layout bytes b (atoms.Count measure op k) = (n : ℕ) × HasSize spec layout bytes b measure n × Compares op n k
-AtomHolds spec layout bytes b (atoms.Value v rel op bound) = (n : ℕ) × HasBound spec layout bytes b bound n × ((value : ℕ) → IsPair spec layout bytes rel (element_of b v) (Num value) → Compares op value n)
+abbrev pub AtomHolds : (Fact → Type 0) → Binding → Atom → Type 0
+AtomHolds is_fact b (atoms.Member v set) = IsSomeAnd (element_of b v) (λ x. is_fact (facts.Member set x))
+AtomHolds is_fact b (atoms.Pair v w rel) = IsSomeAnd (element_of b v) (λ x. IsSomeAnd (element_of b w) (λ y. is_fact (facts.Pair rel x (Elem y))))
+AtomHolds is_fact b (atoms.Count measure op k) = (n : ℕ) × HasSize is_fact b measure n × Compares op n k
+AtomHolds is_fact b (atoms.Value v rel op bound) = IsSomeAnd (element_of b v) (λ x. (n : ℕ) × HasBound is_fact b bound n × ((value : ℕ) → is_fact (facts.Pair rel x (Num value)) → Compares op value n))
 
 -- the literal is true; that it is only tested has no influence
-abbrev pub LiteralHolds : Spec → Layout → List ℕ → Binding → Literal → Type 0
-LiteralHolds spec layout bytes b literal = MatchBool literal.negated (AtomHolds spec layout bytes b literal.atom → ⊥) (AtomHolds spec layout bytes b literal.atom)
+abbrev pub LiteralHolds : (Fact → Type 0) → Binding → Literal → Type 0
+LiteralHolds is_fact b literal = MatchBool literal.negated (AtomHolds is_fact b literal.atom → ⊥) (AtomHolds is_fact b literal.atom)

@@ -2,7 +2,7 @@
 use Rattle.std.proofs.Common.{◌≡◌, ◌<◌, ◌≤◌, ℕ, List, [], ◌++◌, map, length, get_or, All, Option, None, Some, true, is_some, inl, inr, refl, sym, ap, ◌∙◌, subst}
 use Rattle.std.specs.Option.{option_map_or}
 use Rattle.std.proofs.lemmas.List.{append_assoc, get_or-map, length-map}
-use Rattle.dsr_ir.specs.Shapes.{StructuresShape, field_shape, structure_shape, pool_shape, structures_shape}
+use Rattle.dsr_ir.specs.declared.declarations.Structures.{Structures}
 use Rattle.dsr_ir.specs.declared.declarations.Spec.{Spec}
 use Rattle.dsr_ir.specs.declared.declarations.Structure.{Structure}
 use Rattle.dsr_ir.specs.declared.layouts.Layout.{Layout}
@@ -20,14 +20,14 @@ use Rattle.dsr_meaning.specs.FixedFields.{head_fields, fixed_cell, fixed_value}
 use Rattle.dsr_meaning.specs.Layouts.{layout_with, layout_of}
 use Rattle.dsr_meaning.specs.Places.{size_of}
 use Rattle.dsr_meaning.specs.Refusals.{Refusal, cut_refusals, head_refusals, size_refusals, value_refusals, outside_refusals, overlap_refusals, subtype_refusals, zero_refusals, layout_refusals, refusals_with, refusals_by, refusals}
-use Rattle.dsr_meaning.specs.Typed.{IsTypedStructure}
+use Rattle.dsr_meaning.specs.Placeable.{IsPlaceableStructure}
 
 -- typed structures have few fields
-pub few_fields : (ss : List Structure) → All IsTypedStructure (map structure_shape ss) → All HasFewFields ss
+pub few_fields : (ss : List Structure) → All IsPlaceableStructure ss → All HasFewFields ss
 few_fields ss typed k d lt =
-    let at = typed k (structure_shape d) (subst (λ n. k < n) (sym (length-map ss structure_shape)) lt) in
-    let is = get_or-map structure_shape ss k d (structure_shape d) lt in
-    subst (λ n. n ≤ 64) (length-map (get_or ss k d).fields field_shape) (subst IsTypedStructure is at).few_fields
+    let at = typed k d (subst (λ n. k < n) (sym (length-map ss structure_shape)) lt) in
+    let is = get_or-ss k d d lt in
+    subst (λ n. n ≤ 64) (length-map (get_or ss k d).fields field_shape) (subst IsPlaceableStructure is at).few_fields
 
 -- lists in a row, in two parts
 in_two : (a b c d e : List Refusal) → a ++ (b ++ (c ++ (d ++ e))) ≡ (a ++ (b ++ (c ++ d))) ++ e
@@ -36,7 +36,7 @@ in_two a b c d e =
     ∙ ap (λ xs. a ++ xs) (sym (append_assoc b (c ++ d) e))
     ∙ sym (append_assoc a (b ++ (c ++ d)) e)
 
-module _ (size : ℕ → Option ℕ) (spec : Spec) (base : StructuresShape) (layout : Layout) where
+module _ (size : ℕ → Option ℕ) (spec : Spec) (base : Structures) (layout : Layout) where
   two_parts : layout_refusals size spec base layout ≡ place_refusals size base layout ++ number_refusals spec base layout
   two_parts = in_two (outside_refusals layout) (overlap_refusals size base.head layout) (subtype_refusals size base.sets base.pools layout) (zero_refusals layout) (number_refusals spec base layout)
 
@@ -58,7 +58,7 @@ tells_first a b e (inl is) = inl is
 tells_first a b e (inr is) = inr (sym (told_first a b {o = Some e} refl (sym is)))
 
 -- tables that are equal to those that were read
-pub read_as : {base : StructuresShape} {bytes : List ℕ} {fixed ends same_fixed same_ends : List (Option ℕ)} → same_fixed ≡ fixed → same_ends ≡ ends → IsRead base bytes fixed ends → IsRead base bytes same_fixed same_ends
+pub read_as : {base : Structures} {bytes : List ℕ} {fixed ends same_fixed same_ends : List (Option ℕ)} → same_fixed ≡ fixed → same_ends ≡ ends → IsRead base bytes fixed ends → IsRead base bytes same_fixed same_ends
 read_as {base} {bytes} {ends} {same_fixed} fixed_is ends_is read = subst (IsRead base bytes same_fixed) (sym ends_is) (subst (λ t. IsRead base bytes t ends) (sym fixed_is) read)
 
 -- the refusals behind those of cut fields, by what tables of values and ends tell
@@ -67,31 +67,31 @@ module _ (spec : Spec) (bytes : List ℕ) (fixed ends : List (Option ℕ)) where
   head_part = head_refusals (size_in ends) spec.base.head (length bytes)
 
   abbrev size_part : List Refusal
-  size_part = size_refusals (size_in ends) (map structure_shape spec.base.structures)
+  size_part = size_refusals (size_in ends) spec.base.structures
 
   abbrev value_part : List Refusal
-  value_part = value_refusals (known fixed) (size_in ends) (map pool_shape spec.base.pools)
+  value_part = value_refusals (known fixed) (size_in ends) spec.base.pools
 
   abbrev layout_part : List Refusal
-  layout_part = option_map_or (layout_refusals (size_in ends) spec (structures_shape spec.base)) (layout_with (known fixed) (structures_shape spec.base) (length bytes)) []
+  layout_part = option_map_or (layout_refusals (size_in ends) spec spec.base) (layout_with (known fixed) spec.base (length bytes)) []
 
-  module _ (values : (k : ℕ) → known fixed k ≡ fixed_value (structures_shape spec.base) bytes k) (uncut : cut_refusals (fixed_cell (structures_shape spec.base)) (head_fields (structures_shape spec.base)) (length bytes) ≡ []) (holds : HoldsEnds (known fixed) (map structure_shape spec.base.structures) ends) where
-    same_values : known fixed ≡ fixed_value (structures_shape spec.base) bytes
+  module _ (values : (k : ℕ) → known fixed k ≡ fixed_value spec.base bytes k) (uncut : cut_refusals (fixed_cell spec.base) (head_fields spec.base) (length bytes) ≡ []) (holds : HoldsEnds (known fixed) spec.base.structures ends) where
+    same_values : known fixed ≡ fixed_value spec.base bytes
     same_values = λ j k. values k j
 
-    same_size : size_in ends ≡ size_of (known fixed) (map structure_shape spec.base.structures)
-    same_size = λ j i. sizes_are (known fixed) (map structure_shape spec.base.structures) ends holds i j
+    same_size : size_in ends ≡ size_of (known fixed) spec.base.structures
+    same_size = λ j i. sizes_are (known fixed) spec.base.structures ends holds i j
 
     by_tables : refusals spec bytes ≡ head_part ++ (size_part ++ (value_part ++ layout_part))
     by_tables =
-        sym (ap (λ f. refusals_by f spec (structures_shape spec.base) (length bytes)) same_values)
-        ∙ sym (ap (λ size. refusals_with (known fixed) size spec (structures_shape spec.base) (length bytes)) same_size)
+        sym (ap (λ f. refusals_by f spec spec.base (length bytes)) same_values)
+        ∙ sym (ap (λ size. refusals_with (known fixed) size spec spec.base (length bytes)) same_size)
         ∙ ap (λ xs. xs ++ (head_part ++ (size_part ++ (value_part ++ layout_part)))) uncut
 
     pub head_told : (e : LayoutFault) → Tells head_part e → Tells (refusals spec bytes) e
     head_told e tells = subst (λ rs. Tells rs e) (sym by_tables) (tells_first head_part (size_part ++ (value_part ++ layout_part)) e tells)
 
-  module _ (read : IsRead (structures_shape spec.base) bytes fixed ends) where
+  module _ (read : IsRead spec.base bytes fixed ends) where
     pub behind_head : refusals spec bytes ≡ (size_part ++ value_part) ++ layout_part
     behind_head =
         by_tables read.values read.uncut read.holds
@@ -101,20 +101,20 @@ module _ (spec : Spec) (bytes : List ℕ) (fixed ends : List (Option ℕ)) where
     pub value_told : (e : LayoutFault) → Tells (size_part ++ value_part) e → Tells (refusals spec bytes) e
     value_told e tells = subst (λ rs. Tells rs e) (sym behind_head) (tells_first (size_part ++ value_part) layout_part e tells)
 
-    module _ (layout : Layout) (made : IsMade (structures_shape spec.base) (length bytes) fixed ends layout) where
-      last_part : refusals spec bytes ≡ layout_refusals (size_in ends) spec (structures_shape spec.base) layout
+    module _ (layout : Layout) (made : IsMade spec.base (length bytes) fixed ends layout) where
+      last_part : refusals spec bytes ≡ layout_refusals (size_in ends) spec spec.base layout
       last_part =
           behind_head
           ∙ ap (λ xs. (xs ++ value_part) ++ layout_part) made.sized
           ∙ ap (λ xs. xs ++ layout_part) made.valued
-          ∙ ap (λ o. option_map_or (layout_refusals (size_in ends) spec (structures_shape spec.base)) o []) made.made
+          ∙ ap (λ o. option_map_or (layout_refusals (size_in ends) spec spec.base) o []) made.made
 
-      pub layout_told : (e : LayoutFault) → Some e ≡ told_of (layout_refusals (size_in ends) spec (structures_shape spec.base) layout) → Tells (refusals spec bytes) e
+      pub layout_told : (e : LayoutFault) → Some e ≡ told_of (layout_refusals (size_in ends) spec spec.base layout) → Tells (refusals spec bytes) e
       layout_told e is = inr (ap told_of last_part ∙ sym is)
 
       -- where nothing is told, there is no refusal
-      pub accepted : None ≡ told_of (layout_refusals (size_in ends) spec (structures_shape spec.base) layout) → refusals spec bytes ≡ []
-      accepted none = last_part ∙ told_none (layout_refusals (size_in ends) spec (structures_shape spec.base) layout) none
+      pub accepted : None ≡ told_of (layout_refusals (size_in ends) spec spec.base layout) → refusals spec bytes ≡ []
+      accepted none = last_part ∙ told_none (layout_refusals (size_in ends) spec spec.base layout) none
 
-      pub layout_made : layout_of (structures_shape spec.base) bytes ≡ Some layout
-      layout_made = sym (ap (λ f. layout_with f (structures_shape spec.base) (length bytes)) (same_values read.values read.uncut read.holds)) ∙ made.made
+      pub layout_made : layout_of spec.base bytes ≡ Some layout
+      layout_made = sym (ap (λ f. layout_with f spec.base (length bytes)) (same_values read.values read.uncut read.holds)) ∙ made.made

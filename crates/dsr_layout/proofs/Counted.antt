@@ -3,7 +3,7 @@ use Rattle.std.proofs.Common.{◌≡◌, ◌<◌, ◌≤◌, ◌^◌, ℕ, suc, 
 use Rattle.std.specs.Option.{option_map_or}
 use Rattle.std.proofs.lemmas.Bool.Decides.{nat_tests}
 use Rattle.dsr_ir.specs.Layouts.{field_place}
-use Rattle.dsr_ir.specs.Shapes.{structures_shape}
+
 use Rattle.dsr_ir.specs.declared.constraints.Atom.TheVariants.{Value}
 use Rattle.dsr_ir.specs.declared.constraints.Bound.TheVariants.{Size}
 use Rattle.dsr_ir.specs.declared.constraints.Conj.{Conj}
@@ -41,11 +41,11 @@ nothing_given f n [] e x is = absurd is
 nothing_given f n (y ∷ ys) e x (inl same) = (n, ap (f n) same ∙ (both_empty (f n y) (each_at f (suc n) ys) e).0)
 nothing_given f n (y ∷ ys) e x (inr later) = nothing_given f (suc n) ys (both_empty (f n y) (each_at f (suc n) ys) e).1 x later
 
-module _ (spec : Spec) (bytes : List ℕ) (none : refusals spec bytes ≡ []) (layout : Layout) (is : layout_of (structures_shape spec.base) bytes ≡ Some layout) where
+module _ (spec : Spec) (bytes : List ℕ) (none : refusals spec bytes ≡ []) (layout : Layout) (is : layout_of spec.base bytes ≡ Some layout) where
   -- the last two kinds
   last_empty : (count_refusals spec layout ≡ []) × (instance_refusals spec layout ≡ [])
   last_empty =
-      let base = structures_shape spec.base in
+      let base = spec.base in
       let size = size_of (fixed_value base bytes) base.structures in
       let counts = count_refusals spec layout ++ instance_refusals spec layout in
       let codes = code_refusals base.structures layout ++ counts in

@@ -4,7 +4,7 @@ use Rattle.std.specs.Prelude.{slice_get, option_map}
 use Rattle.std.specs.Option.{option_map_or}
 use Rattle.std.proofs.lemmas.Bool.Decides.{nat_tests}
 use Rattle.std.proofs.lemmas.List.{drop_all}
-use Rattle.dsr_ir.specs.Shapes.{FieldShape}
+use Rattle.dsr_ir.specs.declared.declarations.Field.{Field}
 use Rattle.dsr_ir.specs.declared.layouts.Cell.{Cell}
 use Rattle.dsr_meaning.specs.Lists.{each_at}
 use Rattle.dsr_meaning.specs.Refusals.{Refusal, Short, refused_when, ends_behind, cut_refusals}
@@ -17,7 +17,7 @@ abbrev pub cuts : ℕ → Option Cell → Bool
 cuts bytes cell = option_map_or (λ c. ends_behind bytes c.bit c.width) cell false
 
 -- what fields from a number on give
-abbrev pub cut_from : (ℕ → Option Cell) → ℕ → ℕ → List FieldShape → List Refusal
+abbrev pub cut_from : (ℕ → Option Cell) → ℕ → ℕ → List Field → List Refusal
 cut_from cell bytes n fields = each_at (λ k _. refused_when (cuts bytes (cell k)) Short) n fields
 
 -- a clipped cell ends behind an image where the cell itself does
@@ -28,14 +28,14 @@ clip_cuts bytes (Some c) small = same c.bit c.width where
   same bit width = grind (arith, nat_tests)
 
 -- so the refusals are the same
-pub same_cuts : (table cell : ℕ → Option Cell) (bytes : ℕ) → bytes ≤ 67108864 → ((k : ℕ) → table k ≡ option_map clip_cell (cell k)) → (n : ℕ) (fields : List FieldShape) → cut_from table bytes n fields ≡ cut_from cell bytes n fields
+pub same_cuts : (table cell : ℕ → Option Cell) (bytes : ℕ) → bytes ≤ 67108864 → ((k : ℕ) → table k ≡ option_map clip_cell (cell k)) → (n : ℕ) (fields : List Field) → cut_from table bytes n fields ≡ cut_from cell bytes n fields
 same_cuts table cell bytes small same n [] = refl
 same_cuts table cell bytes small same n (f ∷ fs) =
     ap (λ b. refused_when b Short ++ cut_from table bytes (suc n) fs) (ap (cuts bytes) (same n) ∙ clip_cuts bytes (cell n) small)
     ∙ ap (λ rs. refused_when (cuts bytes (cell n)) Short ++ rs) (same_cuts table cell bytes small same (suc n) fs)
 
 -- where nothing is refused, no cell of a field ends behind the image
-pub uncut : (cell : ℕ → Option Cell) (bytes : ℕ) (fields : List FieldShape) → cut_refusals cell fields bytes ≡ [] → (k : ℕ) (f : FieldShape) → slice_get fields k ≡ Some f → cuts bytes (cell k) ≡ false
+pub uncut : (cell : ℕ → Option Cell) (bytes : ℕ) (fields : List Field) → cut_refusals cell fields bytes ≡ [] → (k : ℕ) (f : Field) → slice_get fields k ≡ Some f → cuts bytes (cell k) ≡ false
 uncut cell bytes fields e k f is = quiet (cuts bytes (cell k)) Short (each_item (λ j _. refused_when (cuts bytes (cell j)) Short) 0 fields e k k f (omega arith) is)
 
 -- what is left from an item on begins with it
@@ -45,7 +45,7 @@ left_from (x ∷ xs) zero lt = (x, refl)
 left_from (x ∷ xs) (suc i) lt = left_from xs i (omega arith)
 
 -- the next field, where its cell lies in the image
-pub cut_next : {X : Type 0} (shape : X → FieldShape) (cell : ℕ → Option Cell) (bytes : ℕ) (xs : List X) (i : ℕ) → i < length xs → cuts bytes (cell i) ≡ false → cut_from cell bytes i (map shape (drop i xs)) ≡ cut_from cell bytes (i + 1) (map shape (drop (i + 1) xs))
+pub cut_next : {X : Type 0} (shape : X → Field) (cell : ℕ → Option Cell) (bytes : ℕ) (xs : List X) (i : ℕ) → i < length xs → cuts bytes (cell i) ≡ false → cut_from cell bytes i (map shape (drop i xs)) ≡ cut_from cell bytes (i + 1) (map shape (drop (i + 1) xs))
 cut_next shape cell bytes xs i lt whole =
     let more : suc i ≡ i + 1 = omega arith in
     ap (λ ys. cut_from cell bytes i (map shape ys)) (left_from xs i lt).1
@@ -53,11 +53,11 @@ cut_next shape cell bytes xs i lt whole =
     ∙ ap (λ n. cut_from cell bytes n (map shape (drop n xs))) more
 
 -- the first field whose cell doesn't
-pub cut_here : {X : Type 0} (shape : X → FieldShape) (cell : ℕ → Option Cell) (bytes : ℕ) (xs : List X) (i : ℕ) → i < length xs → cuts bytes (cell i) ≡ true → told_of (cut_from cell bytes i (map shape (drop i xs))) ≡ Some (told_as Short)
+pub cut_here : {X : Type 0} (shape : X → Field) (cell : ℕ → Option Cell) (bytes : ℕ) (xs : List X) (i : ℕ) → i < length xs → cuts bytes (cell i) ≡ true → told_of (cut_from cell bytes i (map shape (drop i xs))) ≡ Some (told_as Short)
 cut_here shape cell bytes xs i lt is =
     ap (λ ys. told_of (cut_from cell bytes i (map shape ys))) (left_from xs i lt).1
     ∙ ap (λ b. told_of (refused_when b Short ++ cut_from cell bytes (suc i) (map shape (drop (suc i) xs)))) is
 
 -- no field is left
-pub cut_all : {X : Type 0} (shape : X → FieldShape) (cell : ℕ → Option Cell) (bytes : ℕ) (xs : List X) (i : ℕ) → length xs ≤ i → cut_from cell bytes i (map shape (drop i xs)) ≡ []
+pub cut_all : {X : Type 0} (shape : X → Field) (cell : ℕ → Option Cell) (bytes : ℕ) (xs : List X) (i : ℕ) → length xs ≤ i → cut_from cell bytes i (map shape (drop i xs)) ≡ []
 cut_all shape cell bytes xs i past = ap (λ ys. cut_from cell bytes i (map shape ys)) (drop_all i xs past)

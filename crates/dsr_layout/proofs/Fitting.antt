@@ -4,7 +4,10 @@ use Rattle.std.specs.Option.{option_map_or}
 use Rattle.std.proofs.lemmas.Bool.{eq-eqb}
 use Rattle.std.proofs.lemmas.Bool.Decides.{nat_tests}
 use Rattle.dsr_ir.specs.Layouts.{pool_numbers}
-use Rattle.dsr_ir.specs.Shapes.{FieldShape, PoolShape, StructureShape, StructuresShape, structures_shape}
+use Rattle.dsr_ir.specs.declared.declarations.Field.{Field}
+use Rattle.dsr_ir.specs.declared.declarations.Pool.{Pool}
+use Rattle.dsr_ir.specs.declared.declarations.Structure.{Structure}
+use Rattle.dsr_ir.specs.declared.declarations.Structures.{Structures}
 use Rattle.dsr_ir.specs.declared.declarations.SetDecl.{SetDecl}
 use Rattle.dsr_ir.specs.declared.declarations.Spec.{Spec}
 use Rattle.dsr_ir.specs.declared.layouts.Layout.{Layout}
@@ -44,8 +47,8 @@ is_there None e = absurd cc
 is_there (Some n) e = refl
 
 module _ (spec : Spec) (bytes : List ℕ) (none : refusals spec bytes ≡ []) where
-  abbrev base : StructuresShape
-  base = structures_shape spec.base
+  abbrev base : Structures
+  base = spec.base
 
   abbrev fixed : ℕ → Option ℕ
   fixed = fixed_value base bytes
@@ -63,7 +66,7 @@ module _ (spec : Spec) (bytes : List ℕ) (none : refusals spec bytes ≡ []) wh
       grind (arith, nat_tests)
 
   -- each structure has a size
-  pub has_size : (i : ℕ) (s : StructureShape) → slice_get base.structures i ≡ Some s → IsSome (size i)
+  pub has_size : (i : ℕ) (s : Structure) → slice_get base.structures i ≡ Some s → IsSome (size i)
   has_size i s found =
       let rest = value_refusals fixed size base.pools ++ option_map_or (layout_refusals size spec base) (layout_with fixed base (length bytes)) [] in
       let sized = third_empty (cut_refusals (fixed_cell base) (head_fields base) (length bytes)) (head_refusals size base.head (length bytes)) (size_refusals size base.structures) rest none in
@@ -98,7 +101,7 @@ module _ (spec : Spec) (bytes : List ℕ) (none : refusals spec bytes ≡ []) wh
         third_empty (zero_refusals layout) (none_refusals layout) (code_refusals base.structures layout) behind after_views
 
     -- the codes of a pool fit the fields that refer to it
-    module _ (i k p : ℕ) (s : StructureShape) (f : FieldShape) (n : PoolNumbers) (found_s : slice_get base.structures i ≡ Some s) (found_f : slice_get s.fields k ≡ Some f) (refers : kind_pool f.kind ≡ Some p) (numbers : pool_numbers layout p ≡ Some n) where
+    module _ (i k p : ℕ) (s : Structure) (f : Field) (n : PoolNumbers) (found_s : slice_get base.structures i ≡ Some s) (found_f : slice_get s.fields k ≡ Some f) (refers : kind_pool f.kind ≡ Some p) (numbers : pool_numbers layout p ≡ Some n) where
       codes_told : codes_fit (width_bits f.width) n ≡ true
       codes_told =
           let own = each_item (λ j t. each_at (reference_refusals layout j) 0 t.fields) 0 base.structures codes_empty i i s (omega arith) found_s in
@@ -118,10 +121,10 @@ module _ (spec : Spec) (bytes : List ℕ) (none : refusals spec bytes ≡ []) wh
       code_fits = codes_below n (2 ^ width_bits f.width) (both (fits (width_bits f.width) n.none) (nat_eq n.count 0 || fits (width_bits f.width) (last_code n)) codes_told).1
 
     module _ (p : ℕ) (n : PoolNumbers) (numbers : pool_numbers layout p ≡ Some n) where
-      pool_empty : (d : PoolShape) → slice_get base.pools (p - 1) ≡ Some d → (view_refusals size layout p d.structure ≡ []) × (set_refusals size layout p base.sets ≡ [])
+      pool_empty : (d : Pool) → slice_get base.pools (p - 1) ≡ Some d → (view_refusals size layout p d.structure ≡ []) × (set_refusals size layout p base.sets ≡ [])
       pool_empty d found = both_empty (view_refusals size layout p d.structure) (set_refusals size layout p base.sets) (each_item (λ q e. view_refusals size layout q e.structure ++ set_refusals size layout q base.sets) 1 base.pools views_empty (p - 1) p d (counted layout p n numbers).0 found)
 
-      pub pool_fits : (d : PoolShape) (bits : ℕ) → slice_get base.pools (p - 1) ≡ Some d → size d.structure ≡ Some bits → bits ≤ 8 * n.slot
+      pub pool_fits : (d : Pool) (bits : ℕ) → slice_get base.pools (p - 1) ≡ Some d → size d.structure ≡ Some bits → bits ≤ 8 * n.slot
       pool_fits d bits found sized = view_fits size layout p d.structure n bits (pool_empty d found).0 numbers sized (size_whole d.structure bits sized)
 
       -- the pool is declared

@@ -5,7 +5,7 @@ use Rattle.std.specs.Option.{option_and_then}
 use Rattle.std.proofs.lemmas.Bool.Decides.{nat_tests}
 use Rattle.std.proofs.lemmas.Option.{slice_get_past}
 use Rattle.std.proofs.lemmas.Grind.{common_steps}
-use Rattle.dsr_ir.specs.Shapes.{FieldShape}
+use Rattle.dsr_ir.specs.declared.declarations.Field.{Field}
 use Rattle.dsr_ir.specs.declared.declarations.Order.{Order}
 use Rattle.dsr_ir.specs.declared.layouts.Cell.{Cell}
 use Rattle.dsr_meaning.specs.Extents.{bit_behind}
@@ -17,11 +17,11 @@ use Rattle.dsr_layout.proofs.Items.{take_found}
 
 module _ (fixed : ℕ → Option ℕ) where
   -- the clipped bit behind fields
-  abbrev behind : ℕ → List FieldShape → Option ℕ
+  abbrev behind : ℕ → List Field → Option ℕ
   behind s fs = option_map clip (bit_behind_fields fixed s fs)
 
   -- behind fields and one more
-  behind_more : (s : ℕ) (fs : List FieldShape) (f : FieldShape) → bit_behind_fields fixed s (fs ++ f ∷ []) ≡ option_and_then (λ b. bit_behind_fields fixed b (f ∷ [])) (bit_behind_fields fixed s fs)
+  behind_more : (s : ℕ) (fs : List Field) (f : Field) → bit_behind_fields fixed s (fs ++ f ∷ []) ≡ option_and_then (λ b. bit_behind_fields fixed b (f ∷ [])) (bit_behind_fields fixed s fs)
   behind_more s [] f = refl
   behind_more s (g ∷ gs) f = elim (extent_of fixed g) as (λ o. option_and_then (λ e. bit_behind_fields fixed (bit_behind s e) (gs ++ f ∷ [])) o ≡ option_and_then (λ b. bit_behind_fields fixed b (f ∷ [])) (option_and_then (λ e. bit_behind_fields fixed (bit_behind s e) gs) o)) [
     | None ↦ refl
@@ -29,24 +29,24 @@ module _ (fixed : ℕ → Option ℕ) where
   ]
 
   -- the clipped bit behind them, by the clipped bit before the last
-  behind_pushed : (s : ℕ) (fs : List FieldShape) (f : FieldShape) → behind s (fs ++ f ∷ []) ≡ option_and_then (λ b. behind b (f ∷ [])) (behind s fs)
+  behind_pushed : (s : ℕ) (fs : List Field) (f : Field) → behind s (fs ++ f ∷ []) ≡ option_and_then (λ b. behind b (f ∷ [])) (behind s fs)
   behind_pushed s fs f = ap (option_map clip) (behind_more s fs f) ∙ last (bit_behind_fields fixed s fs) where
     last : (o : Option ℕ) → option_map clip (option_and_then (λ b. bit_behind_fields fixed b (f ∷ [])) o) ≡ option_and_then (λ b. behind b (f ∷ [])) (option_map clip o)
     last None = refl
     last (Some b) = behind_same fixed (f ∷ []) b (clip b) (clip_twice b)
 
 -- the clipped bit at which a field begins
-abbrev pub bit_at : Option ℕ → List FieldShape → ℕ → Option ℕ
+abbrev pub bit_at : Option ℕ → List Field → ℕ → Option ℕ
 bit_at start fields i = option_and_then (λ s. behind (known []) s (take i fields)) start
 
 -- the table has the cells of the first fields, and the bit is the one at which the next one begins
-pub record HoldsCells (order : Order) (start : Option ℕ) (fields : List FieldShape) (i : ℕ) (bit : Option ℕ) (cells : List (Option Cell)) : Type 0 where
+pub record HoldsCells (order : Order) (start : Option ℕ) (fields : List Field) (i : ℕ) (bit : Option ℕ) (cells : List (Option Cell)) : Type 0 where
   pub many : length cells ≡ i
   pub next : bit ≡ bit_at start fields i
   pub held : (k : ℕ) → k < i → known cells k ≡ clipped_cell order start fields k
 
 -- before the first field
-pub holds_none : (order : Order) (start : Option ℕ) (fields : List FieldShape) → IfSome start (λ s. s < 2 ^ 64) → HoldsCells order start fields 0 start []
+pub holds_none : (order : Order) (start : Option ℕ) (fields : List Field) → IfSome start (λ s. s < 2 ^ 64) → HoldsCells order start fields 0 start []
 holds_none order start fields small = record {
   many = refl;
   next = first start small;
@@ -70,7 +70,7 @@ known_past : {T : Type 0} (xs : List (Option T)) (k : ℕ) → length xs ≤ k �
 known_past xs k past = ap (option_and_then (λ v. v)) (slice_get_past xs k past)
 
 -- one field more
-pub holds_more : (order : Order) (start : Option ℕ) (fields : List FieldShape) (i : ℕ) (bit : Option ℕ) (cells : List (Option Cell)) (f : FieldShape) → slice_get fields i ≡ Some f → HoldsCells order start fields i bit cells → HoldsCells order start fields (i + 1) (next_bit bit f) (cells ++ cell_from order bit f ∷ [])
+pub holds_more : (order : Order) (start : Option ℕ) (fields : List Field) (i : ℕ) (bit : Option ℕ) (cells : List (Option Cell)) (f : Field) → slice_get fields i ≡ Some f → HoldsCells order start fields i bit cells → HoldsCells order start fields (i + 1) (next_bit bit f) (cells ++ cell_from order bit f ∷ [])
 holds_more order start fields i bit cells f is h = record {
   many = grind (arith, common_steps, h.many);
   next = ap (λ b. next_bit b f) h.next ∙ bit_more start;
@@ -88,7 +88,7 @@ holds_more order start fields i bit cells f is h = record {
   bit_more (Some s) = sym (behind_pushed (known []) s (take i fields) f) ∙ ap (behind (known []) s) (sym (take_found fields i f is))
 
 -- behind the last field
-pub holds_all : (order : Order) (start : Option ℕ) (fields : List FieldShape) (i : ℕ) (bit : Option ℕ) (cells : List (Option Cell)) → length fields ≤ i → HoldsCells order start fields i bit cells → (k : ℕ) → known cells k ≡ clipped_cell order start fields k
+pub holds_all : (order : Order) (start : Option ℕ) (fields : List Field) (i : ℕ) (bit : Option ℕ) (cells : List (Option Cell)) → length fields ≤ i → HoldsCells order start fields i bit cells → (k : ℕ) → known cells k ≡ clipped_cell order start fields k
 holds_all order start fields i bit cells all h k = elim (ltb k i) as (λ b. ltb k i ≡ b → known cells k ≡ clipped_cell order start fields k) [
   | true ↦ λ e. let before : k < i = grind (arith, nat_tests) in h.held k before
   | false ↦ λ e.

@@ -13,7 +13,7 @@ use Rattle.dsr_ir.specs.declared.layouts.Layout.{Layout}
 use Rattle.dsr_ir.specs.declared.tuples.Element.{Element}
 use Rattle.dsr_meaning.specs.Cells.{record_start, width_bits, is_bytewise, IsFieldCell}
 use Rattle.dsr_meaning.specs.Legal.{HasBits, HasEntry, IsLegalLayout, IsLegalPlace}
-use Rattle.dsr_meaning.specs.Typed.{IsLegalWidth}
+use Rattle.dsr_meaning.specs.Placeable.{IsLegalWidth}
 use Rattle.dsr_layout.proofs.Meanings.{found_holds, legal_pool}
 
 -- a slot lies in its pool

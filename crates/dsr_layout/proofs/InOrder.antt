@@ -2,7 +2,10 @@
 use Rattle.std.proofs.Common.{◌≡◌, ◌≤◌, ℕ, suc, Bool, true, false, not, ◌||◌, nat_eq, nat_lt, List, [], ◌∷◌, ◌++◌, map, length, Option, None, Some, is_none, if◌then◌else◌, inl, inr, refl, sym, subst, arith}
 use Rattle.std.specs.Option.{option_map_or}
 use Rattle.dsr_ir.specs.Layouts.{pool_numbers}
-use Rattle.dsr_ir.specs.Shapes.{FieldShape, StructureShape, PoolShape, StructuresShape, structures_shape}
+use Rattle.dsr_ir.specs.declared.declarations.Field.{Field}
+use Rattle.dsr_ir.specs.declared.declarations.Structure.{Structure}
+use Rattle.dsr_ir.specs.declared.declarations.Pool.{Pool}
+use Rattle.dsr_ir.specs.declared.declarations.Structures.{Structures}
 use Rattle.dsr_ir.specs.declared.declarations.SetDecl.{SetDecl}
 use Rattle.dsr_ir.specs.declared.declarations.Spec.{Spec}
 use Rattle.dsr_ir.specs.declared.layouts.Cell.{Cell}
@@ -52,13 +55,13 @@ in_front j k l (x ∷ xs) ys le le' a b =
 
 -- ---- each kind
 
-cut_of : (cell : ℕ → Option Cell) (fields : List FieldShape) (bytes : ℕ) → AreOf 1 (cut_refusals cell fields bytes)
+cut_of : (cell : ℕ → Option Cell) (fields : List Field) (bytes : ℕ) → AreOf 1 (cut_refusals cell fields bytes)
 cut_of cell fields bytes = each_of 1 (λ k _. refused_when (option_map_or (λ c. ends_behind bytes c.bit c.width) (cell k) false) Short) (λ k _. when_of 1 (option_map_or (λ c. ends_behind bytes c.bit c.width) (cell k) false) Short refl) 0 fields
 
-size_kind : (size : ℕ → Option ℕ) (structures : List StructureShape) → AreOf 2 (size_refusals size structures)
+size_kind : (size : ℕ → Option ℕ) (structures : List Structure) → AreOf 2 (size_refusals size structures)
 size_kind size structures = each_of 2 (λ i _. refused_when (is_none (size i)) Arith) (λ i _. when_of 2 (is_none (size i)) Arith refl) 0 structures
 
-value_kind : (fixed size : ℕ → Option ℕ) (pools : List PoolShape) → AreOf 2 (value_refusals fixed size pools)
+value_kind : (fixed size : ℕ → Option ℕ) (pools : List Pool) → AreOf 2 (value_refusals fixed size pools)
 value_kind fixed size pools = each_of 2 (λ _ p. refused_when (not (option_map_or is_computable (pool_of fixed size p) false)) Arith) (λ _ p. when_of 2 (not (option_map_or is_computable (pool_of fixed size p) false)) Arith refl) 1 pools
 
 overlap_kind : (p : ℕ) (rs : List ByteRange) → AreOf 4 (overlaps p rs)
@@ -74,14 +77,14 @@ set_kind size layout pool n s = elim (nat_eq s.pool pool) as (λ b. AreOf 5 (if 
   | false ↦ tt
 ]
 
-subtype_kind : (size : ℕ → Option ℕ) (sets : List SetDecl) (pools : List PoolShape) (layout : Layout) → AreOf 5 (subtype_refusals size sets pools layout)
+subtype_kind : (size : ℕ → Option ℕ) (sets : List SetDecl) (pools : List Pool) (layout : Layout) → AreOf 5 (subtype_refusals size sets pools layout)
 subtype_kind size sets pools layout =
     each_of 5 (λ p d. view_refusals size layout p d.structure ++ set_refusals size layout p sets) (λ p d.
     both_of 5 (view_refusals size layout p d.structure) (set_refusals size layout p sets)
     (when_of 5 (is_larger size layout p d.structure) (Subtype p d.structure) refl)
     (each_of 5 (λ _ s. if nat_eq s.pool p then view_refusals size layout p s.structure else []) (set_kind size layout p) 0 sets)) 1 pools
 
-reference_kind : (layout : Layout) (i k : ℕ) (f : FieldShape) → AreOf 8 (reference_refusals layout i k f)
+reference_kind : (layout : Layout) (i k : ℕ) (f : Field) → AreOf 8 (reference_refusals layout i k f)
 reference_kind layout i k f = elim (kind_pool f.kind) as (λ o. AreOf 8 (option_map_or (λ p. option_map_or (λ n. refused_when (not (codes_fit (width_bits f.width) n)) (CodeTooWide p i k)) (pool_numbers layout p) []) o [])) [
   | None ↦ tt
   | Some p ↦ elim (pool_numbers layout p) as (λ o. AreOf 8 (option_map_or (λ n. refused_when (not (codes_fit (width_bits f.width) n)) (CodeTooWide p i k)) o [])) [
@@ -90,7 +93,7 @@ reference_kind layout i k f = elim (kind_pool f.kind) as (λ o. AreOf 8 (option_
   ]
 ]
 
-code_kind : (structures : List StructureShape) (layout : Layout) → AreOf 8 (code_refusals structures layout)
+code_kind : (structures : List Structure) (layout : Layout) → AreOf 8 (code_refusals structures layout)
 code_kind structures layout = each_of 8 (λ i s. each_at (reference_refusals layout i) 0 s.fields) (λ i s. each_of 8 (reference_refusals layout i) (reference_kind layout i) 0 s.fields) 0 structures
 
 -- ---- all of them
@@ -101,7 +104,7 @@ instances_in_order spec layout = elim (nat_lt (instance_limit spec.base.version)
   | false ↦ tt
 ]
 
-layout_in_order : (size : ℕ → Option ℕ) (spec : Spec) (base : StructuresShape) (layout : Layout) → AreInOrder 3 (layout_refusals size spec base layout)
+layout_in_order : (size : ℕ → Option ℕ) (spec : Spec) (base : Structures) (layout : Layout) → AreInOrder 3 (layout_refusals size spec base layout)
 layout_in_order size spec base layout =
     let counts = in_front 8 9 10 (count_refusals spec layout) (instance_refusals spec layout) (omega arith) (omega arith) (each_of 9 (λ k c. refused_when (constraint_outgrows spec layout c) (CountTooWide k)) (λ k c. when_of 9 (constraint_outgrows spec layout c) (CountTooWide k) refl) 0 spec.constraints) (instances_in_order spec layout) in
     let after_codes = count_refusals spec layout ++ instance_refusals spec layout in
@@ -117,11 +120,11 @@ layout_in_order size spec base layout =
     let after_outside = overlap_refusals size base.head layout ++ after_overlap in
     in_front 3 3 3 (outside_refusals layout) after_outside (omega arith) (omega arith) (each_of 3 (λ p n. refused_when (nat_lt layout.length (pool_end n)) (Outside p)) (λ p n. when_of 3 (nat_lt layout.length (pool_end n)) (Outside p) refl) 1 layout.pools) overlap
 
-known_in_order : (size : ℕ → Option ℕ) (spec : Spec) (base : StructuresShape) (o : Option Layout) → AreInOrder 3 (option_map_or (layout_refusals size spec base) o [])
+known_in_order : (size : ℕ → Option ℕ) (spec : Spec) (base : Structures) (o : Option Layout) → AreInOrder 3 (option_map_or (layout_refusals size spec base) o [])
 known_in_order size spec base None = tt
 known_in_order size spec base (Some layout) = layout_in_order size spec base layout
 
-all_in_order : (fixed size : ℕ → Option ℕ) (spec : Spec) (base : StructuresShape) (bytes : ℕ) → AreInOrder 1 (refusals_with fixed size spec base bytes)
+all_in_order : (fixed size : ℕ → Option ℕ) (spec : Spec) (base : Structures) (bytes : ℕ) → AreInOrder 1 (refusals_with fixed size spec base bytes)
 all_in_order fixed size spec base bytes =
     let last = option_map_or (layout_refusals size spec base) (layout_with fixed base bytes) [] in
     let values = in_front 2 2 3 (value_refusals fixed size base.pools) last (omega arith) (omega arith) (value_kind fixed size base.pools) (known_in_order size spec base (layout_with fixed base bytes)) in
@@ -147,4 +150,4 @@ first_least k (x ∷ rs) order r s is within =
 
 -- the refusal that is told has the least kind of all
 pub least_kind : (spec : Spec) (bytes : List ℕ) (r s : Refusal) → first_of (refusals spec bytes) ≡ Some r → IsIn s (refusals spec bytes) → kind_of r ≤ kind_of s
-least_kind spec bytes r s = first_least 1 (refusals spec bytes) (all_in_order (fixed_value (structures_shape spec.base) bytes) (size_of (fixed_value (structures_shape spec.base) bytes) (structures_shape spec.base).structures) spec (structures_shape spec.base) (length bytes)) r s
+least_kind spec bytes r s = first_least 1 (refusals spec bytes) (all_in_order (fixed_value spec.base bytes) (size_of (fixed_value spec.base bytes) spec.base.structures) spec spec.base (length bytes)) r s

@@ -1,6 +1,8 @@
 -- A layout that isn't refused is a legal one.
 use Rattle.std.proofs.Common.{◌≡◌, ◌≤◌, ℕ, suc, List, [], ◌∷◌, ◌++◌, length, All, Option, None, Some, IfSome, option_map, option_and_then, refl, sym, ap, ◌∙◌, subst}
-use Rattle.dsr_ir.specs.Shapes.{StructureShape, PoolShape, StructuresShape}
+use Rattle.dsr_ir.specs.declared.declarations.Structure.{Structure}
+use Rattle.dsr_ir.specs.declared.declarations.Pool.{Pool}
+use Rattle.dsr_ir.specs.declared.declarations.Structures.{Structures}
 use Rattle.dsr_ir.specs.declared.declarations.Spec.{Spec}
 use Rattle.dsr_ir.specs.declared.layouts.FieldPlace.{FieldPlace}
 use Rattle.dsr_ir.specs.declared.layouts.Layout.{Layout}
@@ -10,13 +12,13 @@ use Rattle.dsr_meaning.specs.Layouts.{collect_at, pool_of, pools_of, places_of, 
 use Rattle.dsr_meaning.specs.Legal.{IsLegalLayout, IsLegalPlace}
 use Rattle.dsr_meaning.specs.Places.{size_of}
 use Rattle.dsr_meaning.specs.Refusals.{outside_refusals, overlap_refusals, subtype_refusals, zero_refusals, none_refusals, code_refusals, count_refusals, instance_refusals, layout_refusals, head_range}
-use Rattle.dsr_meaning.specs.Typed.{IsTypedStructure}
+use Rattle.dsr_meaning.specs.Placeable.{IsPlaceableStructure}
 use Rattle.dsr_layout.specs.Pools.{IsComputable}
 use Rattle.dsr_layout.proofs.LegalPlaces.{legal_places}
 use Rattle.dsr_layout.proofs.LegalPools.{legal_pools, pools_apart}
 
 -- what each part of the refusals says where none is left
-pub legal_layout : (size : ℕ → Option ℕ) (spec : Spec) (base : StructuresShape) (layout : Layout) → layout.length ≤ 67108864 → All IsComputable layout.pools → All (All IsLegalPlace) layout.fields → layout_refusals size spec base layout ≡ [] → IsLegalLayout layout
+pub legal_layout : (size : ℕ → Option ℕ) (spec : Spec) (base : Structures) (layout : Layout) → layout.length ≤ 67108864 → All IsComputable layout.pools → All (All IsLegalPlace) layout.fields → layout_refusals size spec base layout ≡ [] → IsLegalLayout layout
 legal_layout size spec base layout small computable places e =
     let after_codes = count_refusals spec layout ++ instance_refusals spec layout in
     let after_none = code_refusals base.structures layout ++ after_codes in
@@ -37,19 +39,19 @@ legal_layout size spec base layout small computable places e =
     }
 
 -- pools and places that are there make the layout
-pub layout_is : (fixed size : ℕ → Option ℕ) (base : StructuresShape) (bytes : ℕ) (pools : List PoolNumbers) (fields : List (List FieldPlace)) → size ≡ size_of fixed base.structures → pools_of fixed size base.pools ≡ Some pools → places_of fixed base.structures ≡ Some fields → layout_with fixed base bytes ≡ Some (record { length = bytes; order = base.order; pools = pools; fields = fields })
+pub layout_is : (fixed size : ℕ → Option ℕ) (base : Structures) (bytes : ℕ) (pools : List PoolNumbers) (fields : List (List FieldPlace)) → size ≡ size_of fixed base.structures → pools_of fixed size base.pools ≡ Some pools → places_of fixed base.structures ≡ Some fields → layout_with fixed base bytes ≡ Some (record { length = bytes; order = base.order; pools = pools; fields = fields })
 layout_is fixed size base bytes pools fields same is_pools is_fields =
     ap (λ o. option_and_then (λ fields. option_map (λ pools. record { length = bytes; order = base.order; pools = pools; fields = fields }) (pools_of fixed (size_of fixed base.structures) base.pools)) o) is_fields
     ∙ ap (λ s. option_map (λ pools. record { length = bytes; order = base.order; pools = pools; fields = fields }) (pools_of fixed s base.pools)) (sym same)
     ∙ ap (option_map (λ pools. record { length = bytes; order = base.order; pools = pools; fields = fields })) is_pools
 
 -- and the other way round, a layout has them
-pub record IsBuilt (fixed : ℕ → Option ℕ) (base : StructuresShape) (bytes : ℕ) (layout : Layout) : Type 0 where
+pub record IsBuilt (fixed : ℕ → Option ℕ) (base : Structures) (bytes : ℕ) (layout : Layout) : Type 0 where
   pub fields_are : places_of fixed base.structures ≡ Some layout.fields
   pub pools_are : pools_of fixed (size_of fixed base.structures) base.pools ≡ Some layout.pools
   pub bytes_are : bytes ≡ layout.length
 
-pub built : (fixed : ℕ → Option ℕ) (base : StructuresShape) (bytes : ℕ) (layout : Layout) → layout_with fixed base bytes ≡ Some layout → IsBuilt fixed base bytes layout
+pub built : (fixed : ℕ → Option ℕ) (base : Structures) (bytes : ℕ) (layout : Layout) → layout_with fixed base bytes ≡ Some layout → IsBuilt fixed base bytes layout
 built fixed base bytes layout is = elim (places_of fixed base.structures) as (λ o. places_of fixed base.structures ≡ o → option_and_then (λ fields. option_map (λ pools. record { length = bytes; order = base.order; pools = pools; fields = fields }) (pools_of fixed (size_of fixed base.structures) base.pools)) o ≡ Some layout → IsBuilt fixed base bytes layout) [
   | None ↦ λ _ h. absurd cc
   | Some fields ↦ λ placed h. elim (pools_of fixed (size_of fixed base.structures) base.pools) as (λ o. pools_of fixed (size_of fixed base.structures) base.pools ≡ o → option_map (λ pools. record { length = bytes; order = base.order; pools = pools; fields = fields }) o ≡ Some layout → IsBuilt fixed base bytes layout) [
@@ -71,9 +73,9 @@ collect_length f n (x ∷ xs) = elim (f n x) as (λ o. IfSome (option_and_then (
   ] (collect_length f (suc n) xs)
 ]
 
-pub as_many : (fixed size : ℕ → Option ℕ) (ps : List PoolShape) (pools : List PoolNumbers) → pools_of fixed size ps ≡ Some pools → length pools ≡ length ps
+pub as_many : (fixed size : ℕ → Option ℕ) (ps : List Pool) (pools : List PoolNumbers) → pools_of fixed size ps ≡ Some pools → length pools ≡ length ps
 as_many fixed size ps pools is = subst (λ o. IfSome o (λ ys. length ys ≡ length ps)) is (collect_length (λ _ p. pool_of fixed size p) 1 ps)
 
 -- the places of typed structures are legal
-pub all_legal : (fixed : ℕ → Option ℕ) (ss : List StructureShape) (fields : List (List FieldPlace)) → All IsTypedStructure ss → places_of fixed ss ≡ Some fields → All (All IsLegalPlace) fields
+pub all_legal : (fixed : ℕ → Option ℕ) (ss : List Structure) (fields : List (List FieldPlace)) → All IsPlaceableStructure ss → places_of fixed ss ≡ Some fields → All (All IsLegalPlace) fields
 all_legal fixed ss fields typed is = subst (λ o. IfSome o (All (All IsLegalPlace))) is (legal_places fixed ss typed)

@@ -3,7 +3,9 @@ use Rattle.std.proofs.Common.{◌≡◌, ◌+◌, ◌*◌, ◌%◌, ℕ, zero, s
 use Rattle.std.specs.Option.{option_map_or}
 use Rattle.std.proofs.lemmas.List.{reverse-append}
 use Rattle.std.proofs.lemmas.Option.{IfSome_then}
-use Rattle.dsr_ir.specs.Shapes.{ExprShape, FieldShape, StructureShape}
+use Rattle.dsr_ir.specs.Exprs.{ExprShape}
+use Rattle.dsr_ir.specs.declared.declarations.Field.{Field}
+use Rattle.dsr_ir.specs.declared.declarations.Structure.{Structure}
 use Rattle.dsr_meaning.proofs.Bits.{byte_begins, bit_behind_in_byte}
 use Rattle.dsr_meaning.specs.Cells.{width_bits}
 use Rattle.dsr_meaning.specs.Expressions.{value_of}
@@ -11,7 +13,7 @@ use Rattle.dsr_meaning.specs.Extents.{Extent, up_to_byte, bit_behind}
 use Rattle.dsr_meaning.specs.Layouts.{collect_at, places_of}
 use Rattle.dsr_meaning.specs.Legal.{IsLegalPlace}
 use Rattle.dsr_meaning.specs.Places.{lineage_in, lineage, entries_of, extent_of, bit_behind_fields, placed, end_of, own_places}
-use Rattle.dsr_meaning.specs.Typed.{HasLegalWidth, plain_extent, AreAligned, IsTypedStructure}
+use Rattle.dsr_meaning.specs.Placeable.{HasLegalWidth, plain_extent, AreAligned, IsPlaceableStructure}
 
 -- what holds of each item, by the items one after the other
 abbrev pub Each : {T : Type 0} → (T → Type 0) → List T → Type 0
@@ -41,7 +43,7 @@ same_behind : (a b : ℕ) (e : Extent) → a % 8 ≡ b % 8 → bit_behind a e % 
 same_behind a b e same = sym (bit_behind_in_byte a e) ∙ (ap (λ n. bit_behind n e % 8) same ∙ bit_behind_in_byte b e)
 
 -- how many entries an array has is no matter for it
-plain_behind : (fixed : ℕ → Option ℕ) (bit : ℕ) (f : FieldShape) → IfSome (extent_of fixed f) (λ e. bit_behind bit e % 8 ≡ bit_behind bit (plain_extent f) % 8)
+plain_behind : (fixed : ℕ → Option ℕ) (bit : ℕ) (f : Field) → IfSome (extent_of fixed f) (λ e. bit_behind bit e % 8 ≡ bit_behind bit (plain_extent f) % 8)
 plain_behind fixed bit f = by_length f.len
   where
     bits : ℕ
@@ -55,7 +57,7 @@ plain_behind fixed bit f = by_length f.len
     ]
 
 -- fields that are aligned have legal places, wherever they begin in the same way
-placed_legal : (fixed : ℕ → Option ℕ) (bit plain : ℕ) (fs : List FieldShape) → bit % 8 ≡ plain % 8 → Each HasLegalWidth fs → AreAligned plain fs → IfSome (placed fixed bit fs) (Each IsLegalPlace)
+placed_legal : (fixed : ℕ → Option ℕ) (bit plain : ℕ) (fs : List Field) → bit % 8 ≡ plain % 8 → Each HasLegalWidth fs → AreAligned plain fs → IfSome (placed fixed bit fs) (Each IsLegalPlace)
 placed_legal fixed bit plain [] same widths aligned = tt
 placed_legal fixed bit plain (f ∷ fs) same widths aligned =
     elim (extent_of fixed f) as (λ o. IfSome o (λ e. bit_behind bit e % 8 ≡ bit_behind bit (plain_extent f) % 8) → IfSome (option_and_then (λ e. option_map (λ places. record { bit = bit; width = f.width; length = e.entries } ∷ places) (placed fixed (bit_behind bit e) fs)) o) (Each IsLegalPlace)) [
@@ -67,7 +69,7 @@ placed_legal fixed bit plain (f ∷ fs) same widths aligned =
     ] (plain_behind fixed bit f)
 
 -- a structure ends at a byte
-pub ends_at_byte : (fixed : ℕ → Option ℕ) (line : List StructureShape) → IfSome (end_of fixed line) (λ e. e % 8 ≡ 0)
+pub ends_at_byte : (fixed : ℕ → Option ℕ) (line : List Structure) → IfSome (end_of fixed line) (λ e. e % 8 ≡ 0)
 ends_at_byte fixed [] = refl
 ends_at_byte fixed (s ∷ line) = elim (end_of fixed line) as (λ o. IfSome (option_and_then (λ start. option_map up_to_byte (bit_behind_fields fixed start s.fields)) o) (λ e. e % 8 ≡ 0)) [
   | None ↦ tt
@@ -77,7 +79,7 @@ ends_at_byte fixed (s ∷ line) = elim (end_of fixed line) as (λ o. IfSome (opt
   ]
 ]
 
-own_legal : (fixed : ℕ → Option ℕ) (line : List StructureShape) → Each IsTypedStructure line → IfSome (own_places fixed line) (All IsLegalPlace)
+own_legal : (fixed : ℕ → Option ℕ) (line : List Structure) → Each IsPlaceableStructure line → IfSome (own_places fixed line) (All IsLegalPlace)
 own_legal fixed [] typed = tt
 own_legal fixed (s ∷ line) typed = elim (end_of fixed line) as (λ o. IfSome o (λ e. e % 8 ≡ 0) → IfSome (option_and_then (λ start. placed fixed start s.fields) o) (All IsLegalPlace)) [
   | None ↦ λ _. tt
@@ -85,7 +87,7 @@ own_legal fixed (s ∷ line) typed = elim (end_of fixed line) as (λ o. IfSome o
 ] (ends_at_byte fixed line)
 
 -- a lineage is made of declared structures
-lineage_each : (P : StructureShape → Type 0) (ss : List StructureShape) → Each P ss → (i : ℕ) → Each P (lineage_in ss i)
+lineage_each : (P : Structure → Type 0) (ss : List Structure) → Each P ss → (i : ℕ) → Each P (lineage_in ss i)
 lineage_each P [] each i = tt
 lineage_each P (s ∷ earlier) each i = elim (nat_eq i (length earlier)) as (λ b. Each P (if b then s ∷ option_map_or (lineage_in earlier) s.parent [] else lineage_in earlier i)) [
   | true ↦ (each.0, elim s.parent as (λ o. Each P (option_map_or (lineage_in earlier) o [])) [ None ↦ tt | Some p ↦ lineage_each P earlier each.1 p ])
@@ -103,6 +105,6 @@ collect_each f P h n (x ∷ xs) = elim (f n x) as (λ o. IfSome o P → IfSome (
 ] (h n x)
 
 -- the places of the fields of typed structures are legal
-pub legal_places : (fixed : ℕ → Option ℕ) (structures : List StructureShape) → All IsTypedStructure structures → IfSome (places_of fixed structures) (All (All IsLegalPlace))
+pub legal_places : (fixed : ℕ → Option ℕ) (structures : List Structure) → All IsPlaceableStructure structures → IfSome (places_of fixed structures) (All (All IsLegalPlace))
 legal_places fixed structures typed =
-    IfSome_then (places_of fixed structures) (collect_each (λ i _. own_places fixed (lineage structures i)) (All IsLegalPlace) (λ i _. own_legal fixed (lineage structures i) (lineage_each IsTypedStructure (reverse structures) (each_reverse IsTypedStructure structures (each_of IsTypedStructure structures typed)) i)) 0 structures) (all_of (All IsLegalPlace))
+    IfSome_then (places_of fixed structures) (collect_each (λ i _. own_places fixed (lineage structures i)) (All IsLegalPlace) (λ i _. own_legal fixed (lineage structures i) (lineage_each IsPlaceableStructure (reverse structures) (each_reverse IsPlaceableStructure structures (each_of IsPlaceableStructure structures typed)) i)) 0 structures) (all_of (All IsLegalPlace))

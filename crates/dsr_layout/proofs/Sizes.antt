@@ -3,7 +3,7 @@ use Rattle.std.proofs.Common.{◌≡◌, ◌<◌, ◌≤◌, ◌+◌, ◌-◌, �
 use Rattle.std.specs.Option.{option_and_then}
 use Rattle.std.proofs.lemmas.Bool.{cases_lt, cases_order, lt-ltb, le-ltb, ltb-true, cond-true, cond-false}
 use Rattle.std.proofs.lemmas.List.{get_or_append_left, get_or_at, get_or_past, length-append, length-map, length-take-le, map-append}
-use Rattle.dsr_ir.specs.Shapes.{FieldShape, StructureShape, structure_shape}
+use Rattle.dsr_ir.specs.declared.declarations.Field.{Field}
 use Rattle.dsr_ir.specs.declared.declarations.Structure.{Structure}
 use Rattle.dsr_meaning.specs.Expressions.{in_range}
 use Rattle.dsr_meaning.specs.Extents.{up_to_byte}
@@ -41,7 +41,7 @@ size_below e sized = elim (nat_lt (clip e) (2 ^ 64 - 1)) as (λ t. nat_lt (clip 
 ] refl sized
 
 module _ (fixed : ℕ → Option ℕ) where
-  size_same : (line : List StructureShape) → size_at (option_map clip (end_of fixed line)) ≡ option_and_then in_range (end_of fixed line)
+  size_same : (line : List Structure) → size_at (option_map clip (end_of fixed line)) ≡ option_and_then in_range (end_of fixed line)
   size_same [] = refl
   size_same (s ∷ line) = elim (end_of fixed line) as (λ o. size_at (option_map clip (option_and_then (λ start. option_map up_to_byte (bit_behind_fields fixed start s.fields)) o)) ≡ option_and_then in_range (option_and_then (λ start. option_map up_to_byte (bit_behind_fields fixed start s.fields)) o)) [
     | None ↦ refl
@@ -52,11 +52,11 @@ module _ (fixed : ℕ → Option ℕ) where
   ]
 
   -- the table of ends tells the sizes of all structures
-  pub sizes_are : (structures : List StructureShape) (ends : List (Option ℕ)) → HoldsEnds fixed structures ends → (i : ℕ) → size_in ends i ≡ size_of fixed structures i
+  pub sizes_are : (structures : List Structure) (ends : List (Option ℕ)) → HoldsEnds fixed structures ends → (i : ℕ) → size_in ends i ≡ size_of fixed structures i
   sizes_are structures ends holds i = ap size_at (holds i) ∙ size_same (lineage structures i)
 
   -- the end behind fields, whose start may be clipped
-  pub end_same : (start : Option ℕ) (fs : List FieldShape) → end_behind fixed (option_map clip start) fs ≡ option_map clip (option_and_then (λ b. option_map up_to_byte (bit_behind_fields fixed b fs)) start)
+  pub end_same : (start : Option ℕ) (fs : List Field) → end_behind fixed (option_map clip start) fs ≡ option_map clip (option_and_then (λ b. option_map up_to_byte (bit_behind_fields fixed b fs)) start)
   end_same None fs = refl
   end_same (Some b) fs =
       inside (bit_behind_fields fixed (clip b) fs)
@@ -72,7 +72,7 @@ module _ (fixed : ℕ → Option ℕ) where
       outside (Some e) = ap Some (clip_byte e)
 
   -- the own fields of a structure begin at the end of its parent, if that is declared before it
-  pub start_is : (ends : List (Option ℕ)) (ss : List StructureShape) (i : ℕ) (parent : Option ℕ) → HoldsEnds fixed ss ends → start_in ends i parent ≡ option_map clip (end_of fixed (ancestors ss i parent))
+  pub start_is : (ends : List (Option ℕ)) (ss : List Structure) (i : ℕ) (parent : Option ℕ) → HoldsEnds fixed ss ends → start_in ends i parent ≡ option_map clip (end_of fixed (ancestors ss i parent))
   start_is ends ss i None holds = refl
   start_is ends ss i (Some p) holds = elim (nat_lt p i) as (λ b. (if b then end_in ends p else Some 0) ≡ option_map clip (end_of fixed (if b then lineage ss p else []))) [
     | true ↦ holds p
@@ -80,7 +80,7 @@ module _ (fixed : ℕ → Option ℕ) where
   ]
 
   -- the ends of structures, where one more stands behind
-  ends_push : (ends : List (Option ℕ)) (ss : List StructureShape) (s : StructureShape) (end : Option ℕ) → length ends ≡ length ss → HoldsEnds fixed ss ends → end ≡ end_behind fixed (start_in ends (length ss) s.parent) s.fields → HoldsEnds fixed (ss ++ s ∷ []) (ends ++ end ∷ [])
+  ends_push : (ends : List (Option ℕ)) (ss : List Structure) (s : Structure) (end : Option ℕ) → length ends ≡ length ss → HoldsEnds fixed ss ends → end ≡ end_behind fixed (start_in ends (length ss) s.parent) s.fields → HoldsEnds fixed (ss ++ s ∷ []) (ends ++ end ∷ [])
   ends_push ends ss s end many holds is i = elim (cases_order i (length ss)) [
     | inl last ↦
         get_or_at ends end [] (Some 0) i (many ∙ sym last)
@@ -101,12 +101,12 @@ module _ (fixed : ℕ → Option ℕ) where
   ]
 
   -- the ends of the structures up to one, and then of that one too
-  pub ends_next : (xs : List Structure) (i : ℕ) (x : Structure) → i < length xs → x ≡ get_or xs i x → (old : List (Option ℕ)) {ends : List (Option ℕ)} {end : Option ℕ} → length old ≡ i → HoldsEnds fixed (map structure_shape (take i xs)) old → ends ≡ old ++ end ∷ [] → end ≡ end_behind fixed (start_in old (length old) x.parent) (structure_shape x).fields → (length ends ≡ i + 1) × HoldsEnds fixed (map structure_shape (take (i + 1) xs)) ends
+  pub ends_next : (xs : List Structure) (i : ℕ) (x : Structure) → i < length xs → x ≡ get_or xs i x → (old : List (Option ℕ)) {ends : List (Option ℕ)} {end : Option ℕ} → length old ≡ i → HoldsEnds fixed (take i xs) old → ends ≡ old ++ end ∷ [] → end ≡ end_behind fixed (start_in old (length old) x.parent) x.fields → (length ends ≡ i + 1) × HoldsEnds fixed (map structure_shape (take (i + 1) xs)) ends
   ends_next xs i x lt is old {ends} {end} many holds pushed made =
       let ss = map structure_shape (take i xs) in
       let taken : length ss ≡ i = length-map (take i xs) structure_shape ∙ length-take-le i xs (omega arith) in
-      let made_at = made ∙ ap (λ n. end_behind fixed (start_in old n x.parent) (structure_shape x).fields) (many ∙ sym taken) in
-      let shapes : map structure_shape (take (i + 1) xs) ≡ ss ++ structure_shape x ∷ [] = ap (map structure_shape) (take_item xs i x lt is) ∙ map-append structure_shape (take i xs) (x ∷ []) in (
+      let made_at = made ∙ ap (λ n. end_behind fixed (start_in old n x.parent) x.fields) (many ∙ sym taken) in
+      let shapes : map structure_shape (take (i + 1) xs) ≡ ss ++ x ∷ [] = ap (map structure_shape) (take_item xs i x lt is) ∙ map-append structure_shape (take i xs) (x ∷ []) in (
         ap length pushed ∙ length-append old (end ∷ []) ∙ ap (λ n. n + 1) many,
-        λ k. ap (λ es. end_in es k) pushed ∙ ends_push old ss (structure_shape x) end (many ∙ sym taken) holds made_at k ∙ sym (ap (λ ys. option_map clip (end_of fixed (lineage ys k))) shapes),
+        λ k. ap (λ es. end_in es k) pushed ∙ ends_push old ss x end (many ∙ sym taken) holds made_at k ∙ sym (ap (λ ys. option_map clip (end_of fixed (lineage ys k))) shapes),
       )

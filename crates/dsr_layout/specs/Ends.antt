@@ -1,7 +1,7 @@
 -- Where the own fields of structures begin, by the table of ends.
 use Rattle.std.specs.Prelude.{ℕ, nat_lt, List, map, Option, Some, option_map, option_and_then, if◌then◌else◌}
 use Rattle.std.specs.Option.{option_map_or}
-use Rattle.dsr_ir.specs.Shapes.{FieldShape}
+use Rattle.dsr_ir.specs.declared.declarations.Field.{Field}
 use Rattle.dsr_ir.specs.declared.layouts.FieldPlace.{FieldPlace}
 use Rattle.dsr_meaning.specs.Extents.{up_to_byte}
 use Rattle.dsr_meaning.specs.Places.{bit_behind_fields, placed}
@@ -12,9 +12,9 @@ abbrev pub start_in : List (Option ℕ) → ℕ → Option ℕ → Option ℕ
 start_in ends i parent = option_map_or (λ p. if nat_lt p i then end_in ends p else Some 0) parent (Some 0)
 
 -- the clipped byte boundary behind fields
-abbrev pub end_behind : (ℕ → Option ℕ) → Option ℕ → List FieldShape → Option ℕ
+abbrev pub end_behind : (ℕ → Option ℕ) → Option ℕ → List Field → Option ℕ
 end_behind fixed start fields = option_and_then (λ bit. option_map (λ e. clip (up_to_byte (clip e))) (bit_behind_fields fixed bit fields)) start
 
 -- the clipped places of fields
-abbrev pub clipped_places : (ℕ → Option ℕ) → Option ℕ → List FieldShape → Option (List FieldPlace)
+abbrev pub clipped_places : (ℕ → Option ℕ) → Option ℕ → List Field → Option (List FieldPlace)
 clipped_places fixed start fields = option_and_then (λ bit. option_map (map clip_place) (placed fixed bit fields)) start

@@ -1,6 +1,6 @@
 -- What the tables of the code tell.
 use Rattle.std.specs.Prelude.{◌≡◌, ◌-◌, ◌^◌, ℕ, nat_lt, min, List, Option, None, Some, slice_get, slice_index_or, option_map, option_and_then, if◌then◌else◌}
-use Rattle.dsr_ir.specs.Shapes.{StructureShape}
+use Rattle.dsr_ir.specs.declared.declarations.Structure.{Structure}
 use Rattle.dsr_ir.specs.declared.layouts.Cell.{Cell}
 use Rattle.dsr_ir.specs.declared.layouts.FieldPlace.{FieldPlace}
 use Rattle.dsr_meaning.specs.Places.{lineage, end_of}
@@ -28,5 +28,5 @@ abbrev pub size_in : List (Option ℕ) → ℕ → Option ℕ
 size_in ends i = option_and_then (λ e. if nat_lt e (2 ^ 64 - 1) then Some e else None) (end_in ends i)
 
 -- the table has the clipped end of each structure
-abbrev pub HoldsEnds : (ℕ → Option ℕ) → List StructureShape → List (Option ℕ) → Type 0
+abbrev pub HoldsEnds : (ℕ → Option ℕ) → List Structure → List (Option ℕ) → Type 0
 HoldsEnds fixed structures ends = (i : ℕ) → end_in ends i ≡ option_map clip (end_of fixed (lineage structures i))

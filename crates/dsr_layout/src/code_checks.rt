@@ -1,6 +1,6 @@
 // Codes that don't fit the fields that refer to a pool.
 ghost use Rattle.std.specs.Prelude.{◌≡◌, ◌≤◌, All, length, map};
-ghost use Rattle.dsr_ir.specs.Shapes.{field_shape, structure_shape};
+
 ghost use Rattle.dsr_meaning.specs.Cells.{width_bits};
 ghost use Rattle.dsr_meaning.specs.Lists.{each_at};
 ghost use Rattle.dsr_meaning.specs.Refusals as meaning;
@@ -32,7 +32,7 @@ fn codes_fit(width: Width, pool: &PoolNumbers) -> bool
 // A field, by its number and its structure's, that refers to a pool whose codes don't fit it.
 fn reference(layout: &Layout, structure: u32, number: u32, field: &Field) -> Option<LayoutFault>
     requires computable { All IsComputable layout.now.pools }
-    ensures { result ≡ told_of (reference_refusals layout.now structure number (field_shape field.now)) }
+    ensures { result ≡ told_of (reference_refusals layout.now structure number field.now) }
 {
     let Kind::Refers { pool } = field.kind else {
         return None;
@@ -49,7 +49,7 @@ fn reference(layout: &Layout, structure: u32, number: u32, field: &Field) -> Opt
 fn own_reference(layout: &Layout, structure: u32, fields: &[Field]) -> Option<LayoutFault>
     requires few { length fields.now ≤ 64 }
     requires computable { All IsComputable layout.now.pools }
-    ensures { result ≡ told_of (each_at (reference_refusals layout.now structure) 0 (map field_shape fields.now)) }
+    ensures { result ≡ told_of (each_at (reference_refusals layout.now structure) 0 fields.now) }
 {
     for (i, field) in fields.iter().enumerate() {
         let fault = reference(layout, structure, i as u32, field);
@@ -65,7 +65,7 @@ pub fn code_too_wide(layout: &Layout, structures: &[Structure]) -> Option<Layout
     requires few { length structures.now ≤ 64 }
     requires few_fields { All HasFewFields structures.now }
     requires computable { All IsComputable layout.now.pools }
-    ensures { result ≡ told_of (code_refusals (map structure_shape structures.now) layout.now) }
+    ensures { result ≡ told_of (code_refusals structures.now layout.now) }
 {
     for (i, structure) in structures.iter().enumerate() {
         let fault = own_reference(layout, i as u32, structure.fields.items());

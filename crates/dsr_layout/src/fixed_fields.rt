@@ -1,11 +1,11 @@
 // The fixed fields of `Head`: their cells and values.
 ghost use Rattle.std.specs.Prelude.{◌≡◌, ◌≤◌, ℕ, false, [], All, IfSome, IfOk, IfErr, length, map, option_map};
 ghost use Rattle.std.specs.Option.{option_map_or};
-ghost use Rattle.dsr_ir.specs.Shapes.{field_shape, structures_shape};
+
 ghost use Rattle.dsr_meaning.specs.Cells.{cell_value, is_bytewise};
 ghost use Rattle.dsr_meaning.specs.FixedFields.{fixed_cell, fixed_value, head_fields};
 ghost use Rattle.dsr_meaning.specs.Refusals.{cut_refusals, ends_behind};
-ghost use Rattle.dsr_meaning.specs.Typed.{AreTyped};
+ghost use Rattle.dsr_meaning.specs.Placeable.{ArePlaceable};
 ghost use Rattle.dsr_layout.specs.FixedCells.{cell_from, clipped_cell, next_bit, IsReadable};
 ghost use Rattle.dsr_layout.specs.Tables.{known, clip_cell};
 ghost use Rattle.dsr_layout.specs.Telling.{told_of, Tells};
@@ -26,7 +26,7 @@ pub fn is_bytewise(width: Width) -> bool
 
 // The fields that `Head` itself declares.
 fn head_fields(base: &Structures) -> &[Field]
-    ensures { map field_shape result.now ≡ head_fields (structures_shape base.now) }
+    ensures { result.now ≡ head_fields base.now }
 {
     match base.structures.items().get(base.head as usize) {
         Some(head) => head.fields.items(),
@@ -36,7 +36,7 @@ fn head_fields(base: &Structures) -> &[Field]
 
 // The cell of a field that begins at a bit, where it is a fixed one.
 fn cell_from(order: Order, bit: Option<u64>, field: &Field) -> Option<Cell>
-    ensures { result ≡ cell_from order bit (field_shape field.now) }
+    ensures { result ≡ cell_from order bit field.now }
 {
     if !field.fixed || field.len.is_some() {
         return None;
@@ -51,7 +51,7 @@ fn cell_from(order: Order, bit: Option<u64>, field: &Field) -> Option<Cell>
 
 // The bit behind a field, where its length is a number.
 fn next_bit(bit: Option<u64>, field: &Field) -> Option<u64>
-    ensures { result ≡ next_bit bit (field_shape field.now) }
+    ensures { result ≡ next_bit bit field.now }
 {
     bit_behind_fields(&[], bit?, slice::from_ref(field))
 }
@@ -63,7 +63,7 @@ fn cells_from(
     start: Option<u64>,
     fields: &[Field],
 ) -> Result<Vec<Option<Cell>>, NoMemory>
-    ensures { IfOk result (λ cells. (k : ℕ) → known cells.items k ≡ clipped_cell order start (map field_shape fields.now) k) }
+    ensures { IfOk result (λ cells. (k : ℕ) → known cells.items k ≡ clipped_cell order start fields.now k) }
 {
     let mut cells = Vec::new(alloc);
     let mut bit = start;
@@ -76,7 +76,7 @@ fn cells_from(
 
 // The cells of the fixed fields, by their numbers among the fields of `Head`.
 fn fixed_cells(alloc: Global, base: &Structures) -> Result<Vec<Option<Cell>>, NoMemory>
-    ensures { IfOk result (λ cells. (k : ℕ) → known cells.items k ≡ option_map clip_cell (fixed_cell (structures_shape base.now) k)) }
+    ensures { IfOk result (λ cells. (k : ℕ) → known cells.items k ≡ option_map clip_cell (fixed_cell base.now k)) }
 {
     let structures = base.structures.items();
     let ends = ends(alloc, &[], structures)?;
@@ -121,7 +121,7 @@ fn is_cut_at(cells: &[Option<Cell>], number: usize, length: u64) -> bool
 // `Short` where the image ends before a fixed field does.
 fn cut(cells: &[Option<Cell>], fields: &[Field], length: u64) -> Option<LayoutFault>
     requires image { length ≤ 67108864 }
-    ensures { result ≡ told_of (cut_refusals (known cells.now) (map field_shape fields.now) length) }
+    ensures { result ≡ told_of (cut_refusals (known cells.now) fields.now length) }
 {
     for (number, _) in fields.iter().enumerate() {
         if is_cut_at(cells, number, length) {
@@ -165,11 +165,11 @@ pub fn fixed_values(
     base: &Structures,
     bytes: &[u8],
 ) -> Result<Vec<Option<u64>>, LayoutFault>
-    requires typed { AreTyped (structures_shape base.now) }
+    requires typed { ArePlaceable base.now }
     requires image { length bytes.now ≤ 67108864 }
-    ensures values { IfOk result (λ values. (k : ℕ) → known values.items k ≡ fixed_value (structures_shape base.now) bytes.now k) }
-    ensures uncut { IfOk result (λ _. cut_refusals (fixed_cell (structures_shape base.now)) (head_fields (structures_shape base.now)) (length bytes.now) ≡ []) }
-    ensures refused { IfErr result (Tells (cut_refusals (fixed_cell (structures_shape base.now)) (head_fields (structures_shape base.now)) (length bytes.now))) }
+    ensures values { IfOk result (λ values. (k : ℕ) → known values.items k ≡ fixed_value base.now bytes.now k) }
+    ensures uncut { IfOk result (λ _. cut_refusals (fixed_cell base.now) (head_fields base.now) (length bytes.now) ≡ []) }
+    ensures refused { IfErr result (Tells (cut_refusals (fixed_cell base.now) (head_fields base.now) (length bytes.now))) }
 {
     let cells = fixed_cells(alloc, base)?;
     if let Some(fault) = cut(&cells, head_fields(base), bytes.len() as u64) {

@@ -1,11 +1,11 @@
 // The layout of a specification on an image.
 ghost use Rattle.std.specs.Prelude.{◌≡◌, ◌≤◌, ◌++◌, [], All, IfOk, IfErr, Some, length};
-ghost use Rattle.dsr_ir.specs.Shapes.{structures_shape};
+
 ghost use Rattle.dsr_meaning.specs.Layouts.{layout_of};
 ghost use Rattle.dsr_meaning.specs.Legal.{IsLegalLayout};
 ghost use Rattle.dsr_meaning.specs.Refusals as meaning;
 ghost use Rattle.dsr_meaning.specs.Refusals.{refusals, layout_refusals, size_refusals, value_refusals};
-ghost use Rattle.dsr_meaning.specs.Typed.{AreTyped, IsTyped};
+ghost use Rattle.dsr_meaning.specs.Placeable.{ArePlaceable, IsPlaceable};
 ghost use Rattle.dsr_layout.specs.Checks.{place_refusals, number_refusals};
 ghost use Rattle.dsr_layout.specs.Pools.{IsComputable, HasStep};
 ghost use Rattle.dsr_layout.specs.Readings.{IsRead, IsMade};
@@ -45,7 +45,7 @@ fn place_fault(
     requires few { length base.now.pools ≤ 32 }
     requires few_numbers { length layout.now.pools ≤ 32 }
     requires computable { All IsComputable layout.now.pools }
-    ensures { IfOk result (λ fault. fault ≡ told_of (place_refusals (size_in ends.now) (structures_shape base.now) layout.now)) }
+    ensures { IfOk result (λ fault. fault ≡ told_of (place_refusals (size_in ends.now) base.now layout.now)) }
 {
     let fault = outside(layout);
     if fault.is_some() {
@@ -64,11 +64,11 @@ fn place_fault(
 
 // The first reason to refuse codes and counts.
 fn code_fault(spec: &Spec, layout: &Layout) -> Option<LayoutFault>
-    requires typed { IsTyped spec.now }
+    requires typed { IsPlaceable spec.now }
     requires few { length layout.now.pools ≤ 32 }
     requires computable { All IsComputable layout.now.pools }
     requires steps { All HasStep layout.now.pools }
-    ensures { result ≡ told_of (number_refusals spec.now (structures_shape spec.now.base) layout.now) }
+    ensures { result ≡ told_of (number_refusals spec.now spec.now.base layout.now) }
 {
     let fault = none_is_code(layout);
     if fault.is_some() {
@@ -92,10 +92,10 @@ fn layout_fault(
     ends: &[Option<u64>],
     layout: &Layout,
 ) -> Result<Option<LayoutFault>, NoMemory>
-    requires typed { IsTyped spec.now }
+    requires typed { IsPlaceable spec.now }
     requires few { length layout.now.pools ≤ 32 }
     requires computable { All IsComputable layout.now.pools }
-    ensures { IfOk result (λ fault. fault ≡ told_of (layout_refusals (size_in ends.now) spec.now (structures_shape spec.now.base) layout.now)) }
+    ensures { IfOk result (λ fault. fault ≡ told_of (layout_refusals (size_in ends.now) spec.now spec.now.base layout.now)) }
 {
     let fault = place_fault(alloc, &spec.base, ends, layout)?;
     if fault.is_some() {
@@ -113,9 +113,9 @@ struct Readings {
 
 // The readings of an image that isn't short.
 fn read(alloc: Global, spec: &Spec, bytes: &[u8]) -> Result<Readings, LayoutFault>
-    requires typed { IsTyped spec.now }
+    requires typed { IsPlaceable spec.now }
     requires image { length bytes.now ≤ 67108864 }
-    ensures read { IfOk result (λ r. IsRead (structures_shape spec.now.base) bytes.now r.fixed.items r.ends.items) }
+    ensures read { IfOk result (λ r. IsRead spec.now.base bytes.now r.fixed.items r.ends.items) }
     ensures refused { IfErr result (Tells (refusals spec.now bytes.now)) }
 {
     let base = &spec.base;
@@ -135,10 +135,10 @@ fn made(
     fixed: &[Option<u64>],
     ends: &[Option<u64>],
 ) -> Result<Layout, LayoutFault>
-    requires typed { AreTyped (structures_shape base.now) }
-    requires ends { HoldsEnds (known fixed.now) (structures_shape base.now).structures ends.now }
-    ensures made { IfOk result (IsMade (structures_shape base.now) length fixed.now ends.now) }
-    ensures refused { IfErr result (Tells (size_refusals (size_in ends.now) (structures_shape base.now).structures ++ value_refusals (known fixed.now) (size_in ends.now) (structures_shape base.now).pools)) }
+    requires typed { ArePlaceable base.now }
+    requires ends { HoldsEnds (known fixed.now) base.now.structures ends.now }
+    ensures made { IfOk result (IsMade base.now length fixed.now ends.now) }
+    ensures refused { IfErr result (Tells (size_refusals (size_in ends.now) base.now.structures ++ value_refusals (known fixed.now) (size_in ends.now) base.now.pools)) }
 {
     let fields = places(alloc, fixed, ends, base.structures.items())?;
     let pools = pools_of(alloc, fixed, ends, base.pools.items())?;
@@ -153,9 +153,9 @@ fn made(
 /// The layout of a specification on an image: the numbers that its expressions have there. Where
 /// it is refused, the fault is the first of the least kind, by order of declaration.
 pub fn layout(alloc: Global, spec: &Spec, bytes: &[u8]) -> Result<Layout, LayoutFault>
-    requires typed { IsTyped spec.now }
+    requires typed { IsPlaceable spec.now }
     requires image { length bytes.now ≤ 67108864 }
-    ensures numbers { IfOk result (λ layout. layout_of (structures_shape spec.now.base) bytes.now ≡ Some layout) }
+    ensures numbers { IfOk result (λ layout. layout_of spec.now.base bytes.now ≡ Some layout) }
     ensures accepted { IfOk result (λ _. refusals spec.now bytes.now ≡ []) }
     ensures legal { IfOk result IsLegalLayout }
     ensures refused { IfErr result (Tells (refusals spec.now bytes.now)) }

@@ -1,7 +1,7 @@
 // Where structures end, and where their fields begin. Sums and products stop at the last number of
 // 64 bits, which no structure with a size ends at.
 ghost use Rattle.std.specs.Prelude.{◌≡◌, ◌≤◌, ◌⊎◌, None, Some, IsSome, [], length, map, option_map, IfOk, IfErr};
-ghost use Rattle.dsr_ir.specs.Shapes.{field_shape, structure_shape};
+
 ghost use Rattle.dsr_meaning.specs.Cells.{width_bits};
 ghost use Rattle.dsr_meaning.specs.Extents as extents;
 ghost use Rattle.dsr_meaning.specs.Layouts.{places_of};
@@ -51,7 +51,7 @@ fn bit_behind(bit: u64, width: Width, entries: Option<u64>) -> u64
 
 /// The bit behind fields that follow each other from a bit on; none where a length has no value.
 pub fn bit_behind_fields(fixed: &[Option<u64>], start: u64, fields: &[Field]) -> Option<u64>
-    ensures { result ≡ option_map clip (meaning.bit_behind_fields (known fixed.now) start (map field_shape fields.now)) }
+    ensures { result ≡ option_map clip (meaning.bit_behind_fields (known fixed.now) start fields.now) }
 {
     let mut bit = start;
     for field in fields {
@@ -92,7 +92,7 @@ pub fn size_in(ends: &[Option<u64>], structure: u32) -> Option<u64>
 
 // The end of a structure whose own fields begin at a bit.
 fn end_behind(fixed: &[Option<u64>], start: Option<u64>, fields: &[Field]) -> Option<u64>
-    ensures { result ≡ end_behind (known fixed.now) start (map field_shape fields.now) }
+    ensures { result ≡ end_behind (known fixed.now) start fields.now }
 {
     Some(up_to_byte(bit_behind_fields(fixed, start?, fields)?))
 }
@@ -103,7 +103,7 @@ pub fn ends(
     fixed: &[Option<u64>],
     structures: &[Structure],
 ) -> Result<Vec<Option<u64>>, NoMemory>
-    ensures { IfOk result (λ ends. HoldsEnds (known fixed.now) (map structure_shape structures.now) ends.items) }
+    ensures { IfOk result (λ ends. HoldsEnds (known fixed.now) structures.now ends.items) }
 {
     let mut ends = Vec::new(alloc);
     for structure in structures {
@@ -121,8 +121,8 @@ fn placed(
     start: u64,
     fields: &[Field],
 ) -> Result<Vec<FieldPlace>, LayoutFault>
-    ensures placed { IfOk result (λ places. option_map (map clip_place) (meaning.placed (known fixed.now) start (map field_shape fields.now)) ≡ Some places.items) }
-    ensures refused { IfErr result (λ e. (e ≡ LayoutFault.NoMemory) ⊎ ((e ≡ LayoutFault.Arith) × (meaning.placed (known fixed.now) start (map field_shape fields.now) ≡ None))) }
+    ensures placed { IfOk result (λ places. option_map (map clip_place) (meaning.placed (known fixed.now) start fields.now) ≡ Some places.items) }
+    ensures refused { IfErr result (λ e. (e ≡ LayoutFault.NoMemory) ⊎ ((e ≡ LayoutFault.Arith) × (meaning.placed (known fixed.now) start fields.now ≡ None))) }
 {
     let mut places = Vec::new(alloc);
     let mut bit = start;
@@ -144,8 +144,8 @@ fn own_places(
     structure: &Structure,
 ) -> Result<Vec<FieldPlace>, LayoutFault>
     ensures sized { IfOk result (λ _. IsSome (size_in ends.now number)) }
-    ensures placed { IfOk result (λ places. clipped_places (known fixed.now) (start_in ends.now number structure.now.parent) (structure_shape structure.now).fields ≡ Some places.items) }
-    ensures refused { IfErr result (λ e. (e ≡ LayoutFault.NoMemory) ⊎ ((e ≡ LayoutFault.Arith) × ((size_in ends.now number ≡ None) ⊎ (clipped_places (known fixed.now) (start_in ends.now number structure.now.parent) (structure_shape structure.now).fields ≡ None)))) }
+    ensures placed { IfOk result (λ places. clipped_places (known fixed.now) (start_in ends.now number structure.now.parent) structure.now.fields ≡ Some places.items) }
+    ensures refused { IfErr result (λ e. (e ≡ LayoutFault.NoMemory) ⊎ ((e ≡ LayoutFault.Arith) × ((size_in ends.now number ≡ None) ⊎ (clipped_places (known fixed.now) (start_in ends.now number structure.now.parent) structure.now.fields ≡ None)))) }
 {
     if size_in(ends, number).is_none() {
         return Err(LayoutFault::Arith);
@@ -162,10 +162,10 @@ pub fn places(
     structures: &[Structure],
 ) -> Result<Vec<Seq<FieldPlace>>, LayoutFault>
     requires few { length structures.now ≤ 64 }
-    requires ends { HoldsEnds (known fixed.now) (map structure_shape structures.now) ends.now }
-    ensures placed { IfOk result (λ places. places_of (known fixed.now) (map structure_shape structures.now) ≡ Some places.items) }
-    ensures sized { IfOk result (λ _. size_refusals (size_in ends.now) (map structure_shape structures.now) ≡ []) }
-    ensures refused { IfErr result (Tells (size_refusals (size_in ends.now) (map structure_shape structures.now))) }
+    requires ends { HoldsEnds (known fixed.now) structures.now ends.now }
+    ensures placed { IfOk result (λ places. places_of (known fixed.now) structures.now ≡ Some places.items) }
+    ensures sized { IfOk result (λ _. size_refusals (size_in ends.now) structures.now ≡ []) }
+    ensures refused { IfErr result (Tells (size_refusals (size_in ends.now) structures.now)) }
 {
     let mut places = Vec::new(alloc);
     for (number, structure) in structures.iter().enumerate() {

@@ -1,7 +1,7 @@
 // Pools that lie outside of the image or over each other, whose slots are too small, or whose codes
 // are no codes.
 ghost use Rattle.std.specs.Prelude.{◌≡◌, ◌≤◌, ◌<◌, ◌+◌, suc, ◌∷◌, All, IfOk, length, map};
-ghost use Rattle.dsr_ir.specs.Shapes.{pool_shape};
+
 ghost use Rattle.dsr_meaning.specs.Lists.{each_at};
 ghost use Rattle.dsr_meaning.specs.Refusals as meaning;
 ghost use Rattle.dsr_meaning.specs.Refusals.{outside_refusals, refused_when, overlaps, overlap_refusals, view_refusals, set_refusals, subtype_refusals, zero_refusals, none_refusals, is_code_below};
@@ -160,7 +160,7 @@ pub fn subtype(
     layout: &Layout,
 ) -> Option<LayoutFault>
     requires few { length pools.now ≤ 32 }
-    ensures { result ≡ told_of (subtype_refusals (size_in ends.now) sets.now (map pool_shape pools.now) layout.now) }
+    ensures { result ≡ told_of (subtype_refusals (size_in ends.now) sets.now pools.now layout.now) }
 {
     for (i, pool) in pools.iter().enumerate() {
         let number = i as u32 + 1;

@@ -1,6 +1,6 @@
 // The numbers of pools.
 ghost use Rattle.std.specs.Prelude.{◌≡◌, ◌<◌, ◌+◌, ◌*◌, [], All, Some, IfOk, IfErr, map, option_map};
-ghost use Rattle.dsr_ir.specs.Shapes.{expr_shape, pool_shape};
+ghost use Rattle.dsr_ir.specs.Exprs.{expr_shape};
 ghost use Rattle.dsr_meaning.specs.Expressions.{in_range};
 ghost use Rattle.dsr_meaning.specs.Layouts as meaning;
 ghost use Rattle.dsr_meaning.specs.Refusals.{is_computable, value_refusals};
@@ -37,7 +37,7 @@ fn slot_bytes(
 }
 
 fn pool_of(fixed: &[Option<u64>], ends: &[Option<u64>], pool: &Pool) -> Option<PoolNumbers>
-    ensures { result ≡ meaning.pool_of (known fixed.now) (size_in ends.now) (pool_shape pool.now) }
+    ensures { result ≡ meaning.pool_of (known fixed.now) (size_in ends.now) pool.now }
 {
     Some(PoolNumbers {
         count: value_of(fixed, &pool.count)?,
@@ -83,7 +83,7 @@ pub fn last_code(pool: &PoolNumbers) -> u64
 
 // The numbers of a pool, where they, its end and its last code have values.
 fn computed(fixed: &[Option<u64>], ends: &[Option<u64>], pool: &Pool) -> Option<PoolNumbers>
-    ensures { result ≡ computed (meaning.pool_of (known fixed.now) (size_in ends.now) (pool_shape pool.now)) }
+    ensures { result ≡ computed (meaning.pool_of (known fixed.now) (size_in ends.now) pool.now) }
 {
     let numbers = pool_of(fixed, ends, pool)?;
     if is_computable(&numbers) {
@@ -100,10 +100,10 @@ pub fn pools_of(
     ends: &[Option<u64>],
     pools: &[Pool],
 ) -> Result<Vec<PoolNumbers>, LayoutFault>
-    ensures numbers { IfOk result (λ numbers. meaning.pools_of (known fixed.now) (size_in ends.now) (map pool_shape pools.now) ≡ Some numbers.items) }
+    ensures numbers { IfOk result (λ numbers. meaning.pools_of (known fixed.now) (size_in ends.now) pools.now ≡ Some numbers.items) }
     ensures computable { IfOk result (λ numbers. All IsComputable numbers.items) }
-    ensures valued { IfOk result (λ _. value_refusals (known fixed.now) (size_in ends.now) (map pool_shape pools.now) ≡ []) }
-    ensures refused { IfErr result (Tells (value_refusals (known fixed.now) (size_in ends.now) (map pool_shape pools.now))) }
+    ensures valued { IfOk result (λ _. value_refusals (known fixed.now) (size_in ends.now) pools.now ≡ []) }
+    ensures refused { IfErr result (Tells (value_refusals (known fixed.now) (size_in ends.now) pools.now)) }
 {
     let mut numbers = Vec::new(alloc);
     for pool in pools {

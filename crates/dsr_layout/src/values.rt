@@ -1,6 +1,6 @@
 // The values of expressions.
 ghost use Rattle.std.specs.Prelude.{◌≡◌, option_map};
-ghost use Rattle.dsr_ir.specs.Shapes.{expr_shape};
+ghost use Rattle.dsr_ir.specs.Exprs.{expr_shape};
 ghost use Rattle.dsr_meaning.specs.Expressions.{value_of};
 ghost use Rattle.dsr_meaning.specs.Places.{entries_of};
 ghost use Rattle.dsr_layout.specs.Tables.{known};

@@ -1,8 +1,8 @@
 // Specifications and images of the cases, and what is told of their layouts.
 ghost use Rattle.std.specs.Prelude.{◌≡◌, ◌≤◌, IfSome, IfOk, length};
-ghost use Rattle.dsr_ir.specs.Shapes.{structures_shape};
+
 ghost use Rattle.dsr_meaning.specs.Legal.{IsLegalLayout};
-ghost use Rattle.dsr_meaning.specs.Typed.{AreTyped, IsTyped};
+ghost use Rattle.dsr_meaning.specs.Placeable.{ArePlaceable, IsPlaceable};
 
 use crate::rule_tables::{ConstraintRow, RuleRow};
 use dsr_ir::{Conj, Constraint, Layout, Literal, Name, NoMemory, PoolNumbers, Rule, Seq, Spec, Structures};
@@ -60,7 +60,7 @@ fn constraints_of(alloc: Global, rows: &[ConstraintRow]) -> Result<Vec<Constrain
 
 // The typed tables of a text without rules and constraints; none where it has a fault.
 fn base_of(alloc: Global, text: &str) -> Result<Option<Structures>, Fail>
-    ensures { IfOk result (λ base. IfSome base (λ b. AreTyped (structures_shape b))) }
+    ensures { IfOk result (λ base. IfSome base (λ b. ArePlaceable b)) }
 {
     let tree = parse(alloc, text.as_bytes())?;
     match structures(alloc, &tree) {
@@ -72,8 +72,8 @@ fn base_of(alloc: Global, text: &str) -> Result<Option<Structures>, Fail>
 
 // The specification of these parts, where its rules and constraints are few.
 fn typed(base: Structures, rules: Vec<Rule>, constraints: Vec<Constraint>) -> Option<Spec>
-    requires { AreTyped (structures_shape base) }
-    ensures { IfSome result IsTyped }
+    requires { ArePlaceable base }
+    ensures { IfSome result IsPlaceable }
 {
     if rules.len() > 128 || constraints.len() > 128 {
         return None;
@@ -92,7 +92,7 @@ pub fn spec_of(
     rules: &[RuleRow],
     constraints: &[ConstraintRow],
 ) -> Result<Option<Spec>, Fail>
-    ensures { IfOk result (λ spec. IfSome spec IsTyped) }
+    ensures { IfOk result (λ spec. IfSome spec IsPlaceable) }
 {
     let Some(base) = base_of(alloc, text)? else {
         return Ok(None);
@@ -152,7 +152,7 @@ fn layout_text(alloc: Global, layout: &Layout) -> Result<String, Fail> {
 
 /// What is told of a specification on an image, or the numbers of the pools there.
 pub fn told_of(alloc: Global, spec: &Spec, bytes: &[u8]) -> Result<String, Fail>
-    requires typed { IsTyped spec.now }
+    requires typed { IsPlaceable spec.now }
 {
     if bytes.len() > 67_108_864 {
         return Ok(format!(in alloc; "large")?);

@@ -1,11 +1,12 @@
--- The violated bindings of an image have one list.
+-- The violated bindings have one list.
 use Rattle.std.proofs.Common.{◌≡◌, ℕ, List, [], ◌∷◌, inl, inr, refl, sym, subst, ◌∙◌, arith}
 use Rattle.dsr_ir.specs.declared.declarations.Spec.{Spec}
-use Rattle.dsr_ir.specs.declared.layouts.Layout.{Layout}
 use Rattle.dsr_ir.specs.declared.tuples.Binding.{Binding}
 use Rattle.dsr_ir.specs.declared.tuples.Binding.TheVariants.{Once, Each, Pair}
 use Rattle.dsr_ir.specs.declared.tuples.Element.{Element}
-use Rattle.dsr_meaning.specs.Consistency.{AreInOrder, AreViolations, BindingPrecedes, Comes, Instanced, Precedes}
+use Rattle.dsr_ir.specs.declared.tuples.Fact.{Fact}
+use Rattle.dsr_meaning.specs.Consistency.{AreInOrder, AreViolations, BoundConstraint, Comes, IsFirstViolated, IsViolated, IsBinding}
+use Rattle.dsr_meaning.specs.Orders.{BindingPrecedes, Precedes}
 use Rattle.dsr_meaning.specs.Counting.{IsIn}
 
 -- no element comes before one that comes before it
@@ -21,33 +22,35 @@ pairs_one_way a a' b b' (inl p) (inr (e, q)) = let same : Precedes a a = subst (
 pairs_one_way a a' b b' (inr (e, p)) (inl q) = let same : Precedes b b = subst (λ x. Precedes b x) e q in one_way b b same same
 pairs_one_way a a' b b' (inr (e, p)) (inr (f, q)) = one_way a' b' p q
 
-bindings_one_way : (a b : Binding) → BindingPrecedes a b → BindingPrecedes b a → ⊥
-bindings_one_way (Each a) (Each b) p q = one_way a b p q
-bindings_one_way (Pair a a') (Pair b b') p q = pairs_one_way a a' b b' p q
-bindings_one_way Once b p q = absurd p
+pub bindings_one_way : (a b : Binding) → BindingPrecedes a b → BindingPrecedes b a → ⊥
+bindings_one_way Once Once p q = absurd p
+bindings_one_way Once (Each b) p q = absurd q
+bindings_one_way Once (Pair b b') p q = absurd q
 bindings_one_way (Each a) Once p q = absurd p
-bindings_one_way (Each a) (Pair b b') p q = absurd p
+bindings_one_way (Each a) (Each b) p q = one_way a b p q
+bindings_one_way (Each a) (Pair b b') p q = absurd q
 bindings_one_way (Pair a a') Once p q = absurd p
 bindings_one_way (Pair a a') (Each b) p q = absurd p
+bindings_one_way (Pair a a') (Pair b b') p q = pairs_one_way a a' b b' p q
 
-comes_one_way : (v w : Instanced) → Comes v w → Comes w v → ⊥
+comes_one_way : (v w : BoundConstraint) → Comes v w → Comes w v → ⊥
 comes_one_way v w (inl p) (inl q) = omega arith
 comes_one_way v w (inl p) (inr (e, q)) = omega (arith, e)
 comes_one_way v w (inr (e, p)) (inl q) = omega (arith, e)
 comes_one_way v w (inr (e, p)) (inr (f, q)) = bindings_one_way v.binding w.binding p q
 
-same_first : (v w : Instanced) (vs ws : List Instanced) → AreInOrder (v ∷ vs) → AreInOrder (w ∷ ws) → IsIn v (w ∷ ws) → IsIn w (v ∷ vs) → v ≡ w
+same_first : (v w : BoundConstraint) (vs ws : List BoundConstraint) → AreInOrder (v ∷ vs) → AreInOrder (w ∷ ws) → IsIn v (w ∷ ws) → IsIn w (v ∷ vs) → v ≡ w
 same_first v w vs ws a b (inl e) j = e
 same_first v w vs ws a b (inr i) (inl e) = sym e
 same_first v w vs ws a b (inr i) (inr j) = absurd (comes_one_way v w (a.0 w j) (b.0 v i))
 
-behind : (v w : Instanced) (vs ws : List Instanced) → AreInOrder (v ∷ vs) → v ≡ w → ((x : Instanced) → IsIn x (v ∷ vs) → IsIn x (w ∷ ws)) → (x : Instanced) → IsIn x vs → IsIn x ws
+behind : (v w : BoundConstraint) (vs ws : List BoundConstraint) → AreInOrder (v ∷ vs) → v ≡ w → ((x : BoundConstraint) → IsIn x (v ∷ vs) → IsIn x (w ∷ ws)) → (x : BoundConstraint) → IsIn x vs → IsIn x ws
 behind v w vs ws a e h x i = elim (h x (inr i)) as (λ _. IsIn x ws) [
   | inl f ↦ let itself : Comes v v = subst (λ y. Comes v y) (f ∙ sym e) (a.0 x i) in absurd (comes_one_way v v itself itself)
   | inr j ↦ j
 ]
 
-one_order : (vs ws : List Instanced) → AreInOrder vs → AreInOrder ws → ((x : Instanced) → IsIn x vs → IsIn x ws) → ((x : Instanced) → IsIn x ws → IsIn x vs) → vs ≡ ws
+one_order : (vs ws : List BoundConstraint) → AreInOrder vs → AreInOrder ws → ((x : BoundConstraint) → IsIn x vs → IsIn x ws) → ((x : BoundConstraint) → IsIn x ws → IsIn x vs) → vs ≡ ws
 one_order [] [] a b f g = refl
 one_order [] (w ∷ ws) a b f g = absurd (g w (inl refl))
 one_order (v ∷ vs) [] a b f g = absurd (f v (inl refl))
@@ -56,5 +59,5 @@ one_order (v ∷ vs) (w ∷ ws) a b f g =
     let rest = one_order vs ws a.1 b.1 (behind v w vs ws a first f) (behind w v ws vs b (sym first) g) in
     λ i. first i ∷ rest i
 
-pub violations_once : (spec : Spec) (layout : Layout) (bytes : List ℕ) (vs ws : List Instanced) → AreViolations spec layout bytes vs → AreViolations spec layout bytes ws → vs ≡ ws
-violations_once spec layout bytes vs ws a b = one_order vs ws a.in_order b.in_order (λ x i. b.all x (a.only x i)) (λ x i. a.all x (b.only x i))
+pub violations_once : (is_fact : Fact → Type 0) (spec : Spec) (vs ws : List BoundConstraint) → AreViolations is_fact spec vs → AreViolations is_fact spec ws → vs ≡ ws
+violations_once is_fact spec vs ws a b = one_order vs ws a.in_order b.in_order (λ x i. b.all x (a.only x i)) (λ x i. a.all x (b.only x i))

@@ -8,7 +8,7 @@ use Rattle.dsr_ir.specs.declared.layouts.PoolNumbers.{PoolNumbers}
 use Rattle.dsr_ir.specs.declared.tuples.Element.{Element}
 use Rattle.dsr_meaning.specs.Cells.{is_bytewise, width_bits}
 use Rattle.dsr_meaning.specs.Layouts.{pool_end}
-use Rattle.dsr_meaning.specs.Typed.{IsLegalWidth}
+use Rattle.dsr_meaning.specs.Placeable.{IsLegalWidth}
 
 -- a pool in an image of so many bytes: its slots lie there, each has a code of its own, and none has the one of no slot
 pub record IsLegalPool (bytes : ℕ) (n : PoolNumbers) : Type 0 where

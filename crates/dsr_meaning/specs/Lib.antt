@@ -9,9 +9,11 @@ pub mod Layouts
 pub mod Legal
 pub mod Lists
 pub mod Models
+pub mod Orders
+pub mod Placeable
 pub mod Places
 pub mod References
 pub mod Refusals
-pub mod Resolved
 pub mod Truth
 pub mod Typed
+pub mod Writes

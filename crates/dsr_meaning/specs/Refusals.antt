@@ -1,7 +1,8 @@
 -- The ten kinds of refusals of an image by its layout, in their order.
-use Rattle.std.specs.Prelude.{ℕ, zero, suc, ◌+◌, ◌*◌, ◌^◌, min, max, Bool, true, false, not, ◌&&◌, ◌||◌, nat_eq, nat_lt, List, [], ◌∷◌, ◌++◌, map, length, sum, Option, None, Some, is_none, unwrap_or, slice_get, if◌then◌else◌}
+use Rattle.std.specs.Prelude.{◌≡◌, ℕ, zero, suc, ◌+◌, ◌*◌, ◌^◌, min, max, Bool, true, false, not, ◌&&◌, ◌||◌, nat_eq, nat_lt, List, [], ◌∷◌, ◌++◌, map, length, sum, Option, None, Some, is_none, unwrap_or, slice_get, if◌then◌else◌}
 use Rattle.std.specs.Option.{option_map_or}
 use Rattle.dsr_ir.specs.Layouts.{pool_numbers, field_place}
+use Rattle.dsr_ir.specs.Rules.{gives, target_of}
 use Rattle.dsr_ir.specs.declared.declarations.Field.{Field}
 use Rattle.dsr_ir.specs.declared.declarations.Structure.{Structure}
 use Rattle.dsr_ir.specs.declared.declarations.Pool.{Pool}
@@ -20,16 +21,16 @@ use Rattle.dsr_ir.specs.declared.layouts.Cell.{Cell}
 use Rattle.dsr_ir.specs.declared.layouts.Layout.{Layout}
 use Rattle.dsr_ir.specs.declared.layouts.PoolNumbers.{PoolNumbers}
 use Rattle.dsr_ir.specs.declared.rules.Inc.{Inc}
-use Rattle.dsr_ir.specs.declared.rules.Inc.TheVariants.{Own, Target, Slot, OwnPair, SlotPair}
 use Rattle.dsr_ir.specs.declared.rules.Op.{Op}
 use Rattle.dsr_ir.specs.declared.rules.Op.TheVariants.{Eq, Le, Ge}
 use Rattle.dsr_ir.specs.declared.rules.Path.{Path}
 use Rattle.dsr_ir.specs.declared.rules.Rule.{Rule}
+use Rattle.dsr_ir.specs.declared.updates.Symbol.TheVariants.{Set, Rel}
 use Rattle.dsr_meaning.specs.Cells.{width_bits}
 use Rattle.dsr_meaning.specs.Lists.{any_of, each_at}
 use Rattle.dsr_meaning.specs.FixedFields.{head_fields, fixed_cell, fixed_value}
 use Rattle.dsr_meaning.specs.Instances.{kind_pool, record_count, set_pool, premise_pool, index_count}
-use Rattle.dsr_meaning.specs.Layouts.{bytes_of, pool_of, pool_end, last_code, layout_with}
+use Rattle.dsr_meaning.specs.Layouts.{bytes_of, pool_of, pool_end, last_code, layout_with, layout_of}
 use Rattle.dsr_meaning.specs.Models.{base_of}
 use Rattle.dsr_meaning.specs.Places.{size_of}
 
@@ -163,9 +164,7 @@ greatest_size spec layout (Into rel var) = option_map_or (λ r. record_count lay
 
 -- the field whose value a rule gives to a relation
 abbrev pub given_path : ℕ → Inc → Option Path
-given_path rel (OwnPair r path) = if nat_eq r rel then Some path else None
-given_path rel (SlotPair r pool path) = if nat_eq r rel then Some path else None
-given_path rel _ = None
+given_path rel inc = if gives (Rel rel) inc then target_of inc else None
 
 -- whether a rule gives values to a relation from a field that a number doesn't fit
 abbrev pub gives_narrower : Layout → ℕ → ℕ → Rule → Bool
@@ -195,18 +194,6 @@ count_refusals spec layout = each_at (λ k c. refused_when (constraint_outgrows 
 abbrev pub rule_instances : Spec → Layout → Rule → ℕ
 rule_instances spec layout r = record_count layout (premise_pool spec r) * index_count layout r.span
 
--- whether an inclusion gives members of a set, or pairs of a relation
-abbrev pub gives_members : ℕ → Inc → Bool
-gives_members set (Own s) = nat_eq s set
-gives_members set (Target s path) = nat_eq s set
-gives_members set (Slot s pool) = nat_eq s set
-gives_members set _ = false
-
-abbrev pub gives_pairs : ℕ → Inc → Bool
-gives_pairs rel (OwnPair r path) = nat_eq r rel
-gives_pairs rel (SlotPair r pool path) = nat_eq r rel
-gives_pairs rel _ = false
-
 -- the instances of all rules whose inclusion passes a test
 abbrev pub instances_where : Spec → Layout → (Inc → Bool) → List Rule → ℕ
 instances_where spec layout test rules = sum (map (λ r. if test r.inc then rule_instances spec layout r else 0) rules)
@@ -214,13 +201,13 @@ instances_where spec layout test rules = sum (map (λ r. if test r.inc then rule
 -- the slots of a complement's pool, or the instances of the rules of another set
 abbrev pub member_instances : Spec → Layout → ℕ → Option ℕ → ℕ
 member_instances spec layout set (Some base) = record_count layout (set_pool spec set)
-member_instances spec layout set None = instances_where spec layout (gives_members set) spec.rules
+member_instances spec layout set None = instances_where spec layout (gives (Set set)) spec.rules
 
 -- those of a quantifier's symbol
 abbrev pub quantifier_instances : Spec → Layout → Quant → ℕ
 quantifier_instances spec layout Once = 0
 quantifier_instances spec layout (Each set) = member_instances spec layout set (base_of spec set)
-quantifier_instances spec layout (Pairs rel) = instances_where spec layout (gives_pairs rel) spec.rules
+quantifier_instances spec layout (Pairs rel) = instances_where spec layout (gives (Rel rel)) spec.rules
 
 -- those of all rules, and once more for each constraint those of its quantifier's symbol
 abbrev pub instances : Spec → Layout → ℕ
@@ -265,3 +252,8 @@ refusals spec bytes = refusals_by (fixed_value spec.base bytes) spec spec.base (
 abbrev pub first_of : {T : Type 0} → List T → Option T
 first_of [] = None
 first_of (x ∷ xs) = Some x
+
+-- the layout of a specification on an image: the numbers that its expressions have there, where nothing is refused
+pub record IsLayoutOf (spec : Spec) (bytes : List ℕ) (layout : Layout) : Type 0 where
+  pub numbers : layout_of spec.base bytes ≡ Some layout
+  pub accepted : refusals spec bytes ≡ []

@@ -9,7 +9,7 @@ use Rattle.dsr_meaning.specs.Cells.{width_bits, is_bytewise as reads_bytes}
 use Rattle.dsr_text.specs.Declarations.{entry_bits, is_bytewise, width_faults, extent_of}
 use Rattle.dsr_text.specs.Names.{Names}
 use Rattle.dsr_text.specs.Tables.{typed_expr, typed_field, typed_width}
-use Rattle.dsr_meaning.specs.Typed.{IsLegalWidth, HasLegalWidth as IsLegal, plain_extent}
+use Rattle.dsr_meaning.specs.Placeable.{IsLegalWidth, HasLegalWidth as IsLegal, plain_extent}
 use Rattle.dsr_struct.specs.Known.{HasLegalWidth}
 use Rattle.dsr_text.proofs.Absent.{when_absent}
 

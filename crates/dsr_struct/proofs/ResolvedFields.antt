@@ -13,7 +13,7 @@ use Rattle.dsr_text.specs.Faults.{when}
 use Rattle.dsr_meaning.specs.Lists.{each_at}
 use Rattle.dsr_meaning.specs.Instances.{kind_pool}
 use Rattle.dsr_text.specs.Names.{names_of, is_at, used_structure}
-use Rattle.dsr_meaning.specs.Resolved.{IsPoolNumber, IsOtherStructure, IsResolvedField, IsResolvedStructure}
+use Rattle.dsr_meaning.specs.Typed.{IsPoolNumber, IsOtherStructure, IsTypedField, IsTypedStructure}
 use Rattle.dsr_text.specs.Tables.{number_in, typed_content, typed_field, typed_structure, tables}
 use Rattle.dsr_meaning.proofs.Empty.{both_empty, third_empty, fourth_empty, each_has}
 use Rattle.dsr_text.proofs.Absent.{when_absent}
@@ -33,7 +33,7 @@ module _ (t : TreeShape) (empty : AllEmpty t) where
   resolved_content w (Some (contents.Init place number)) e = tt
   resolved_content w (Some (contents.Refers place q)) e = pool_numbers t empty q e
 
-  resolved_field : (at : FieldPosition) (f : FieldTree) → field_faults (names_of t) at f ≡ [] → IsResolvedField (tables t) (typed_field (names_of t) f)
+  resolved_field : (at : FieldPosition) (f : FieldTree) → field_faults (names_of t) at f ≡ [] → IsTypedField (tables t) (typed_field (names_of t) f)
   resolved_field at (named f) e =
       let fixed = (names_of t).fixed in
       let content = content_faults (names_of t).pool f.width f.content in
@@ -67,7 +67,7 @@ module _ (t : TreeShape) (empty : AllEmpty t) where
       )
 
   -- a structure without fault is resolved in the tables
-  pub resolved_structure : (i : ℕ) (s : StructureTree) → structure_faults (names_of t) i s ≡ [] → IsResolvedStructure (tables t) i (typed_structure (names_of t) s)
+  pub resolved_structure : (i : ℕ) (s : StructureTree) → structure_faults (names_of t) i s ≡ [] → IsTypedStructure (tables t) i (typed_structure (names_of t) s)
   resolved_structure i s e =
       let names = names_of t in
       let parents = resolved_parent i s.parent (third_empty
@@ -79,5 +79,5 @@ module _ (t : TreeShape) (empty : AllEmpty t) where
       record {
         parent = parents.0;
         parent_before = parents.1;
-        fields = All-map (IsResolvedField (tables t)) (typed_field names) s.fields (each_has (λ j f. field_faults names (position_of names i s j) f) (λ f. IsResolvedField (tables t) (typed_field names f)) (λ j. resolved_field (position_of names i s j)) 0 s.fields (fields_empty names i s e));
+        fields = All-map (IsTypedField (tables t)) (typed_field names) s.fields (each_has (λ j f. field_faults names (position_of names i s j) f) (λ f. IsTypedField (tables t) (typed_field names f)) (λ j. resolved_field (position_of names i s j)) 0 s.fields (fields_empty names i s e));
       }

@@ -10,7 +10,7 @@ use Rattle.dsr_tree.specs.declared.faults.Condition.TheVariants as conditions
 use Rattle.dsr_tree.specs.declared.tree.PlacedName.{PlacedName}
 use Rattle.dsr_text.specs.Declarations.{unknown_name}
 use Rattle.dsr_text.specs.Names.{names_of, is_head, structure_number, used_structure}
-use Rattle.dsr_meaning.specs.Resolved.{IsPoolNumber, IsOtherStructure, IsSetNumber}
+use Rattle.dsr_meaning.specs.Typed.{IsPoolNumber, IsOtherStructure, IsSetNumber}
 use Rattle.dsr_text.specs.Tables.{pool_in, typed_structure, typed_pool, typed_set, tables}
 use Rattle.dsr_text.proofs.Absent.{when_absent}
 use Rattle.dsr_struct.proofs.Faultless.{AllEmpty}

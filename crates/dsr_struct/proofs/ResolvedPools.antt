@@ -9,7 +9,7 @@ use Rattle.dsr_text.specs.Declarations.{unknown_name, expr_faults, maybe_expr_fa
 use Rattle.dsr_text.specs.Faults.{when}
 use Rattle.dsr_meaning.specs.Lists.{each_at}
 use Rattle.dsr_text.specs.Names.{names_of, is_at, used_structure, plain_number, plain_set}
-use Rattle.dsr_meaning.specs.Resolved.{IsOtherStructure, IsSetNumber, IsResolvedPool}
+use Rattle.dsr_meaning.specs.Typed.{IsOtherStructure, IsSetNumber, IsTypedPool}
 use Rattle.dsr_text.specs.Tables.{number_in, avoided_by, avoided, typed_pool, tables}
 use Rattle.dsr_meaning.proofs.Empty.{both_empty, third_empty, each_has}
 use Rattle.dsr_text.proofs.Absent.{when_absent}
@@ -71,7 +71,7 @@ module _ (t : TreeShape) (empty : AllEmpty t) where
       e
 
   -- a pool without fault is resolved in the tables
-  pub resolved_pool : (i : ℕ) (p : PoolTree) → pool_faults (names_of t) i p ≡ [] → IsResolvedPool (tables t) (typed_pool (names_of t) p)
+  pub resolved_pool : (i : ℕ) (p : PoolTree) → pool_faults (names_of t) i p ≡ [] → IsTypedPool (tables t) (typed_pool (names_of t) p)
   resolved_pool i p e =
       let names = names_of t in
       let fixed = names.fixed in

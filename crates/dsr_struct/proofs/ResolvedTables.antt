@@ -14,8 +14,8 @@ use Rattle.dsr_tree.specs.declared.tree.View.TheVariants as views
 use Rattle.dsr_text.specs.Declarations.{unknown_name, structure_faults, pool_faults, disagree, is_unrelated, view_faults, set_faults, source_faults, target_faults, relation_faults, declaration_faults}
 use Rattle.dsr_text.specs.Faults.{when}
 use Rattle.dsr_text.specs.Names.{names_of, is_at, used_structure, pool_structure, plain_set, set_pool}
-use Rattle.dsr_meaning.specs.Resolved.{IsPoolNumber, IsOtherStructure, IsSetNumber, IsResolvedStructure, IsResolvedPool, IsResolvedSet, IsResolvedRel, AreResolved}
-use Rattle.dsr_text.specs.Tables.{typed_structure, typed_pool, set_structure, base_of, typed_set, typed_source, typed_target, typed_relation, tables}
+use Rattle.dsr_meaning.specs.Typed.{IsPoolNumber, IsOtherStructure, IsSetNumber, IsTypedStructure, IsTypedPool, IsTypedSet, IsTypedRel, AreTyped}
+use Rattle.dsr_text.specs.Tables.{typed_structure, typed_pool, set_structure, typed_except, typed_set, typed_source, typed_target, typed_relation, tables}
 use Rattle.dsr_meaning.proofs.Empty.{both_empty, third_empty, fourth_empty, each_has}
 use Rattle.dsr_text.proofs.Absent.{when_absent}
 use Rattle.dsr_struct.proofs.Faultless.{AllEmpty, all_empty}
@@ -55,7 +55,7 @@ module _ (t : TreeShape) (empty : AllEmpty t) where
       of None known h = absurd cc
       of (Some k) known h = structure_of_pool named k h
 
-  resolved_view : (s : Set) (o : Option View) → unknown_name (names_of t).pool s.pool ≡ [] → view_faults (names_of t) s o ≡ [] → IsOtherStructure (tables t) (set_structure (names_of t) s o) × IfSome (base_of (names_of t) o) (IsSetNumber (tables t))
+  resolved_view : (s : Set) (o : Option View) → unknown_name (names_of t).pool s.pool ≡ [] → view_faults (names_of t) s o ≡ [] → IsOtherStructure (tables t) (set_structure (names_of t) s o) × IfSome (typed_except (names_of t) o) (IsSetNumber (tables t))
   resolved_view s None pool e = (structure_of_name s pool, tt)
   resolved_view s (Some (views.As place q)) pool e =
       let names = names_of t in
@@ -66,7 +66,7 @@ module _ (t : TreeShape) (empty : AllEmpty t) where
       let both = both_empty (unknown_name (plain_set names) q) (when (disagree (names.pool s.pool.name) (option_and_then (set_pool names) (plain_set names q.name))) conditions.PoolMismatch s.place) e in
       (structure_of_name s pool, plain_sets t empty q both.0)
 
-  resolved_set : (i : ℕ) (s : Set) → set_faults (names_of t) i s ≡ [] → IsResolvedSet (tables t) (typed_set (names_of t) s)
+  resolved_set : (i : ℕ) (s : Set) → set_faults (names_of t) i s ≡ [] → IsTypedSet (tables t) (typed_set (names_of t) s)
   resolved_set i s e =
       let names = names_of t in
       let twice = when (not (is_at i (names.set s.name.name))) conditions.NameTwice s.name.place in
@@ -87,7 +87,7 @@ module _ (t : TreeShape) (empty : AllEmpty t) where
   resolved_target (targets.Number place) e = tt
   resolved_target (targets.Pool q) e = pool_numbers t empty q e
 
-  resolved_relation : (i : ℕ) (r : Relation) → relation_faults (names_of t) i r ≡ [] → IsResolvedRel (tables t) (typed_relation (names_of t) r)
+  resolved_relation : (i : ℕ) (r : Relation) → relation_faults (names_of t) i r ≡ [] → IsTypedRel (tables t) (typed_relation (names_of t) r)
   resolved_relation i r e =
       let names = names_of t in
       let twice = when (is_some (names.set r.name.name) || not (is_at i (names.relation r.name.name))) conditions.NameTwice r.name.place in
@@ -97,17 +97,17 @@ module _ (t : TreeShape) (empty : AllEmpty t) where
         target = resolved_target r.target (fourth_empty twice limit (source_faults names r.source) (target_faults names r.target) e);
       }
 
-  all_resolved : AreResolved (tables t)
+  all_resolved : AreTyped (tables t)
   all_resolved =
       let names = names_of t in
       record {
         head = head_below t empty;
-        structures = mapped_is (typed_structure names) (IsResolvedStructure (tables t)) t.structures (λ i s at. resolved_structure t empty i s (each_is (structure_faults names) 0 t.structures empty.structures i i s (omega arith) at));
-        pools = All-map (IsResolvedPool (tables t)) (typed_pool names) t.pools (each_has (pool_faults names) (λ p. IsResolvedPool (tables t) (typed_pool names p)) (resolved_pool t empty) 0 t.pools empty.pools);
-        sets = All-map (IsResolvedSet (tables t)) (typed_set names) t.sets (each_has (set_faults names) (λ s. IsResolvedSet (tables t) (typed_set names s)) resolved_set 0 t.sets empty.sets);
-        rels = All-map (IsResolvedRel (tables t)) (typed_relation names) t.relations (each_has (relation_faults names) (λ r. IsResolvedRel (tables t) (typed_relation names r)) resolved_relation 0 t.relations empty.relations);
+        structures = mapped_is (typed_structure names) (IsTypedStructure (tables t)) t.structures (λ i s at. resolved_structure t empty i s (each_is (structure_faults names) 0 t.structures empty.structures i i s (omega arith) at));
+        pools = All-map (IsTypedPool (tables t)) (typed_pool names) t.pools (each_has (pool_faults names) (λ p. IsTypedPool (tables t) (typed_pool names p)) (resolved_pool t empty) 0 t.pools empty.pools);
+        sets = All-map (IsTypedSet (tables t)) (typed_set names) t.sets (each_has (set_faults names) (λ s. IsTypedSet (tables t) (typed_set names s)) resolved_set 0 t.sets empty.sets);
+        rels = All-map (IsTypedRel (tables t)) (typed_relation names) t.relations (each_has (relation_faults names) (λ r. IsTypedRel (tables t) (typed_relation names r)) resolved_relation 0 t.relations empty.relations);
       }
 
 -- the tables of a tree without faults
-pub resolved_tables : (t : TreeShape) → declaration_faults t ≡ [] → AreResolved (tables t)
+pub resolved_tables : (t : TreeShape) → declaration_faults t ≡ [] → AreTyped (tables t)
 resolved_tables t e = all_resolved t (all_empty t e)

@@ -13,7 +13,7 @@ use Rattle.dsr_text.specs.Faults.{when}
 use Rattle.dsr_meaning.specs.Lists.{each_at}
 use Rattle.dsr_text.specs.Names.{Names, names_of}
 use Rattle.dsr_text.specs.Tables.{typed_expr, typed_field, typed_structure, typed_pool, typed_set, typed_relation, tables}
-use Rattle.dsr_meaning.specs.Typed.{HasLegalWidth as IsLegal, begins_byte, plain_extent, AreAligned, IsTypedStructure, AreTyped}
+use Rattle.dsr_meaning.specs.Placeable.{HasLegalWidth as IsLegal, begins_byte, plain_extent, AreAligned, IsPlaceableStructure, ArePlaceable}
 use Rattle.dsr_meaning.proofs.Bits.{bit_behind_append}
 use Rattle.dsr_meaning.proofs.Empty.{both_empty, third_empty, each_has}
 use Rattle.dsr_text.proofs.Absent.{when_absent}
@@ -65,7 +65,7 @@ module _ (names : Names) where
         )
 
   -- a structure without fault is typed
-  is_typed : (i : ℕ) (s : StructureTree) → structure_faults names i s ≡ [] → IsTypedStructure (typed_structure names s)
+  is_typed : (i : ℕ) (s : StructureTree) → structure_faults names i s ≡ [] → IsPlaceableStructure (typed_structure names s)
   is_typed i s e =
       let none = fields_empty names i s e in
       record {
@@ -75,12 +75,12 @@ module _ (names : Names) where
       }
 
 -- the tables of a tree without faults
-pub typed_tables : (t : TreeShape) → declaration_faults t ≡ [] → AreTyped (tables t)
+pub typed_tables : (t : TreeShape) → declaration_faults t ≡ [] → ArePlaceable (tables t)
 typed_tables t e =
     let names = names_of t in
     let empty = all_empty t e in
     record {
-      structures = All-map IsTypedStructure (typed_structure names) t.structures (each_has (structure_faults names) (λ s. IsTypedStructure (typed_structure names s)) (is_typed names) 0 t.structures empty.structures);
+      structures = All-map IsPlaceableStructure (typed_structure names) t.structures (each_has (structure_faults names) (λ s. IsPlaceableStructure (typed_structure names s)) (is_typed names) 0 t.structures empty.structures);
       few_structures = rw (length-map t.structures (typed_structure names)) empty.few_structures;
       few_pools = rw (length-map t.pools (typed_pool names)) empty.few_pools;
       few_symbols = rw (length-map t.sets (typed_set names), length-map t.relations (typed_relation names)) empty.few_symbols;

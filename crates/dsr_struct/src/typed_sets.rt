@@ -1,7 +1,7 @@
 // The tables of sets and relations.
 ghost use Rattle.std.specs.Prelude.{◌≡◌, map, unwrap_or, option_and_then, IfOk};
 ghost use Rattle.dsr_text.specs.Names.{pool_structure};
-ghost use Rattle.dsr_text.specs.Tables.{set_structure, base_of, typed_set, typed_source, typed_target, typed_relation};
+ghost use Rattle.dsr_text.specs.Tables.{set_structure, typed_except, typed_set, typed_source, typed_target, typed_relation};
 ghost use Rattle.dsr_struct.specs.Known.{known_of, AllFit};
 
 use crate::lookups::Names;
@@ -23,9 +23,9 @@ impl Names<'_> {
     }
 
     // The set of which a set is the complement.
-    fn base_of(&self, view: &Option<View>) -> Option<u32>
+    fn typed_except(&self, view: &Option<View>) -> Option<u32>
         requires fit { AllFit (known_of self.now) }
-        ensures { result ≡ base_of (known_of self.now) view.now }
+        ensures { result ≡ typed_except (known_of self.now) view.now }
     {
         match view {
             Some(View::Except { set, .. }) => Some(number_in(&self.tables.sets, set)),
@@ -41,7 +41,7 @@ impl Names<'_> {
             name: set.name.name.clone(alloc)?,
             pool: self.pool_in(&set.pool),
             structure: self.set_structure(set),
-            except: self.base_of(&set.view),
+            except: self.typed_except(&set.view),
         })
     }
 

@@ -113,12 +113,12 @@ set_structure names s (Some (views.As place q)) = number_in (used_structure name
 set_structure names s _ = unwrap_or (option_and_then (pool_structure names) (names.pool s.pool.name)) 0
 
 -- the set of which a set is the complement
-abbrev pub base_of : Names → Option View → Option ℕ
-base_of names (Some (views.Except place q)) = Some (number_in names.set q)
-base_of names _ = None
+abbrev pub typed_except : Names → Option View → Option ℕ
+typed_except names (Some (views.Except place q)) = Some (number_in names.set q)
+typed_except names _ = None
 
 abbrev pub typed_set : Names → Set → SetDecl
-typed_set names s = record { name = s.name.name; pool = pool_in names s.pool; structure = set_structure names s s.view; except = base_of names s.view }
+typed_set names s = record { name = s.name.name; pool = pool_in names s.pool; structure = set_structure names s s.view; except = typed_except names s.view }
 
 abbrev pub typed_source : Names → Var → ℕ
 typed_source names (vars.Head place) = 0

@@ -1,5 +1,5 @@
 use Rattle.std.proofs.Common.{map, refl, ap, ◌∙◌}
-use Rattle.dsr_ir.specs.Shapes.{field_shape, structure_shape}
+
 use Rattle.dsr_meaning.specs.Lists.{each_at}
 use Rattle.dsr_meaning.specs.Refusals.{reference_refusals}
 use Rattle.dsr_layout.specs.Telling.{told_of}
@@ -7,12 +7,12 @@ use Rattle.dsr_layout.proofs.Looking.{each_at_map, goes_on, is_none}
 use Rattle.dsr_layout.proofs.code_checks.code_too_wide.Goals as goal
 
 pub loop-i-init : goal.loop-i-init
-loop-i-init c = ap told_of (each_at_map _ structure_shape 0 c.args.structures.now)
+loop-i-init c = ap told_of (each_at_map _ 0 c.args.structures.now)
 
 pub loop-i-preserved : goal.loop-i-preserved
 loop-i-preserved c =
     goes_on _ c.args.structures.now c.loop-i.i c.index-structures-i.result c.loop-i.i _ c.loop-i-test.true c.index-structures-i.is refl (
     is_none c.if-is_some.ensures
     ∙ c.own_reference-fault.ensures
-    ∙ ap (λ fs. told_of (each_at (reference_refusals c.args.layout.now c.loop-i.i) 0 (map field_shape fs))) c.items.ensures)
+    ∙ ap (λ fs. told_of (each_at (reference_refusals c.args.layout.now c.loop-i.i) 0 fs)) c.items.ensures)
     ∙ c.loop-i.invariant

@@ -1,9 +1,9 @@
 use Rattle.std.proofs.Common.{◌≡◌, drop, map}
-use Rattle.dsr_ir.specs.Shapes.{field_shape}
+
 use Rattle.dsr_meaning.specs.Lists.{each_at}
 use Rattle.dsr_layout.specs.Telling.{told_of}
 use Rattle.dsr_meaning.specs.Refusals.{reference_refusals}
 use Rattle.dsr_layout.proofs.code_checks.own_reference.Given as goal
 
 abbrev pub invariant-loop-i : goal.invariant-loop-i
-invariant-loop-i l = told_of (each_at (λ k f. reference_refusals l.layout l.structure k (field_shape f)) l.i (drop l.i l.fields)) ≡ told_of (each_at (reference_refusals l.layout l.structure) 0 (map field_shape l.fields))
+invariant-loop-i l = told_of (each_at (λ k f. reference_refusals l.layout l.structure k f) l.i (drop l.i l.fields)) ≡ told_of (each_at (reference_refusals l.layout l.structure) 0 l.fields)

@@ -1,7 +1,7 @@
 use Rattle.std.proofs.Common.{map}
-use Rattle.dsr_ir.specs.Shapes.{field_shape}
+
 use Rattle.dsr_layout.proofs.FixedTables.{HoldsCells}
 use Rattle.dsr_layout.proofs.fixed_fields.cells_from.Given as goal
 
 abbrev pub invariant-loop-field : goal.invariant-loop-field
-invariant-loop-field l = HoldsCells l.order l.fn.start (map field_shape l.fields) l.field-index l.bit l.cells.items
+invariant-loop-field l = HoldsCells l.order l.fn.start l.fields l.field-index l.bit l.cells.items

@@ -1,5 +1,5 @@
 use Rattle.std.proofs.Common.{refl, sym, ap, ◌∙◌}
-use Rattle.dsr_ir.specs.Shapes.{field_shape}
+
 use Rattle.dsr_layout.specs.Tables.{known}
 use Rattle.dsr_layout.specs.Telling.{told_of}
 use Rattle.dsr_layout.proofs.Cutting.{cut_next, cut_here, cut_all}

@@ -1,5 +1,5 @@
 use Rattle.std.proofs.Common.{◌≡◌, map, drop}
-use Rattle.dsr_ir.specs.Shapes.{field_shape}
+
 use Rattle.dsr_meaning.specs.Refusals.{cut_refusals}
 use Rattle.dsr_layout.specs.Tables.{known}
 use Rattle.dsr_layout.specs.Telling.{told_of}
@@ -7,4 +7,4 @@ use Rattle.dsr_layout.proofs.Cutting.{cut_from}
 use Rattle.dsr_layout.proofs.fixed_fields.cut.Given as goal
 
 abbrev pub invariant-loop-number : goal.invariant-loop-number
-invariant-loop-number l = told_of (cut_from (known l.cells) l.length l.number (map field_shape (drop l.number l.fields))) ≡ told_of (cut_refusals (known l.cells) (map field_shape l.fields) l.length)
+invariant-loop-number l = told_of (cut_from (known l.cells) l.length l.number (drop l.number l.fields)) ≡ told_of (cut_refusals (known l.cells) l.fields l.length)

@@ -2,7 +2,7 @@ use Rattle.std.proofs.Common.{◌≡◌, ℕ, [], ap, sym, ◌∙◌, subst, map
 use Rattle.std.specs.Prelude.{slice_get, option_map}
 use Rattle.std.proofs.lemmas.Option.{slice_get_past}
 use Rattle.std.proofs.lemmas.Result.{IfOk-weaker}
-use Rattle.dsr_ir.specs.Shapes.{field_shape, structure_shape, structures_shape}
+
 use Rattle.dsr_meaning.specs.FixedFields.{fixed_cell}
 use Rattle.dsr_layout.specs.FixedCells.{clipped_cell}
 use Rattle.dsr_layout.specs.Tables.{known, clip_cell, HoldsEnds}
@@ -12,21 +12,21 @@ use Rattle.dsr_layout.proofs.fixed_fields.fixed_cells.Goals as goal
 
 pub returns-in-Some : goal.returns-in-Some
 returns-in-Some c =
-    let base = structures_shape c.args.base.now in
+    let base = c.args.base.now in
     let found = c.in-Some.ensures.lookup in
     let declared = c.items-structures.ensures in
-    let at = ap (λ ss. slice_get (map structure_shape ss) base.head) (sym declared) ∙ shape_at structure_shape c.items-structures.result.now base.head c.in-Some.head.now found.3.0 found.1 in
-    let holds = subst (λ ss. HoldsEnds (known []) (map structure_shape ss) c.in_ok-ends.ends.items) declared c.in_ok-ends.ensures in
+    let at = ap (λ ss. slice_get ss base.head) (sym declared) ∙ shape_at c.items-structures.result.now base.head c.in-Some.head.now found.3.0 found.1 in
+    let holds = subst (λ ss. HoldsEnds (known []) ss c.in_ok-ends.ends.items) declared c.in_ok-ends.ensures in
     let own = ap (map field_shape) c.items.ensures in
     IfOk-weaker c.cells_from.result
-    (λ cells. (k : ℕ) → known cells.items k ≡ clipped_cell base.order c.start_in-start.result (map field_shape c.items.result.now) k)
+    (λ cells. (k : ℕ) → known cells.items k ≡ clipped_cell base.order c.start_in-start.result c.items.result.now k)
     (λ cells. (k : ℕ) → known cells.items k ≡ option_map clip_cell (fixed_cell base k))
-    (λ cells held. head_table base c.in_ok-ends.ends.items c.deref.result.now (structure_shape c.in-Some.head.now) c.start_in-start.result (map field_shape c.items.result.now) holds at c.deref.ensures.value c.start_in-start.ensures own cells.items held)
+    (λ cells held. head_table base c.in_ok-ends.ends.items c.deref.result.now c.in-Some.head.now c.start_in-start.result c.items.result.now holds at c.deref.ensures.value c.start_in-start.ensures own cells.items held)
     c.cells_from.ensures
 
 pub returns : goal.returns
 returns c = λ k.
-    let base = structures_shape c.args.base.now in
+    let base = c.args.base.now in
     let missed = c.in-None.ensures.lookup in
-    let nothing = ap (λ ss. slice_get (map structure_shape ss) base.head) (sym c.items-structures.ensures) ∙ slice_get_past (map structure_shape c.items-structures.result.now) base.head (all_shapes structure_shape c.items-structures.result.now missed.3) in
+    let nothing = ap (λ ss. slice_get ss base.head) (sym c.items-structures.ensures) ∙ slice_get_past c.items-structures.result.now base.head (all_shapes c.items-structures.result.now missed.3) in
     ap (λ cells. known cells k) c.new.ensures.items ∙ no_cells base nothing k

@@ -1,6 +1,6 @@
 use Rattle.std.proofs.Common.{◌≤◌, sym, ap, subst, ◌++◌, ◌∙◌}
 use Rattle.std.proofs.lemmas.Result.{err_from_is_err_and}
-use Rattle.dsr_ir.specs.Shapes.{structures_shape}
+
 use Rattle.dsr_meaning.specs.Refusals.{refusals, size_refusals, value_refusals, layout_refusals}
 use Rattle.dsr_layout.specs.Tables.{known, size_in}
 use Rattle.dsr_layout.specs.Telling.{told_of, Tells}
@@ -12,7 +12,7 @@ use Rattle.dsr_layout.proofs.layouts.layout.Goals as goal
 pub returns-in_err-layout-clause-refused : goal.returns-in_err-layout-clause-refused
 returns-in_err-layout-clause-refused c =
     let spec = c.args.spec.now in
-    let base = structures_shape spec.base in
+    let base = spec.base in
     let p = err_from_is_err_and c.from_residual-in_err-layout.result c.from_residual-in_err-layout.ensures.1 in
     let fault = c.in_err-layout.field-0.0 in
     let by_fixed = subst (λ t. Tells (size_refusals (size_in c.deref-2.result.now) base.structures ++ value_refusals (known t) (size_in c.deref-2.result.now) base.pools) fault) c.deref.ensures.value c.in_err-layout.ensures.refused in
@@ -22,7 +22,7 @@ returns-in_err-layout-clause-refused c =
 pub returns-in-Some-clause-refused : goal.returns-in-Some-clause-refused
 returns-in-Some-clause-refused c =
     let spec = c.args.spec.now in
-    let base = structures_shape spec.base in
+    let base = spec.base in
     let read = read_as c.deref.ensures.value c.deref-2.ensures.value c.in_ok-readings.ensures.read in
     let layout = c.in_ok-layout.layout in
     let told = ap (λ t. told_of (layout_refusals (size_in t) spec base layout)) (c.deref-3.ensures.value ∙ sym c.deref-2.ensures.value) in
@@ -36,7 +36,7 @@ returns-clause-numbers c =
 pub returns-clause-accepted : goal.returns-clause-accepted
 returns-clause-accepted c =
     let spec = c.args.spec.now in
-    let base = structures_shape spec.base in
+    let base = spec.base in
     let read = read_as c.deref.ensures.value c.deref-2.ensures.value c.in_ok-readings.ensures.read in
     let layout = c.in_ok-layout.layout in
     let told = ap (λ t. told_of (layout_refusals (size_in t) spec base layout)) (c.deref-3.ensures.value ∙ sym c.deref-2.ensures.value) in
@@ -45,7 +45,7 @@ returns-clause-accepted c =
 pub returns-clause-legal : goal.returns-clause-legal
 returns-clause-legal c =
     let spec = c.args.spec.now in
-    let base = structures_shape spec.base in
+    let base = spec.base in
     let ends = c.deref-2.result.now in
     let made = c.in_ok-layout.ensures.made in
     let layout = c.in_ok-layout.layout in

@@ -1,6 +1,6 @@
 use Rattle.std.proofs.Common.{inr, sym, ap, map, ◌++◌, option_map, ◌∙◌}
 use Rattle.std.proofs.lemmas.Result.{err_from_is_err_and}
-use Rattle.dsr_ir.specs.Shapes.{field_shape}
+
 use Rattle.dsr_meaning.specs.Places.{placed}
 use Rattle.dsr_layout.specs.Tables.{known, clip_place}
 use Rattle.dsr_layout.proofs.Clipping.{fault_of, nothing_before, placed_next, placed_missing, placed_last}
@@ -8,7 +8,7 @@ use Rattle.dsr_layout.proofs.places.placed.Goals as goal
 
 pub loop-field-init : goal.loop-field-init
 loop-field-init c =
-    let all = option_map (map clip_place) (placed (known c.args.fixed.now) c.args.start (map field_shape c.args.fields.now)) in
+    let all = option_map (map clip_place) (placed (known c.args.fixed.now) c.args.start c.args.fields.now) in
     (c.ranges.start.fits, ap (λ qs. option_map (λ ps. qs ++ ps) all) c.new-places.ensures.items ∙ nothing_before all)
 
 pub loop-field-preserved : goal.loop-field-preserved

@@ -1,7 +1,7 @@
 use Rattle.std.proofs.Common.{rules, ◌≡◌, ◌+◌, ◌∷◌, ◌++◌, [], All, true, false, not, IsTrue, Option, Some, None, if◌then◌else◌, refl, sym, ap, subst, ◌∙◌}
 use Rattle.std.proofs.lemmas.List.Elements.{All-append}
 use Rattle.std.specs.Option.{option_map_or}
-use Rattle.dsr_ir.specs.Shapes.{pool_shape}
+
 use Rattle.dsr_ir.specs.declared.layouts.PoolNumbers.{PoolNumbers}
 use Rattle.dsr_meaning.specs.Layouts.{pool_of}
 use Rattle.dsr_meaning.specs.Refusals.{is_computable}
@@ -31,14 +31,14 @@ are_computable : (n : PoolNumbers) → IsComputable n → All IsComputable (n �
 are_computable n holds = search (rules, holds)
 
 pub loop-pool-init : goal.loop-pool-init
-loop-pool-init c = (ap Some (sym c.new-numbers.ensures.items), search rules, ap told_of (each_at_map _ pool_shape 1 c.args.pools.now))
+loop-pool-init c = (ap Some (sym c.new-numbers.ensures.items), search rules, ap told_of (each_at_map _ 1 c.args.pools.now))
 
 pub loop-pool-preserved : goal.loop-pool-preserved
 loop-pool-preserved c =
-    let are = are_numbers (pool_of (known c.args.fixed.now) (size_in c.args.ends.now) (pool_shape c.pool-item.result)) c.in-Some.computed (sym c.computed.ensures ∙ c.in-Some.is) in
+    let are = are_numbers (pool_of (known c.args.fixed.now) (size_in c.args.ends.now) c.pool-item.result) c.in-Some.computed (sym c.computed.ensures ∙ c.in-Some.is) in
     let now : c.push.new.self.items ≡ c.loop-pool.numbers.items ++ c.in-Some.computed ∷ [] = c.in_ok-push-in-Some.ensures.items in
     let all = All-append IsComputable _ _ c.loop-pool.invariant.1 (are_computable c.in-Some.computed are.1) in (
-      collected_next (pool_of (known c.args.fixed.now) (size_in c.args.ends.now)) pool_shape 1 c.args.pools.now c.loop-pool.pool-index c.pool-item.result c.loop-pool-test.true c.pool-item.is c.loop-pool.invariant.0 are.0 ∙ ap Some (sym now),
+      collected_next (pool_of (known c.args.fixed.now) (size_in c.args.ends.now)) 1 c.args.pools.now c.loop-pool.pool-index c.pool-item.result c.loop-pool-test.true c.pool-item.is c.loop-pool.invariant.0 are.0 ∙ ap Some (sym now),
       subst (λ ns. All IsComputable ns) (sym now) all,
       goes_on _ c.args.pools.now c.loop-pool.pool-index c.pool-item.result (c.loop-pool.pool-index + 1) _ c.loop-pool-test.true c.pool-item.is refl (none_where _ (not_refused _ _ are.0 are.1)) ∙ c.loop-pool.invariant.2,
     )

@@ -89,7 +89,7 @@ module _ (number : List ℕ → Option ℕ) where
       ∙ (λ j. earlier j ++ last j ∷ [])
 
   -- the ancestors of the structures up to one, and then of that one too
-  pub ancestors_next : (old : List (List ℕ)) {new : List (List ℕ)} {line : List ℕ} (xs : List Structure) (i : ℕ) (x : Structure) → i < length xs → x ≡ get_or xs i x → old ≡ all_ancestors number (take i xs) → new ≡ old ++ line ∷ [] → line ≡ with_ancestors (λ p. get_or old p []) (parent_number number (length old) x.parent) → new ≡ all_ancestors number (map structure_shape (take (i + 1) xs))
+  pub ancestors_next : (old : List (List ℕ)) {new : List (List ℕ)} {line : List ℕ} (xs : List Structure) (i : ℕ) (x : Structure) → i < length xs → x ≡ get_or xs i x → old ≡ all_ancestors number (map structure_shape (take i xs)) → new ≡ old ++ line ∷ [] → line ≡ with_ancestors (λ p. get_or old p []) (parent_number number (length old) x.parent) → new ≡ all_ancestors number (map structure_shape (take (i + 1) xs))
   ancestors_next old xs i x lt is known pushed told =
       let ss = map structure_shape (take i xs) in
       let more : take (i + 1) xs ≡ take i xs ++ x ∷ [] = rw add-one (take-suc xs i x lt ∙ ap (λ y. take i xs ++ y ∷ []) (sym is)) in
@@ -98,5 +98,5 @@ module _ (number : List ℕ → Option ℕ) where
       ∙ ap (λ l. old ++ l ∷ []) told
       ∙ ap (λ ls. ls ++ with_ancestors (λ p. get_or ls p []) (parent_number number (length ls) x.parent) ∷ []) known
       ∙ ap (λ n. all_ancestors number ss ++ with_ancestors (λ p. get_or (all_ancestors number ss) p []) (parent_number number n x.parent) ∷ []) many
-      ∙ sym (ancestors_push ss x)
-      ∙ sym (ap (λ ys. all_ancestors number ys) more ∙ ap (all_ancestors number) (map-append structure_shape (take i xs) (x ∷ [])))
+      ∙ sym (ancestors_push ss (structure_shape x))
+      ∙ sym (ap (λ ys. all_ancestors number (map structure_shape ys)) more ∙ ap (all_ancestors number) (map-append structure_shape (take i xs) (x ∷ [])))

@@ -46,11 +46,11 @@ module _ {X : Type 0} (t : X → Bool) where
   position_stays xs i x lt is {known} k p = elim known as (λ o. o ≡ known_or o i false) [ None ↦ refl | Some n ↦ refl ] ∙ position_next xs i x lt is k p
 
 -- the number of a field by its name, as tables of any items have it
-pub field_numbers : (q : List ℕ) (fs : List Field) → position_from (λ f. is_named (field_name f) q) 0 fs ≡ position_from (has_name q) 0 fs
+pub field_numbers : (q : List ℕ) (fs : List Field) → position_from (λ f. is_named (field_name f) q) 0 fs ≡ position_from (has_name q) 0 (map field_shape fs)
 field_numbers q fs =
     ap (λ test. position_from test 0 fs) (λ i f. same f i)
-    ∙ sym (position_map (has_name q) 0 fs)
+    ∙ sym (position_map (has_name q) field_shape 0 fs)
   where
-    same : (f : Field) → is_named (field_name f) q ≡ has_name q f
+    same : (f : Field) → is_named (field_name f) q ≡ has_name q (field_shape f)
     same (fields.Named f) = refl
     same (fields.Skip place length) = refl

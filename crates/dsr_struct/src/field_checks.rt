@@ -72,7 +72,7 @@ fn is_too_wide(number: u64, bits: u64) -> bool
 // The bit inside a byte at which the next field begins, behind one that begins at such a bit.
 fn bit_behind(bit: u64, field: &Field) -> u64
     requires { bit < 8 }
-    ensures { result ≡ bit_behind bit (extent_of field.now) % 8 }
+    ensures { result ≡ bit_behind bit (extent_of (field_shape field.now)) % 8 }
 {
     match field {
         Field::Named(field) if field.length.is_none() => (bit + entry_bits(field.width) % 8) % 8,
@@ -82,7 +82,7 @@ fn bit_behind(bit: u64, field: &Field) -> u64
 
 // Whether a field is an array or a gap whose length isn't a number.
 fn is_open(field: &Field) -> bool
-    ensures { result ≡ is_open field.now }
+    ensures { result ≡ is_open (field_shape field.now) }
 {
     match field {
         Field::Named(field) => has_open_length(&field.length),
@@ -91,7 +91,7 @@ fn is_open(field: &Field) -> bool
 }
 
 fn has_open(fields: &[Field]) -> bool
-    ensures { result ≡ has_open fields.now }
+    ensures { result ≡ has_open (map field_shape fields.now) }
 {
     for field in fields {
         if is_open(field) {
@@ -173,7 +173,7 @@ impl Names<'_> {
     }
 
     fn check_field(&self, told: &mut Told, at: Position, field: &Field)
-        ensures { Finds (field_faults (known_of self.now) (place_of at) field.now) told.old.fault told.new.fault }
+        ensures { Finds (field_faults (known_of self.now) (place_of at) (field_shape field.now)) told.old.fault told.new.fault }
     {
         match field {
             Field::Named(field) => self.check_named_field(told, at, field),
@@ -187,7 +187,7 @@ impl Names<'_> {
 
     /// The faults of the fields that a structure declares itself.
     pub fn check_fields(&self, told: &mut Told, number: usize, structure: &Structure)
-        ensures { let s = structure.now in
+        ensures { let s = structure_shape structure.now in
             Finds (each_at (λ j f. field_faults (known_of self.now) (position_of (known_of self.now) number s j) f) 0 s.fields) told.old.fault told.new.fault }
     {
         let in_head = is_head(&structure.name.name);

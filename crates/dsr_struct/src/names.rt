@@ -148,7 +148,7 @@ fn numbers_of<T: Named>(alloc: Global, items: &[T]) -> Result<IndexMap<Name, usi
 
 // For each name the number of the first fixed field that has it.
 fn fixed_fields(alloc: Global, fields: &[Field]) -> Result<IndexMap<Name, usize>, NoMemory>
-    ensures { IfOk result (λ m. (q : List ℕ) → get bytes_eq m q ≡ position_from (has_fixed_name q) 0 fields.now) }
+    ensures { IfOk result (λ m. (q : List ℕ) → get bytes_eq m q ≡ position_from (has_fixed_name q) 0 (map field_shape fields.now)) }
 {
     let mut table = IndexMap::new(alloc);
     for (number, field) in fields.iter().enumerate() {
@@ -182,7 +182,7 @@ fn own_fields(
     alloc: Global,
     structures: &[Structure],
 ) -> Result<Vec<IndexMap<Name, usize>>, NoMemory>
-    ensures { IfOk result (λ tables. map (get bytes_eq) tables.items ≡ map (λ s. field_number s) structures.now) }
+    ensures { IfOk result (λ tables. map (get bytes_eq) tables.items ≡ map (λ s. field_number (structure_shape s)) structures.now) }
 {
     let mut tables = Vec::new(alloc);
     for structure in structures {
@@ -242,7 +242,7 @@ fn ancestors_of(
     numbers: &IndexMap<Name, usize>,
     structures: &[Structure],
 ) -> Result<Vec<Vec<usize>>, NoMemory>
-    ensures { IfOk result (λ lines. map (λ v. v.items) lines.items ≡ all_ancestors (get bytes_eq numbers.now) structures.now) }
+    ensures { IfOk result (λ lines. map (λ v. v.items) lines.items ≡ all_ancestors (get bytes_eq numbers.now) (map structure_shape structures.now)) }
 {
     let mut lines = Vec::new(alloc);
     for structure in structures {

@@ -1,6 +1,6 @@
 // The typed tables of a tree, or its first fault.
 ghost use Rattle.std.specs.Prelude.{◌≡◌, [], All, codes, unwrap_or, IfOk, IfErr};
-
+ghost use Rattle.dsr_ir.specs.Shapes.{structures_shape};
 ghost use Rattle.dsr_tree.specs.Trees.{tree_shape};
 ghost use Rattle.dsr_text.specs.Declarations.{declaration_faults};
 ghost use Rattle.dsr_meaning.specs.Typed.{AreTyped};
@@ -37,7 +37,7 @@ impl Names<'_> {
         requires head { head.now ≡ codes "Head" }
         requires fit { AllFit (known_of self.now) }
         requires legal { All HasLegalWidths (known_of self.now).tree.structures }
-        ensures { IfOk result (λ s. s ≡ tables_with (known_of self.now)) }
+        ensures { IfOk result (λ s. structures_shape s ≡ tables_with (known_of self.now)) }
     {
         Ok(Structures {
             version: version_of(self.tree.version.number),
@@ -56,9 +56,9 @@ impl Names<'_> {
 /// the one of the least condition.
 pub fn structures(alloc: Global, tree: &Tree) -> Result<Structures, SpecFault>
     ensures no_fault { IfOk result (λ _. declaration_faults (tree_shape tree.now) ≡ []) }
-    ensures tables { IfOk result (λ s. s ≡ tables (tree_shape tree.now)) }
-    ensures typed { IfOk result (λ s. ArePlaceable s) }
-    ensures resolved { IfOk result (λ s. AreTyped s) }
+    ensures tables { IfOk result (λ s. structures_shape s ≡ tables (tree_shape tree.now)) }
+    ensures typed { IfOk result (λ s. ArePlaceable (structures_shape s)) }
+    ensures resolved { IfOk result (λ s. AreTyped (structures_shape s)) }
     ensures fault { IfErr result (Tells (declaration_faults (tree_shape tree.now))) }
 {
     let tables = name_tables(alloc, tree)?;

@@ -1,6 +1,6 @@
 // The tables of structures and pools.
 ghost use Rattle.std.specs.Prelude.{◌≡◌, ◌∷◌, [], All, map, option_map, option_and_then, IfOk};
-
+ghost use Rattle.dsr_ir.specs.Shapes.{field_shape as shape_of_field, structure_shape as shape_of_structure, pool_shape as shape_of_pool};
 ghost use Rattle.dsr_tree.specs.Trees.{named, named_shape, field_shape, structure_shape, pool_shape};
 ghost use Rattle.dsr_text.specs.Declarations.{width_faults};
 ghost use Rattle.dsr_text.specs.Names.{used_structure};
@@ -75,8 +75,8 @@ impl Names<'_> {
     // A gap of n bytes is an array of n bytes without a name.
     fn typed_field(&self, alloc: Global, field: &tree::Field) -> Result<Field, NoMemory>
         requires fit { AllFit (known_of self.now) }
-        requires legal { HasLegalWidth field.now }
-        ensures { IfOk result (λ f. shape_of_field f ≡ typed_field (known_of self.now) field.now) }
+        requires legal { HasLegalWidth (field_shape field.now) }
+        ensures { IfOk result (λ f. shape_of_field f ≡ typed_field (known_of self.now) (field_shape field.now)) }
     {
         match field {
             tree::Field::Named(field) => self.typed_named_field(alloc, field),
@@ -92,8 +92,8 @@ impl Names<'_> {
 
     fn typed_fields(&self, alloc: Global, fields: &[tree::Field]) -> Result<Seq<Field>, NoMemory>
         requires fit { AllFit (known_of self.now) }
-        requires legal { All HasLegalWidth fields.now }
-        ensures { IfOk result (λ fs. map shape_of_field fs ≡ map (typed_field (known_of self.now)) fields.now) }
+        requires legal { All HasLegalWidth (map field_shape fields.now) }
+        ensures { IfOk result (λ fs. map shape_of_field fs ≡ map (typed_field (known_of self.now)) (map field_shape fields.now)) }
     {
         let mut typed = Vec::new(alloc);
         for field in fields {
@@ -118,8 +118,8 @@ impl Names<'_> {
         structure: &tree::Structure,
     ) -> Result<Structure, NoMemory>
         requires fit { AllFit (known_of self.now) }
-        requires legal { HasLegalWidths structure.now }
-        ensures { IfOk result (λ s. shape_of_structure s ≡ typed_structure (known_of self.now) structure.now) }
+        requires legal { HasLegalWidths (structure_shape structure.now) }
+        ensures { IfOk result (λ s. shape_of_structure s ≡ typed_structure (known_of self.now) (structure_shape structure.now)) }
     {
         Ok(Structure {
             name: structure.name.name.clone(alloc)?,
@@ -170,7 +170,7 @@ impl Names<'_> {
 
     fn typed_pool(&self, alloc: Global, pool: &tree::Pool) -> Result<Pool, NoMemory>
         requires fit { AllFit (known_of self.now) }
-        ensures { IfOk result (λ p. shape_of_pool p ≡ typed_pool (known_of self.now) pool.now) }
+        ensures { IfOk result (λ p. shape_of_pool p ≡ typed_pool (known_of self.now) (pool_shape pool.now)) }
     {
         let fixed = &self.tables.fixed;
         Ok(Pool {

@@ -4,4 +4,4 @@ use Rattle.dsr_text.specs.Declarations.{has_open}
 use Rattle.dsr_struct.proofs.field_checks.has_open.Given as goal
 
 abbrev pub invariant-loop-field : goal.invariant-loop-field
-invariant-loop-field l = has_open (drop l.field-index l.fields) ≡ has_open l.fields
+invariant-loop-field l = has_open (map field_shape (drop l.field-index l.fields)) ≡ has_open (map field_shape l.fields)

@@ -6,4 +6,4 @@ use Rattle.dsr_text.specs.Names.{all_ancestors}
 use Rattle.dsr_struct.proofs.names.ancestors_of.Given as goal
 
 abbrev pub invariant-loop-structure : goal.invariant-loop-structure
-invariant-loop-structure l = map (λ v. v.items) l.lines.items ≡ all_ancestors (get bytes_eq l.numbers) (take l.structure-index l.structures)
+invariant-loop-structure l = map (λ v. v.items) l.lines.items ≡ all_ancestors (get bytes_eq l.numbers) (map structure_shape (take l.structure-index l.structures))

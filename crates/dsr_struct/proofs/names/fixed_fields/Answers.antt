@@ -12,7 +12,7 @@ use Rattle.dsr_struct.proofs.names.fixed_fields.Goals.{in-Named+then-is_some+in_
 
 pub loop-number-preserved : goal.loop-number-preserved
 loop-number-preserved c = λ q.
-    let test : Field → Bool = λ f. has_fixed_name q f in
+    let test : Field → Bool = λ f. has_fixed_name q (field_shape f) in
     let fields = c.args.fields.now in
     let i = c.loop-number.number in
     let x = c.index-fields-number.result in
@@ -25,5 +25,5 @@ loop-number-preserved c = λ q.
 pub returns : goal.returns
 returns c = λ q.
     c.loop-number.invariant q
-    ∙ ap (position_from (λ f. has_fixed_name q f) 0) (take_all c.loop-number.number c.args.fields.now c.loop-number-test.false)
-    ∙ sym (position_map (has_fixed_name q) 0 c.args.fields.now)
+    ∙ ap (position_from (λ f. has_fixed_name q (field_shape f)) 0) (take_all c.loop-number.number c.args.fields.now c.loop-number-test.false)
+    ∙ sym (position_map (has_fixed_name q) field_shape 0 c.args.fields.now)

@@ -6,4 +6,4 @@ use Rattle.dsr_text.specs.Names.{field_number}
 use Rattle.dsr_struct.proofs.names.own_fields.Given as goal
 
 abbrev pub invariant-loop-structure : goal.invariant-loop-structure
-invariant-loop-structure l = map (get bytes_eq) l.tables.items ≡ map (λ s. field_number s) (take l.structure-index l.structures)
+invariant-loop-structure l = map (get bytes_eq) l.tables.items ≡ map (λ s. field_number (structure_shape s)) (take l.structure-index l.structures)

@@ -2,7 +2,7 @@ use Rattle.std.proofs.Common.{◌∙◌}
 use Rattle.std.proofs.lemmas.Result.{IfOk-weaker}
 use Rattle.std.specs.Str.{bytes_eq}
 use Rattle.indexmap.specs.IndexMap.{get}
-use Rattle.dsr_ir.specs.Exprs.{expr_shape}
+use Rattle.dsr_ir.specs.Shapes.{expr_shape}
 use Rattle.dsr_struct.proofs.ExprSteps.{expr_typed, term_typed, sum_next, product_next}
 use Rattle.dsr_struct.proofs.typed_exprs.+expression.Goals as goal
 

@@ -5,4 +5,4 @@ use Rattle.dsr_struct.proofs.Finding.{finds_next}
 use Rattle.dsr_struct.proofs.lookups.Names.check_pools.Goals as goal
 
 pub loop-number-preserved : goal.loop-number-preserved
-loop-number-preserved c = finds_next (pool_faults (known_of c.args.self.now)) c.args.pools.now c.loop-number.number c.index-pools-number.result c.loop-number-test.true c.index-pools-number.is c.loop-number.invariant c.check_pool.ensures
+loop-number-preserved c = finds_next (pool_faults (known_of c.args.self.now)) pool_shape c.args.pools.now c.loop-number.number c.index-pools-number.result c.loop-number-test.true c.index-pools-number.is c.loop-number.invariant c.check_pool.ensures

@@ -7,4 +7,4 @@ use Rattle.dsr_struct.specs.Telling.{Finds}
 use Rattle.dsr_struct.proofs.lookups.Names.check_pools.Given as goal
 
 abbrev pub invariant-loop-number : goal.invariant-loop-number
-invariant-loop-number l = Finds (each_at (pool_faults (known_of l.fn.self)) 0 (take l.number l.pools)) l.fn.told.fault l.told.fault
+invariant-loop-number l = Finds (each_at (pool_faults (known_of l.fn.self)) 0 (map pool_shape (take l.number l.pools))) l.fn.told.fault l.told.fault

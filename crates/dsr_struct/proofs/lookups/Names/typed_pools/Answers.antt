@@ -1,4 +1,4 @@
-
+use Rattle.dsr_ir.specs.Shapes.{pool_shape as shape_of_pool}
 use Rattle.dsr_tree.specs.Trees.{pool_shape}
 use Rattle.dsr_text.specs.Tables.{typed_pool}
 use Rattle.dsr_struct.specs.Known.{known_of}

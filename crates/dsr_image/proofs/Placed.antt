@@ -7,7 +7,7 @@ use Rattle.byteorder.specs.Endian.{big_from, little_from}
 use Rattle.byteorder.specs.Numbers.{big_number-reads_back, little_number-reads_back}
 use Rattle.dsr_ir.specs.declared.declarations.Order.TheVariants.{Big, Little}
 use Rattle.dsr_meaning.specs.Cells.{bytes_value}
-use Rattle.dsr_image.specs.Images.{OthersStay}
+use Rattle.dsr_meaning.specs.Writes.{OthersStay}
 
 -- the number in the bytes from a place on is the number in what stands from there on, the lowest first
 little_on : (n at i : ℕ) (bytes : List ℕ) → bytes_value Little bytes (at + i) n ≡ little_from i n (drop at bytes)
@@ -24,9 +24,9 @@ big_on (suc n) at i bytes =
     rw (get_or-drop at bytes i 0, next, big_on n at (suc i) bytes) refl
 
 module _ (at k : ℕ) (old part : List ℕ) (within : at ≤ length old) where
-  -- what stands from the place on begins with the part
-  begins : (bytes rest : List ℕ) → part ≡ bytes ++ rest → drop at (put_mid at k old part) ≡ bytes ++ (rest ++ drop k (drop at old))
-  begins bytes rest e =
+  -- what stands from the place on stands_first with the part
+  stands_first : (bytes rest : List ℕ) → part ≡ bytes ++ rest → drop at (put_mid at k old part) ≡ bytes ++ (rest ++ drop k (drop at old))
+  stands_first bytes rest e =
       drop_at (take at old) (part ++ drop k (drop at old)) at (length-take-le at old within)
       ∙ ap (λ p. p ++ drop k (drop at old)) e ∙ append_assoc bytes rest (drop k (drop at old))
 
@@ -35,14 +35,14 @@ module _ (at k : ℕ) (old part : List ℕ) (within : at ≤ length old) where
   little_read n value rest fits e =
       let here : at + 0 ≡ at = omega arith in
       ap (λ a. bytes_value Little (put_mid at k old part) a n) (sym here) ∙ little_on n at 0 (put_mid at k old part)
-      ∙ ap (little_from 0 n) (begins (bytes_low_first 0 n value) rest e) ∙ little_number-reads_back n value (rest ++ drop k (drop at old)) fits
+      ∙ ap (little_from 0 n) (stands_first (bytes_low_first 0 n value) rest e) ∙ little_number-reads_back n value (rest ++ drop k (drop at old)) fits
 
   -- the same, the highest byte first
   pub big_read : (n value : ℕ) (rest : List ℕ) → value < 256 ^ n → part ≡ bytes_high_first n value ++ rest → bytes_value Big (put_mid at k old part) at n ≡ value
   big_read n value rest fits e =
       let here : at + 0 ≡ at = omega arith in
       ap (λ a. bytes_value Big (put_mid at k old part) a n) (sym here) ∙ big_on n at 0 (put_mid at k old part)
-      ∙ ap (big_from 0 n) (begins (bytes_high_first n value) rest e) ∙ big_number-reads_back n value (rest ++ drop k (drop at old)) fits
+      ∙ ap (big_from 0 n) (stands_first (bytes_high_first n value) rest e) ∙ big_number-reads_back n value (rest ++ drop k (drop at old)) fits
 
   -- a byte before the part stays
   before_stays : (i : ℕ) → i < at → slice_index (put_mid at k old part) i ≡ slice_index old i

@@ -10,7 +10,7 @@ use Rattle.byteorder.proofs.Bytes.{pow256}
 use Rattle.byteorder.specs.Endian.{little_bytes, little_number}
 use Rattle.byteorder.specs.Numbers.{length-bytes_low_first, little_from-lt, little_number-reads_back}
 use Rattle.dsr_meaning.specs.Cells.{bit_of, bits_value}
-use Rattle.dsr_image.specs.Images.{OthersStay}
+use Rattle.dsr_meaning.specs.Writes.{OthersStay}
 use Rattle.dsr_image.proofs.Masks.{bit_inside, bit_outside, no_longer, with_value}
 use Rattle.dsr_image.proofs.Ranges.{bit_by_number, value_by_bits}
 

@@ -2,7 +2,7 @@
 ghost use Rattle.byteorder.specs.Endian.{little_bytes, little_number};
 ghost use Rattle.std.specs.Prelude.{◌≡◌, ◌≤◌, ◌<◌, ◌+◌, ◌*◌, ◌^◌, ◌++◌, drop, length};
 ghost use Rattle.dsr_meaning.specs.Cells.{bits_value};
-ghost use Rattle.dsr_image.specs.Images.{OthersStay};
+ghost use Rattle.dsr_meaning.specs.Writes.{OthersStay};
 
 use byteorder::{ByteOrder, LittleEndian};
 

@@ -6,7 +6,8 @@ use dsr_ir::{Cell, NoMemory};
 pub trait ImageBytes {
     ghost use Rattle.std.specs.Prelude.{◌≡◌, ◌≤◌, ◌<◌, ◌+◌, ◌^◌, ℕ, List, Bool, length, slice_index, OnOk};
     ghost use Rattle.dsr_meaning.specs.Cells.{IsCellOf, cell_value};
-    ghost use Rattle.dsr_image.specs.Images.{Puts, AreClaimed, IsCellClaimed, StayClaimed};
+    ghost use Rattle.dsr_meaning.specs.Writes.{AreBytes, BesideStay, Puts};
+    ghost use Rattle.dsr_image.specs.Images.{AreClaimed, IsCellClaimed, StayClaimed};
 
     ghost bytes: { Self → List ℕ };
 
@@ -14,7 +15,8 @@ pub trait ImageBytes {
 
     /// How many bytes there are.
     fn len(&self) -> u64
-        ensures { result ≡ length (bytes self.now) };
+        ensures count { result ≡ length (bytes self.now) }
+        ensures bytes { AreBytes (bytes self.now) };
 
     /// The byte at a place, counted from 0.
     fn byte(&self, at: u64) -> u8
@@ -40,5 +42,6 @@ pub trait ImageBytes {
         requires claimed { IsCellClaimed (claimed self.old) cell.now }
         requires fits { value < 2 ^ cell.now.width }
         ensures put { Puts cell.now value (bytes self.old) (bytes self.new) }
+        ensures beside { BesideStay cell.now (bytes self.old) (bytes self.new) }
         ensures kept { claimed self.new ≡ claimed self.old };
 }

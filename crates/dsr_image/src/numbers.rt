@@ -2,7 +2,7 @@
 ghost use Rattle.std.specs.Prelude.{◌≡◌, ◌≤◌, ◌<◌, ◌+◌, ◌*◌, ◌/◌, ◌^◌, length};
 ghost use Rattle.dsr_ir.specs.declared.declarations.Order.{Order};
 ghost use Rattle.dsr_meaning.specs.Cells.{IsByteWidth, bytes_value};
-ghost use Rattle.dsr_image.specs.Images.{OthersStay};
+ghost use Rattle.dsr_meaning.specs.Writes.{OthersStay};
 
 use byteorder::{BigEndian, ByteOrder, LittleEndian};
 use dsr_ir::Order;

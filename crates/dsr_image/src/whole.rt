@@ -1,7 +1,7 @@
 // An image that is held whole.
 ghost use Rattle.std.specs.Prelude.{◌≡◌, ◌<◌, ◌^◌, IsOk};
 ghost use Rattle.dsr_meaning.specs.Cells.{IsCellOf, cell_value};
-ghost use Rattle.dsr_image.specs.Images.{Puts};
+ghost use Rattle.dsr_meaning.specs.Writes.{AreBytes, BesideStay, Puts};
 
 use crate::ImageBytes;
 use crate::bits::{get_bits, put_bits};
@@ -52,10 +52,12 @@ fn get_cell(bytes: &[u8], cell: &Cell) -> u64
     }
 }
 
-fn put_cell(bytes: &mut [u8], cell: &Cell, value: u64)
+fn write_cell(bytes: &mut [u8], cell: &Cell, value: u64)
     requires cell { IsCellOf bytes.old cell.now }
     requires fits { value < 2 ^ cell.now.width }
-    ensures { Puts cell.now value bytes.old bytes.new }
+    ensures put { Puts cell.now value bytes.old bytes.new }
+    ensures before { AreBytes bytes.old }
+    ensures after { AreBytes bytes.new }
 {
     let bit = cell.bit as usize;
     if cell.bytewise {
@@ -63,6 +65,16 @@ fn put_cell(bytes: &mut [u8], cell: &Cell, value: u64)
     } else {
         put_bits(bytes, bit, u32::from(cell.width), value);
     }
+}
+
+// What is beside the cell follows from what a write leaves.
+fn put_cell(bytes: &mut [u8], cell: &Cell, value: u64)
+    requires cell { IsCellOf bytes.old cell.now }
+    requires fits { value < 2 ^ cell.now.width }
+    ensures put { Puts cell.now value bytes.old bytes.new }
+    ensures beside { BesideStay cell.now bytes.old bytes.new }
+{
+    write_cell(bytes, cell, value);
 }
 
 impl ImageBytes for Whole {
@@ -73,7 +85,8 @@ impl ImageBytes for Whole {
     ghost claimed = { λ w at. true };
 
     fn len(&self) -> u64 {
-        self.bytes.len() as u64
+        let bytes: &[u8] = &self.bytes;
+        bytes.len() as u64
     }
 
     fn byte(&self, at: u64) -> u8 {

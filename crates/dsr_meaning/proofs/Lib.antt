@@ -1,6 +1,11 @@
 pub mod Bits
 pub mod Counts
+pub mod Derived
 pub mod Empty
-pub mod Orders
+pub mod Firing
+pub mod Ordered
+pub mod Placing
 pub mod Powers
+pub mod Ranks
 pub mod Sizes
+pub mod Values

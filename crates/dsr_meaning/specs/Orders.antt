@@ -1,5 +1,7 @@
 -- The orders of records, of what is made of them, and of constraints with their bindings.
-use Rattle.std.specs.Prelude.{◌≡◌, ◌<◌, ◌⊎◌, ℕ, List, [], ◌∷◌}
+use Rattle.std.specs.Prelude.{◌≡◌, ◌<◌, ◌⊎◌, ◌↔◌}
+use Rattle.std.specs.declared.cmp.Ordering.{Ordering}
+use Rattle.std.specs.declared.cmp.Ordering.TheVariants.{Less, Equal}
 use Rattle.dsr_ir.specs.declared.tuples.Binding.{Binding}
 use Rattle.dsr_ir.specs.declared.tuples.Binding.TheVariants as bindings
 use Rattle.dsr_ir.specs.declared.tuples.Element.{Element}
@@ -40,3 +42,8 @@ BindingPrecedes (bindings.Each a) (bindings.Each b) = Precedes a b
 BindingPrecedes (bindings.Each a) (bindings.Pair b c) = Unit {0}
 BindingPrecedes (bindings.Pair a c) (bindings.Pair b d) = Precedes a b ⊎ ((a ≡ b) × Precedes c d)
 BindingPrecedes (bindings.Pair a c) _ = ⊥
+
+-- a comparison tells an order: it is less exactly where the one comes before the other, and equal exactly where they are the same
+pub record TellsOrder {A : Type 0} (compare : A → A → Ordering) (Before : A → A → Type 0) : Type 0 where
+  pub less : (a b : A) → (compare a b ≡ Less) ↔ Before a b
+  pub equal : (a b : A) → (compare a b ≡ Equal) ↔ (a ≡ b)

@@ -20,6 +20,10 @@ AreBitsApart a m b n = (a + m ≤ b) ⊎ (b + n ≤ a)
 abbrev pub AreCellsApart : Cell → Cell → Type 0
 AreCellsApart c d = AreBitsApart c.bit c.width d.bit d.width
 
+-- every bit of the cell stays
+abbrev pub HasSameBits : Cell → List ℕ → List ℕ → Type 0
+HasSameBits cell old new = (j : ℕ) → cell.bit ≤ j → j < cell.bit + cell.width → bit_of new j ≡ bit_of old j
+
 -- every bit outside of a range stays
 abbrev pub OthersStay : ℕ → ℕ → List ℕ → List ℕ → Type 0
 OthersStay bit width old new = (j : ℕ) → (j < bit) ⊎ (bit + width ≤ j) → bit_of new j ≡ bit_of old j

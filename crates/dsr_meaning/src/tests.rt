@@ -1,5 +1,11 @@
 // Values of cells, counted by hand.
-use crate::{sizes_are_unique, value_of_cell, violations_are_unique, violations_tell_consistency};
+use crate::{
+    bindings_are_ordered, bits_make_values, elements_are_ordered, facts_are_ordered,
+    first_violated_is_unique, instances_are_ordered, instances_give_one_fact, models_are_closed,
+    models_are_least, others_keep_their_values, sizes_are_unique, targets_are_ordered,
+    typed_specifications_are_placeable, value_of_cell, violations_are_unique,
+    violations_tell_consistency,
+};
 use dsr_ir::{Cell, Order};
 use std::test::Fail;
 
@@ -29,8 +35,25 @@ fn cells_have_their_values(rt: HostRuntime) -> Result<(), Fail> {
         assert!(rt; *bit <= 64 && *width <= 64 && *bit as usize + usize::from(*width) <= 64);
         assert_eq!(rt; value_of_cell(&bytes, &cell), *value, "cell {i}");
     }
+    Ok(())
+}
+
+// Laws do nothing when they run.
+#[test]
+fn laws_return() {
+    typed_specifications_are_placeable();
+    instances_give_one_fact();
+    models_are_closed();
+    models_are_least();
     sizes_are_unique();
     violations_are_unique();
     violations_tell_consistency();
-    Ok(())
+    first_violated_is_unique();
+    elements_are_ordered();
+    targets_are_ordered();
+    facts_are_ordered();
+    instances_are_ordered();
+    bindings_are_ordered();
+    others_keep_their_values();
+    bits_make_values();
 }

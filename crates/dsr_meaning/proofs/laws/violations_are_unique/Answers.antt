@@ -1,5 +1,5 @@
 use Rattle.dsr_meaning.specs.Models.{IsFact}
-use Rattle.dsr_meaning.proofs.Orders.{violations_once}
+use Rattle.dsr_meaning.proofs.Ordered.{violations_once}
 use Rattle.dsr_meaning.proofs.laws.violations_are_unique.Goals as goal
 
 pub returns : goal.returns

@@ -1,5 +1,7 @@
 -- The violated bindings have one list.
-use Rattle.std.proofs.Common.{◌≡◌, ℕ, List, [], ◌∷◌, inl, inr, refl, sym, subst, ◌∙◌, arith}
+use Rattle.std.proofs.Common.{◌≡◌, ◌⊎◌, ℕ, List, [], ◌∷◌, Some, inl, inr, refl, sym, ap, subst, ◌∙◌, arith}
+use Rattle.std.proofs.lemmas.Bool.{cases_lt}
+use Rattle.std.specs.Prelude.{slice_get}
 use Rattle.dsr_ir.specs.declared.declarations.Spec.{Spec}
 use Rattle.dsr_ir.specs.declared.tuples.Binding.{Binding}
 use Rattle.dsr_ir.specs.declared.tuples.Binding.TheVariants.{Once, Each, Pair}
@@ -61,3 +63,62 @@ one_order (v ∷ vs) (w ∷ ws) a b f g =
 
 pub violations_once : (is_fact : Fact → Type 0) (spec : Spec) (vs ws : List BoundConstraint) → AreViolations is_fact spec vs → AreViolations is_fact spec ws → vs ≡ ws
 violations_once is_fact spec vs ws a b = one_order vs ws a.in_order b.in_order (λ x i. b.all x (a.only x i)) (λ x i. a.all x (b.only x i))
+
+-- of two elements, one comes before the other, or they are the same
+elements_apart : (a b : Element) → Precedes a b ⊎ ((a ≡ b) ⊎ Precedes b a)
+elements_apart a b = elim (cases_lt a.pool b.pool) [
+  | inl less ↦ inl (inl less)
+  | inr from ↦ elim (cases_lt b.pool a.pool) [
+    | inl more ↦ inr (inr (inl more))
+    | inr to ↦
+        let pool : a.pool ≡ b.pool = omega arith in
+        elim (cases_lt a.slot b.slot) [
+          | inl less ↦ inl (inr (pool, less))
+          | inr above ↦ elim (cases_lt b.slot a.slot) [
+            | inl more ↦ inr (inr (inr (sym pool, more)))
+            | inr below ↦ let slot : a.slot ≡ b.slot = omega arith in inr (inl (λ k. record { pool = pool k; slot = slot k }))
+          ]
+        ]
+  ]
+]
+
+pairs_apart : (a b c d : Element) → BindingPrecedes (Pair a b) (Pair c d) ⊎ ((Pair a b ≡ Pair c d) ⊎ BindingPrecedes (Pair c d) (Pair a b))
+pairs_apart a b c d = elim (elements_apart a c) [
+  | inl before ↦ inl (inl before)
+  | inr (inr behind) ↦ inr (inr (inl behind))
+  | inr (inl first) ↦ elim (elements_apart b d) [
+    | inl before ↦ inl (inr (first, before))
+    | inr (inr behind) ↦ inr (inr (inr (sym first, behind)))
+    | inr (inl second) ↦ inr (inl (λ k. Pair (first k) (second k)))
+  ]
+]
+
+pub bindings_apart : (b c : Binding) → BindingPrecedes b c ⊎ ((b ≡ c) ⊎ BindingPrecedes c b)
+bindings_apart Once Once = inr (inl refl)
+bindings_apart Once (Each b) = inl tt
+bindings_apart Once (Pair b d) = inl tt
+bindings_apart (Each a) Once = inr (inr tt)
+bindings_apart (Each a) (Each b) = elim (elements_apart a b) [ inl before ↦ inl before | inr (inl same) ↦ inr (inl (ap Each same)) | inr (inr behind) ↦ inr (inr behind) ]
+bindings_apart (Each a) (Pair b d) = inl tt
+bindings_apart (Pair a c) Once = inr (inr tt)
+bindings_apart (Pair a c) (Each b) = inr (inr tt)
+bindings_apart (Pair a c) (Pair b d) = pairs_apart a c b d
+
+same_place : (order : List ℕ) (k m n : ℕ) → slice_get order k ≡ Some m → slice_get order k ≡ Some n → m ≡ n
+same_place order k m n p q = let both : Some m ≡ Some n = sym p ∙ q in cc
+
+pub first_once : (is_fact : Fact → Type 0) (spec : Spec) (order : List ℕ) (v w : BoundConstraint) → IsFirstViolated is_fact spec order v → IsFirstViolated is_fact spec order w → v ≡ w
+first_once is_fact spec order v w p q = elim (cases_lt p.at q.at) [
+  | inl less ↦ absurd (q.none_before p.at v less p.placed p.violated)
+  | inr from ↦ elim (cases_lt q.at p.at) [
+    | inl more ↦ absurd (p.none_before q.at w more q.placed q.violated)
+    | inr to ↦
+        let at : q.at ≡ p.at = omega arith in
+        let constraint : v.constraint ≡ w.constraint = same_place order p.at v.constraint w.constraint p.placed (ap (slice_get order) (sym at) ∙ q.placed) in
+        elim (bindings_apart v.binding w.binding) [
+          | inl before ↦ absurd (q.least v.binding (subst (λ n. IsViolated is_fact spec (record { constraint = n; binding = v.binding })) constraint p.violated) before)
+          | inr (inl same) ↦ λ k. record { constraint = constraint k; binding = same k }
+          | inr (inr behind) ↦ absurd (p.least w.binding (subst (λ n. IsViolated is_fact spec (record { constraint = n; binding = w.binding })) (sym constraint) q.violated) behind)
+        ]
+  ]
+]

@@ -2,7 +2,7 @@ ghost use Rattle.std.specs.Prelude.{◌≡◌, ◌∷◌, [], IfOk, IsSome};
 ghost use Rattle.dsr_ir.specs.Layouts.{pool_numbers, field_place};
 
 use dsr_ir::*;
-use std::alloc::{AllocError, Global};
+use std::alloc::Global;
 use std::cmp::Ordering;
 use std::hash::{DefaultHasher, Hash, Hasher};
 use std::test::Fail;
@@ -59,16 +59,12 @@ fn one<T: Drop>(alloc: Global, item: T) -> Result<Seq<T>, NoMemory>
     Ok(Seq::new(items))
 }
 
-fn boxed(alloc: Global, value: u64) -> Result<Box<Expr>, NoMemory> {
-    Ok(Box::new(alloc, Expr::Num(value))?)
-}
-
 // ((4 + 3) - 2) * (9 / 5)
 fn expression(alloc: Global) -> Result<Expr, NoMemory> {
-    let sum = Box::new(alloc, Expr::Sum(boxed(alloc, 4)?, boxed(alloc, 3)?))?;
-    let less = Box::new(alloc, Expr::Less(sum, boxed(alloc, 2)?))?;
-    let over = Box::new(alloc, Expr::Over(boxed(alloc, 9)?, boxed(alloc, 5)?))?;
-    Ok(Expr::Times(less, over))
+    let sum = Expr::sum(alloc, Expr::number(4), Expr::number(3))?;
+    let less = Expr::less(alloc, sum, Expr::number(2))?;
+    let over = Expr::over(alloc, Expr::number(9), Expr::number(5))?;
+    Expr::times(alloc, less, over)
 }
 
 fn structure(alloc: Global) -> Result<Structure, NoMemory> {
@@ -90,12 +86,12 @@ fn pool(alloc: Global) -> Result<Pool, NoMemory> {
     Ok(Pool {
         name: name(alloc, b"nodes")?,
         structure: 0,
-        count: Expr::Num(8),
-        slot: Some(Expr::Num(12)),
-        start: Expr::Fixed(0),
-        code: Expr::Num(1),
-        step: Expr::Num(1),
-        none: Expr::Num(0),
+        count: Expr::number(8),
+        slot: Some(Expr::number(12)),
+        start: Expr::fixed(0),
+        code: Expr::number(1),
+        step: Expr::number(1),
+        none: Expr::number(0),
         avoid: Some(one(alloc, 3)?),
     })
 }
@@ -154,16 +150,17 @@ fn specification(alloc: Global) -> Result<Spec, NoMemory> {
     })
 }
 
+const ATOM: Atom = Atom::Pair(Var::Head, Var::Second, 2);
+
 // not given (any of one atom), together with that atom
 fn formula(alloc: Global) -> Result<Formula, NoMemory> {
-    let atom = Atom::Pair(Var::Head, Var::Second, 2);
     let mut any = Vec::new(alloc);
-    any.push(Formula::Leaf(atom))?;
-    let given = Formula::Given(Box::new(alloc, Formula::Any(any))?);
+    any.push(FormulaNode::Leaf(ATOM))?;
+    let given = FormulaNode::Given(Box::new(alloc, FormulaNode::Any(any))?);
     let mut every = Vec::new(alloc);
-    every.push(Formula::Not(Box::new(alloc, given)?))?;
-    every.push(Formula::Leaf(atom))?;
-    Ok(Formula::Every(every))
+    every.push(FormulaNode::Not(Box::new(alloc, given)?))?;
+    every.push(FormulaNode::Leaf(ATOM))?;
+    Ok(Formula::new(FormulaNode::Every(every)))
 }
 
 fn template(alloc: Global) -> Result<Template, NoMemory> {
@@ -210,40 +207,80 @@ fn layout(alloc: Global) -> Result<Layout, NoMemory>
     })
 }
 
-fn hash_of<T: Hash>(value: &T) -> u64 {
+fn hash_of(name: &Name) -> u64 {
     let mut hasher = DefaultHasher::new();
-    value.hash(&mut hasher);
+    name.hash(&mut hasher);
     hasher.finish()
 }
 
-fn is_alike<T: Ord + Hash>(copy: &T, source: &T) -> bool {
-    copy == source
-        && copy.cmp(source) == Ordering::Equal
-        && copy.partial_cmp(source) == Some(Ordering::Equal)
-        && hash_of(copy) == hash_of(source)
+fn is_same_spec(copy: &Spec, source: &Spec) -> bool {
+    let (Some(a), Some(b)) = (
+        copy.base.pools.items().first(),
+        source.base.pools.items().first(),
+    ) else {
+        return false;
+    };
+    let (Some(r), Some(s)) = (copy.rules.items().first(), source.rules.items().first()) else {
+        return false;
+    };
+    a.name == b.name && a.start == b.start && a.slot == b.slot && r.inc == s.inc && r.span == s.span
+}
+
+// `not given (any of one atom)`, together with that atom
+fn is_formula(formula: &Formula) -> bool {
+    let FormulaNode::Every(parts) = formula.node() else {
+        return false;
+    };
+    match (parts.first(), parts.get(1)) {
+        (Some(FormulaNode::Not(part)), Some(FormulaNode::Leaf(atom))) => {
+            let part: &FormulaNode = part;
+            matches!(part, FormulaNode::Given(_)) && *atom == ATOM
+        }
+        _ => false,
+    }
 }
 
 #[test]
 fn copies_equal_their_sources(rt: HostRuntime) -> Result<(), Fail> {
     let alloc = rt.alloc();
+    let expr = expression(alloc)?;
+    assert!(rt; TryClone::clone(&expr, alloc)? == expr);
+    assert!(rt; expr != Expr::number(5));
+    assert!(rt; matches!(expr.node(), ExprNode::Times(_, _)));
     let spec = specification(alloc)?;
-    assert!(rt; is_alike(&TryCloneTree::clone(&spec, alloc)?, &spec));
+    assert!(rt; is_same_spec(&TryClone::clone(&spec, alloc)?, &spec));
     let formula = formula(alloc)?;
-    assert!(rt; is_alike(&TryCloneTree::clone(&formula, alloc)?, &formula));
+    assert!(rt; is_formula(&formula));
+    assert!(rt; is_formula(&TryClone::clone(&formula, alloc)?));
     let template = template(alloc)?;
-    assert!(rt; is_alike(&TryClone::clone(&template, alloc)?, &template));
-    let layout = layout(alloc)?;
-    assert!(rt; is_alike(&TryClone::clone(&layout, alloc)?, &layout));
-    for token in [
-        Token::Keyword(Keyword::Version),
-        Token::Name(name(alloc, b"x")?),
-        Token::Number(7),
-        Token::Sign(Sign::Dot),
-    ] {
-        let lexeme = Lexeme { token, place: 4 };
-        assert!(rt; is_alike(&TryClone::clone(&lexeme, alloc)?, &lexeme));
-    }
+    assert!(rt; TryClone::clone(&template, alloc)? == template);
+    let copy = TryClone::clone(&layout(alloc)?, alloc)?;
+    assert_eq!(rt; copy.length(), 112);
+    let name = name(alloc, b"nodes")?;
+    let copy = TryClone::clone(&name, alloc)?;
+    assert!(rt; copy == name && copy.cmp(&name) == Ordering::Equal);
+    assert!(rt; copy.partial_cmp(&name) == Some(Ordering::Equal));
+    assert_eq!(rt; hash_of(&copy), hash_of(&name));
+    assert!(rt; copied(alloc, &Some(name))?.is_some());
     Ok(())
+}
+
+// What rules give: each kind of inclusion with its symbol and whether it has a target.
+const INCLUSIONS: [(Inc, Symbol, bool); 5] = [
+    (Inc::Own(1), Symbol::Set(1), false),
+    (Inc::Target(2, PATH), Symbol::Set(2), true),
+    (Inc::Slot(3, 1), Symbol::Set(3), false),
+    (Inc::OwnPair(4, PATH), Symbol::Rel(4), true),
+    (Inc::SlotPair(5, 1, PATH), Symbol::Rel(5), true),
+];
+
+#[test]
+fn inclusions_have_symbols_and_targets(rt: HostRuntime) {
+    for (inc, symbol, has_target) in INCLUSIONS {
+        assert!(rt; inc.symbol() == symbol);
+        assert!(rt; inc.gives(symbol) && !inc.gives(Symbol::Set(4)));
+        assert!(rt; inc.target().is_some() == has_target);
+    }
 }
 
 #[test]
@@ -251,13 +288,13 @@ fn numbers_and_orders(rt: HostRuntime) -> Result<(), Fail> {
     let alloc = rt.alloc();
     let layout = layout(alloc)?;
     assert_eq!(rt; layout.length(), 112);
-    assert_eq!(rt; layout.order(), Order::Big);
+    assert!(rt; layout.order() == Order::Big);
     let numbers = [layout.start(1), layout.slot(1), layout.count(1)];
     assert_eq!(rt; numbers, [16, 12, 8]);
     let codes = [layout.code(1), layout.step(1), layout.none(1)];
     assert_eq!(rt; codes, [1, 3, 0]);
     assert_eq!(rt; layout.bit_offset(FIELD), 5);
-    assert_eq!(rt; layout.width(FIELD), Width::Bits(3));
+    assert!(rt; layout.width(FIELD) == Width::Bits(3));
     assert_eq!(rt; layout.array_length(FIELD), Some(9));
     for (less, more) in BINDINGS {
         assert!(rt; less < more);
@@ -274,6 +311,5 @@ fn numbers_and_orders(rt: HostRuntime) -> Result<(), Fail> {
     let (low, high) = (one(alloc, LOW)?, one(alloc, HIGH)?);
     assert!(rt; low < high);
     assert_eq!(rt; low.items().len(), 1);
-    assert_eq!(rt; NoMemory::from(AllocError), NoMemory);
     Ok(())
 }

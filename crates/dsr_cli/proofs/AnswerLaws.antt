@@ -1,7 +1,7 @@
 -- Which statuses answers have, and why a store failed.
 use Rattle.std.proofs.Common.{◌≡◌, ◌⊎◌, inl, inr, List, [], ◌∷◌, ℕ, subst, true}
 use Rattle.dsr_ir.specs.declared.declarations.Spec.{Spec}
-use Rattle.dsr_meaning.specs.Consistency.{Instanced}
+use Rattle.dsr_meaning.specs.Consistency.{BoundConstraint}
 use Rattle.dsr_parse.specs.declared.parser.SyntaxFault.{SyntaxFault}
 use Rattle.dsr_parse.specs.declared.parser.SyntaxFault.TheVariants as faults
 use Rattle.dsr_store.specs.Causes.{Rose}
@@ -21,7 +21,7 @@ IsFilesStatus statuses.StoreFailed = Unit {0}
 IsFilesStatus statuses.TooLong = Unit {0}
 IsFilesStatus _ = ⊥
 
-verdict_told : (spec : Spec) (vs : List Instanced) → IsFilesStatus (verdict_answer spec vs).status
+verdict_told : (spec : Spec) (vs : List BoundConstraint) → IsFilesStatus (verdict_answer spec vs).status
 verdict_told spec [] = tt
 verdict_told spec (v ∷ vs) = tt
 
@@ -88,7 +88,7 @@ module _ (s : Shelved) (words : List (List ℕ)) where
   unfolding Cause
   image_cause m = elim m.cause as (λ _. Cause) [ inl r ↦ inl r | inr l ↦ inr (inr l) ]
 
-  verdict_stored : (spec : Spec) (vs : List Instanced) → (verdict_answer spec vs).status ≡ statuses.StoreFailed → ⊥
+  verdict_stored : (spec : Spec) (vs : List BoundConstraint) → (verdict_answer spec vs).status ≡ statuses.StoreFailed → ⊥
   verdict_stored spec [] e = cc
   verdict_stored spec (v ∷ vs) e = cc
 

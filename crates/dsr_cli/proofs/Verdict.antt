@@ -12,7 +12,7 @@ use Rattle.dsr_ir.specs.declared.layouts.Layout.{Layout}
 use Rattle.dsr_ir.specs.declared.rules.Op.TheVariants.{Eq}
 use Rattle.dsr_ir.specs.declared.tuples.Binding.{Binding}
 use Rattle.dsr_ir.specs.declared.tuples.Binding.TheVariants.{Once, Each, Pair}
-use Rattle.dsr_meaning.specs.Consistency.{AreViolations, ConjHolds, Instanced, IsBinding, IsViolated}
+use Rattle.dsr_meaning.specs.Consistency.{AreViolations, ConjHolds, BoundConstraint, IsBinding, IsViolated}
 use Rattle.dsr_meaning.specs.Truth.{AtomHolds, LiteralHolds}
 use Rattle.dsr_cli.specs.Plain.{IsPlain}
 use Rattle.dsr_cli.specs.Values.{the_binding, violations_where}
@@ -43,7 +43,7 @@ module _ (spec : Spec) (plain : IsPlain spec) (layout : Layout) (bytes : List �
   Holds = AtomHolds spec layout bytes Once (Value Head plain.constraint_fits.rel Eq plain.constraint_fits.bound)
 
   -- a violated binding is the only one, and its atom doesn't hold
-  violated_is : (v : Instanced) → IsViolated spec layout bytes v → (v ≡ the_binding) × (Holds → ⊥)
+  violated_is : (v : BoundConstraint) → IsViolated spec layout bytes v → (v ≡ the_binding) × (Holds → ⊥)
   violated_is v h =
       let at = only_one plain.constraint h.constraint v.constraint (subst (λ cs. slice_get cs v.constraint ≡ Some h.constraint) plain.one_constraint h.declared) in
       let quant : h.constraint.quant ≡ quants.Once = ap (λ (c : Constraint). c.quant) at.1 ∙ plain.constraint_fits.no_quantifier in

@@ -8,7 +8,7 @@ use Rattle.dsr_ir.specs.declared.layouts.Layout.{Layout}
 use Rattle.dsr_ir.specs.declared.tuples.Binding.{Binding}
 use Rattle.dsr_ir.specs.declared.tuples.Binding.TheVariants.{Once, Each, Pair}
 use Rattle.dsr_ir.specs.declared.tuples.Element.{Element}
-use Rattle.dsr_meaning.specs.Consistency.{AreViolations, Instanced}
+use Rattle.dsr_meaning.specs.Consistency.{AreViolations, BoundConstraint}
 use Rattle.dsr_text.specs.Canonical.{canonical}
 use Rattle.dsr_text.specs.Declarations.{declaration_faults}
 use Rattle.dsr_text.specs.Parsing.{IsTreeOf}
@@ -68,11 +68,11 @@ binding_text spec Once = codes "-"
 binding_text spec (Each e) = element_text spec e
 binding_text spec (Pair e f) = codes "<" ++ element_text spec e ++ codes "," ++ element_text spec f ++ codes ">"
 
-abbrev pub violation_line : Spec → Instanced → List ℕ
+abbrev pub violation_line : Spec → BoundConstraint → List ℕ
 violation_line spec v = codes "violated " ++ constraint_name spec v.constraint ++ codes " " ++ binding_text spec v.binding ++ codes "\n"
 
 -- the verdict, with each violated binding and their number where there are some
-abbrev pub verdict_answer : Spec → List Instanced → Answer
+abbrev pub verdict_answer : Spec → List BoundConstraint → Answer
 verdict_answer spec [] = record { status = statuses.Ok; text = codes "consistent\n" }
 verdict_answer spec (v ∷ vs) = record { status = statuses.Inconsistent; text = flat_map (violation_line spec) (v ∷ vs) ++ codes "inconsistent " ++ decimal (length (v ∷ vs)) ++ codes "\n" }
 
@@ -80,7 +80,7 @@ verdict_answer spec (v ∷ vs) = record { status = statuses.Inconsistent; text =
 pub data IsImageAnswer (spec : Spec) (image : List ℕ) : Answer → Type 0 where
   short : IsShort spec image → IsImageAnswer spec image layout_short
   outside : size_of spec 0 ≤ length image → IsOutside spec image → IsImageAnswer spec image (layout_outside (pool_name spec 1))
-  checked : (layout : Layout) (vs : List Instanced) → IsLaidOut spec image layout → AreViolations spec layout image vs → IsImageAnswer spec image (verdict_answer spec vs)
+  checked : (layout : Layout) (vs : List BoundConstraint) → IsLaidOut spec image layout → AreViolations spec layout image vs → IsImageAnswer spec image (verdict_answer spec vs)
 
 -- what the shelf told before the call and after it
 pub record Shelved : Type 0 where

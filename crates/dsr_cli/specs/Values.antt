@@ -9,7 +9,7 @@ use Rattle.dsr_ir.specs.declared.rules.Rule.{Rule}
 use Rattle.dsr_ir.specs.declared.tuples.Binding.TheVariants.{Once}
 use Rattle.dsr_ir.specs.declared.tuples.Target.TheVariants.{Elem, Num}
 use Rattle.dsr_meaning.specs.Cells.{value_at}
-use Rattle.dsr_meaning.specs.Consistency.{Instanced}
+use Rattle.dsr_meaning.specs.Consistency.{BoundConstraint}
 use Rattle.dsr_meaning.specs.Counting.{IsDistinct, IsIn}
 use Rattle.dsr_meaning.specs.Models.{IsPair}
 use Rattle.dsr_meaning.specs.Truth.{head}
@@ -49,9 +49,9 @@ pub record AreTargets (spec : Spec) (layout : Layout) (bytes : List ℕ) (rel : 
   pub only : (slot : ℕ) → IsIn slot slots → IsPair spec layout bytes rel head (Elem (record_at slot))
 
 -- the only binding of the only constraint
-abbrev pub the_binding : Instanced
+abbrev pub the_binding : BoundConstraint
 the_binding = record { constraint = 0; binding = Once }
 
 -- the violated bindings, where the constraint holds or doesn't
-abbrev pub violations_where : Bool → List Instanced
+abbrev pub violations_where : Bool → List BoundConstraint
 violations_where holds = if holds then [] else the_binding ∷ []

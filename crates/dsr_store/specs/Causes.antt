@@ -6,7 +6,7 @@ use Rattle.dsr_store.specs.declared.outside.Missed.{Missed}
 
 -- the count is higher than before, or stands at the last value of a u64
 abbrev pub Rose : ℕ → ℕ → Type 0
-Rose before now = min (before + 1) (2 ^ 64 - 1) ≤ now
+Rose old new = min (old + 1) (2 ^ 64 - 1) ≤ new
 
 -- `Failed` makes this call the last that failed, and each other answer leaves the mark
 abbrev pub Marks : {T : Type 0} → Result T ShelfFault → Missed → Option Missed → Option Missed → Type 0

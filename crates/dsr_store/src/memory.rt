@@ -14,6 +14,7 @@ fn tick(calls: &mut u64, fail: &[u64]) -> bool
     ensures counted { calls.new ≡ one_more calls.old }
     ensures later { failures fail.now calls.old ≤ failures fail.now calls.new }
     ensures failed { OnTrue result (failures fail.now calls.old + 1 ≤ failures fail.now calls.new) }
+    ensures quiet { result ≡ false → failures fail.now calls.new ≡ failures fail.now calls.old }
 {
     let before = *calls;
     *calls = before.saturating_add(1);
@@ -56,6 +57,8 @@ impl Shelf for MemoryShelf {
         ensures failed { IsErrOf result ShelfFault.Failed →
             Rose (failures self.old.fail.items self.old.calls) (failures self.new.fail.items self.new.calls)
             ⊎ Lacks (held_in self.old.files.items) name.now }
+        ensures quiet { IsErrOf result ShelfFault.Failed ⊎
+            (failures self.new.fail.items self.new.calls ≡ failures self.old.fail.items self.old.calls) }
         ensures last { Marks result (record { saving = false; name = name.now }) self.old.last self.new.last }
 
         ensures due { IsTrue (is_due self.old.fail.items self.old.calls) → IsErr result }
@@ -87,6 +90,8 @@ impl Shelf for MemoryShelf {
         ensures later { failures self.old.fail.items self.old.calls ≤ failures self.new.fail.items self.new.calls }
         ensures failed { IsErrOf result ShelfFault.Failed →
             Rose (failures self.old.fail.items self.old.calls) (failures self.new.fail.items self.new.calls) }
+        ensures quiet { IsErrOf result ShelfFault.Failed ⊎
+            (failures self.new.fail.items self.new.calls ≡ failures self.old.fail.items self.old.calls) }
         ensures last { Marks result (record { saving = true; name = name.now }) self.old.last self.new.last }
 
         ensures due { IsTrue (is_due self.old.fail.items self.old.calls) → IsErr result }
@@ -186,6 +191,8 @@ impl Sink for MemorySink {
         ensures later { failures self.old.fail.items self.old.calls ≤ failures self.new.fail.items self.new.calls }
         ensures failed { IsErrOf result SinkFault.Failed →
             Rose (failures self.old.fail.items self.old.calls) (failures self.new.fail.items self.new.calls) }
+        ensures quiet { IsErrOf result SinkFault.Failed ⊎
+            (failures self.new.fail.items self.new.calls ≡ failures self.old.fail.items self.old.calls) }
 
         ensures due { IsTrue (is_due self.old.fail.items self.old.calls) → IsErr result }
         ensures cause { IsErrOf result SinkFault.Failed → IsTrue (is_due self.old.fail.items self.old.calls) }

@@ -6,11 +6,11 @@ use std::alloc::{AllocError, Global};
 use std::marker::Model;
 
 /// Why a call of a shelf gave nothing.
-#[derive(Clone, Copy, Debug, PartialEq, Eq)]
+#[derive(Clone, Copy)]
 pub enum ShelfFault {
     /// The file isn't there, or the outside refused or broke off the call.
     Failed,
-    /// Memory ran out. What the shelf holds and its mark are as before the call.
+    /// Memory ran out. What the shelf holds, its count and its mark are as before the call.
     NoMemory,
 }
 
@@ -115,7 +115,7 @@ pub trait Shelf {
     /// The files that are held, where the shelf tells them.
     ghost held: { Self → Option Files };
 
-    /// A count of failures, which never falls.
+    /// A count of failures, which never falls. Only a call that answers `Failed` may change it.
     ghost faults: { Self → ℕ };
 
     /// The last call that failed, if one did.
@@ -129,6 +129,7 @@ pub trait Shelf {
         ensures later { faults self.old ≤ faults self.new }
         ensures failed { IsErrOf result ShelfFault.Failed →
             Rose (faults self.old) (faults self.new) ⊎ Lacks (held self.old) name.now }
+        ensures quiet { IsErrOf result ShelfFault.Failed ⊎ (faults self.new ≡ faults self.old) }
         ensures last { Marks result (record { saving = false; name = name.now }) (last self.old) (last self.new) };
 
     /// Makes these the bytes of the file of this name, which need not be held yet. After `Failed`
@@ -139,15 +140,16 @@ pub trait Shelf {
         ensures others { OthersStand (held self.old) (held self.new) name.now }
         ensures later { faults self.old ≤ faults self.new }
         ensures failed { IsErrOf result ShelfFault.Failed → Rose (faults self.old) (faults self.new) }
+        ensures quiet { IsErrOf result ShelfFault.Failed ⊎ (faults self.new ≡ faults self.old) }
         ensures last { Marks result (record { saving = true; name = name.now }) (last self.old) (last self.new) };
 }
 
 /// Why a call of a sink did not write its piece.
-#[derive(Clone, Copy, Debug, PartialEq, Eq)]
+#[derive(Clone, Copy)]
 pub enum SinkFault {
     /// The outside refused or broke off the write.
     Failed,
-    /// Memory ran out. Nothing was written.
+    /// Memory ran out. Nothing was written, and the count is as before the call.
     NoMemory,
 }
 
@@ -170,7 +172,7 @@ pub trait Sink {
     /// All that was written, where the sink tells it.
     ghost written: { Self → Option (List ℕ) };
 
-    /// A count of failures, which never falls.
+    /// A count of failures, which never falls. Only a call that answers `Failed` may change it.
     ghost faults: { Self → ℕ };
 
     /// Writes the piece behind what was written before.
@@ -179,5 +181,6 @@ pub trait Sink {
         ensures no_memory { IsErrOf result SinkFault.NoMemory → written self.new ≡ written self.old }
         ensures front { AppendsFront (written self.old) (written self.new) piece.now }
         ensures later { faults self.old ≤ faults self.new }
-        ensures failed { IsErrOf result SinkFault.Failed → Rose (faults self.old) (faults self.new) };
+        ensures failed { IsErrOf result SinkFault.Failed → Rose (faults self.old) (faults self.new) }
+        ensures quiet { IsErrOf result SinkFault.Failed ⊎ (faults self.new ≡ faults self.old) };
 }

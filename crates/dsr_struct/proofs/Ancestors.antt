@@ -3,7 +3,7 @@ use Rattle.std.proofs.Common.{◌≡◌, ◌<◌, ◌+◌, ℕ, zero, suc, true,
 use Rattle.std.proofs.Math.Seq.{take-suc}
 use Rattle.std.proofs.lemmas.Bool.{cond-true, cond-false}
 use Rattle.std.proofs.lemmas.Grind.{common_steps}
-use Rattle.std.proofs.lemmas.List.{length-map, length-reverse, map-append, reverse-append}
+use Rattle.std.proofs.lemmas.List.{length-reverse, map-append, reverse-append}
 use Rattle.dsr_tree.specs.Trees.{StructureTree, structure_shape}
 use Rattle.dsr_tree.specs.declared.tree.PlacedName.{PlacedName}
 use Rattle.dsr_tree.specs.declared.tree.Structure.{Structure}

@@ -7,7 +7,7 @@ use Rattle.dsr_tree.specs.declared.tree.Expr.{Expr, out-Expr}
 use Rattle.dsr_tree.specs.declared.tree.MoreFactor.{MoreFactor}
 use Rattle.dsr_tree.specs.declared.tree.MoreTerm.{MoreTerm, out-MoreTerm, is-MoreTerm'}
 use Rattle.dsr_tree.specs.declared.tree.Term2.{Term2, out-Term2}
-use Rattle.dsr_ir.specs.Shapes.{ExprShape}
+use Rattle.dsr_ir.specs.Exprs.{ExprShape}
 use Rattle.dsr_tree.specs.Trees.{TermTree, expr_tree, term_tree, FactorTree, MoreTermTree, MoreFactorTree, in_terms, in_factors, expr_shape, term_shape, factor_shape, more_term_shape, more_factor_shape}
 use Rattle.dsr_tree.proofs.TreeRows.{expr_is, term_is}
 use Rattle.dsr_text.specs.Declarations.{more_terms_faults, term_faults, more_factors_faults, factor_faults, is_number, is_number_term, is_number_factor}

@@ -12,11 +12,8 @@ pub mod Mapped
 pub mod Numbering
 pub mod Outcome
 pub mod ResolvedExprs
-pub mod ResolvedFields
 pub mod ResolvedFixed
 pub mod ResolvedNames
-pub mod ResolvedPools
-pub mod ResolvedTables
 pub mod Tables
 pub mod TypedTables
 pub mod Wide

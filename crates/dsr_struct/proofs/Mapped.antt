@@ -8,11 +8,10 @@ module _ {X S : Type 0} (g : X → S) where
   pub item_has : (P : S → Type 0) (xs : List X) (i : ℕ) (x : X) → i < length xs → x ≡ get_or xs i x → All P (map g xs) → P (g x)
   item_has P xs i x lt is all = subst P (get_or-map g xs i x (g x) lt ∙ ap g (sym is)) (all i (g x) (rw (length-map xs g) lt))
 
-  -- one item more is made of one item more; what is made and what it is made of are seen by their shapes
-  pub made_next : {Y Z : Type 0} (h : S → Z) (shape : Y → Z) (xs : List X) (i : ℕ) (x : X) (old new : List Y) (y : Y) → i < length xs → x ≡ get_or xs i x → map shape old ≡ map h (map g (take i xs)) → new ≡ old ++ y ∷ [] → shape y ≡ h (g x) → map shape new ≡ map h (map g (take (i + 1) xs))
-  made_next h shape xs i x old new y lt is before pushed made =
+  -- one item more is made of one item more, which is seen by its shape
+  pub made_next : {Y : Type 0} (h : S → Y) (xs : List X) (i : ℕ) (x : X) (old new : List Y) (y : Y) → i < length xs → x ≡ get_or xs i x → old ≡ map h (map g (take i xs)) → new ≡ old ++ y ∷ [] → y ≡ h (g x) → new ≡ map h (map g (take (i + 1) xs))
+  made_next h xs i x old new y lt is before pushed made =
       let e : take (i + 1) xs ≡ take i xs ++ x ∷ [] = rw add-one (take-suc xs i x lt ∙ ap (λ z. take i xs ++ z ∷ []) (sym is)) in
-      ap (map shape) pushed
-      ∙ map-append shape old (y ∷ [])
+      pushed
       ∙ (λ j. before j ++ made j ∷ [])
       ∙ sym (ap (λ ys. map h (map g ys)) e ∙ ap (map h) (map-append g (take i xs) (x ∷ [])) ∙ map-append h (map g (take i xs)) (g x ∷ []))

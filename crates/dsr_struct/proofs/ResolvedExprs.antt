@@ -1,6 +1,7 @@
 -- Each name of an expression without faults is a fixed field of `Head`.
 use Rattle.std.proofs.Common.{◌≡◌, ℕ, List, [], Option, None, Some, IfSome, is_none, option_map}
-use Rattle.dsr_ir.specs.Shapes.{ExprShape, FixedOf, StructuresShape}
+use Rattle.dsr_ir.specs.Exprs.{ExprShape, FixedOf}
+use Rattle.dsr_ir.specs.declared.declarations.Structures.{Structures}
 use Rattle.dsr_tree.specs.Trees.{ExprTree, expr_tree, MoreTermTrees, no_terms, more_terms, TermTree, term_tree, MoreFactorTrees, no_factors, more_factors, FactorTree, number_tree, name_tree, group_tree}
 use Rattle.dsr_tree.specs.declared.faults.Condition.TheVariants as conditions
 use Rattle.dsr_tree.specs.declared.tree.PlacedName.{PlacedName}
@@ -19,7 +20,7 @@ use Rattle.dsr_struct.proofs.Found.{known_has}
 pub number_has : (number : List ℕ → Option ℕ) (P : ℕ → Type 0) (q : PlacedName) → IfSome (number q.name) P → unknown_name number q ≡ [] → P (number_in number q)
 number_has number P q if_some e = known_has (number q.name) P (when_absent (is_none (number q.name)) conditions.UnknownName q.place e) if_some
 
-module _ (base : StructuresShape) (fixed : List ℕ → Option ℕ) (are_fixed : (q : List ℕ) → IfSome (fixed q) (λ k. IsTypedExpr base (FixedOf k))) where
+module _ (base : Structures) (fixed : List ℕ → Option ℕ) (are_fixed : (q : List ℕ) → IfSome (fixed q) (λ k. IsTypedExpr base (FixedOf k))) where
   resolved_sum_of : (sign : SumSign) (left right : ExprShape) → IsTypedExpr base left → IsTypedExpr base right → IsTypedExpr base (sum_of sign left right)
   resolved_sum_of sum_signs.Plus left right l r = (l, r)
   resolved_sum_of sum_signs.Minus left right l r = (l, r)

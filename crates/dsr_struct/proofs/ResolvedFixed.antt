@@ -4,7 +4,9 @@ use Rattle.std.specs.Prelude.{IsSomeAnd, IsTrue}
 use Rattle.std.specs.List.{position_from}
 use Rattle.std.specs.Str.{bytes_eq}
 use Rattle.std.proofs.lemmas.Option.{IfSome_then, slice_get-map}
-use Rattle.dsr_ir.specs.Shapes.{ExprShape, StructureShape, StructuresShape}
+use Rattle.dsr_ir.specs.Exprs.{ExprShape}
+use Rattle.dsr_ir.specs.declared.declarations.Structure.{Structure}
+use Rattle.dsr_ir.specs.declared.declarations.Structures.{Structures}
 use Rattle.dsr_tree.specs.Trees.{ExprTree, FieldTree, named, skipped, StructureTree, TreeShape}
 use Rattle.dsr_tree.specs.declared.faults.Condition.TheVariants as conditions
 use Rattle.dsr_text.specs.Declarations.{FieldPosition, is_declared_above, is_bytewise, is_misplaced, width_faults, maybe_expr_faults, content_faults, field_faults, position_of, structure_faults}
@@ -25,7 +27,7 @@ fixed_alone true true behind right (Some x) g e h = absurd cc
 fixed_alone true false behind right (Some x) g e h = absurd cc
 
 -- the fields of the structure that is `Head`
-head_is : (base : StructuresShape) (s : StructureShape) → slice_get base.structures base.head ≡ Some s → head_fields base ≡ s.fields
+head_is : (base : Structures) (s : Structure) → slice_get base.structures base.head ≡ Some s → head_fields base ≡ s.fields
 head_is base s e = rw e refl
 
 -- an item that is made of one that is there
@@ -37,7 +39,7 @@ made_is g xs k P Q found h =
     ] refl found)
 
 -- the number is one of a fixed field of `Head`
-abbrev pub IsFixedNumber : StructuresShape → ℕ → Type 0
+abbrev pub IsFixedNumber : Structures → ℕ → Type 0
 IsFixedNumber base k = IsSomeAnd (slice_get (head_fields base) k) (λ f. IsTrue (is_fixed f))
 
 module _ (names : Names) where

@@ -10,8 +10,8 @@ use Rattle.dsr_tree.specs.declared.faults.Condition.TheVariants as conditions
 use Rattle.dsr_tree.specs.declared.tree.PlacedName.{PlacedName}
 use Rattle.dsr_text.specs.Declarations.{unknown_name}
 use Rattle.dsr_text.specs.Names.{names_of, is_head, structure_number, used_structure}
-use Rattle.dsr_meaning.specs.Typed.{IsPoolNumber, IsOtherStructure, IsSetNumber}
-use Rattle.dsr_text.specs.Tables.{pool_in, typed_structure, typed_pool, typed_set, tables}
+use Rattle.dsr_meaning.specs.Typed.{IsPoolNumber, IsOtherStructure}
+use Rattle.dsr_text.specs.Tables.{pool_in, typed_structure, typed_pool, tables}
 use Rattle.dsr_text.proofs.Absent.{when_absent}
 use Rattle.dsr_struct.proofs.Faultless.{AllEmpty}
 use Rattle.dsr_struct.proofs.Found.{known_has, IsFound, found_passes, found_within, found_below}
@@ -55,6 +55,3 @@ module _ (t : TreeShape) (empty : AllEmpty t) where
   pool_numbers q e =
       let below = number_has (names_of t).pool (λ k. k < length t.pools) q (found_below (λ p. bytes_eq p.name.name q.name) t.pools) e in
       record { from = omega arith; to = rw (length-map t.pools (typed_pool (names_of t))) (omega (arith, below)) }
-
-  pub set_numbers : (q : List ℕ) → IfSome ((names_of t).set q) (IsSetNumber (tables t))
-  set_numbers q = IfSome_then ((names_of t).set q) (found_below (λ s. bytes_eq s.name.name q) t.sets) (λ k lt. rw (length-map t.sets (typed_set (names_of t))) lt)

@@ -1,5 +1,5 @@
 -- What the tables of a tree tell is what its names stand for, where each table is right.
-use Rattle.std.proofs.Common.{◌≡◌, ℕ, List, [], map, take, Some, codes, sym, ap, ◌∙◌}
+use Rattle.std.proofs.Common.{◌≡◌, ℕ, List, map, take, Some, codes, sym, ap, ◌∙◌}
 use Rattle.std.proofs.lemmas.List.{take-map}
 use Rattle.std.proofs.lemmas.Simd.{map-map}
 use Rattle.std.specs.List.{position_from}

@@ -13,9 +13,8 @@ use crate::expr_checks::{check_expr, check_maybe_expr, has_open_length, is_numbe
 use crate::lookups::{Names, is_at};
 use crate::names::is_head;
 use crate::telling::Told;
-use dsr_tree::{Content, Field, NamedField, Structure, Width};
 use dsr_ir::Name;
-use dsr_tree::Condition;
+use dsr_tree::{Condition, Content, Field, NamedField, Structure, Width};
 
 /// Where a field stands.
 #[derive(Clone, Copy)]

@@ -7,8 +7,8 @@ ghost use Rattle.dsr_tree.specs.Trees.{field_shape, structure_shape, tree_shape}
 ghost use Rattle.dsr_text.specs.Names.{has_name, has_fixed_name, field_number, fixed_in, before, is_head, with_ancestors, all_ancestors, parent_number, names_of};
 ghost use Rattle.dsr_struct.specs.Known.{is_named, entered, told_by};
 
-use dsr_tree::{Field, Fresh, PlacedName, Pool, Relation, Set, Structure, Tree};
 use dsr_ir::{Name, NoMemory, TryClone};
+use dsr_tree::{Field, Fresh, PlacedName, Pool, Relation, Set, Structure, Tree};
 use indexmap::IndexMap;
 use std::alloc::Global;
 

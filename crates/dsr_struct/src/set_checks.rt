@@ -5,10 +5,10 @@ ghost use Rattle.dsr_meaning.specs.Lists.{any_of, each_at};
 ghost use Rattle.dsr_text.specs.Names.{plain_set, pool_structure, set_pool};
 ghost use Rattle.dsr_struct.specs.Known.{known_of};
 ghost use Rattle.dsr_struct.specs.Telling.{Finds};
+
 use crate::lookups::{Names, is_at};
 use crate::telling::Told;
-use dsr_tree::Condition;
-use dsr_tree::{Fresh, PlacedName, Relation, Set, Target, Var, View};
+use dsr_tree::{Condition, Fresh, PlacedName, Relation, Set, Target, Var, View};
 
 // Whether two numbers are known and differ.
 fn disagree(left: Option<usize>, right: Option<usize>) -> bool

@@ -9,8 +9,7 @@ ghost use Rattle.dsr_struct.specs.Telling.{Finds};
 use crate::expr_checks::{check_expr, check_maybe_expr};
 use crate::lookups::{Names, is_at};
 use crate::telling::Told;
-use dsr_tree::Condition;
-use dsr_tree::{PlacedName, Pool, Structure};
+use dsr_tree::{Condition, PlacedName, Pool, Structure};
 
 // Whether a number was found that isn't less than another one.
 fn is_not_before(number: usize, found: Option<usize>) -> bool

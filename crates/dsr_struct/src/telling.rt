@@ -4,8 +4,7 @@ ghost use Rattle.dsr_tree.specs.declared.faults.Condition.TheVariants as conditi
 ghost use Rattle.dsr_text.specs.Faults.{when};
 ghost use Rattle.dsr_struct.specs.Telling.{Finds, told_of};
 
-use dsr_tree::PlacedName;
-use dsr_tree::{Condition, Fault};
+use dsr_tree::{Condition, Fault, PlacedName};
 
 /// The fault with the least place of those that were found, and of those the least condition.
 #[derive(Drop)]

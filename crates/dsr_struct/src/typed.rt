@@ -1,9 +1,7 @@
 // The typed tables of a tree, or its first fault.
 ghost use Rattle.std.specs.Prelude.{◌≡◌, [], All, codes, unwrap_or, IfOk, IfErr};
-ghost use Rattle.dsr_ir.specs.Shapes.{structures_shape};
 ghost use Rattle.dsr_tree.specs.Trees.{tree_shape};
 ghost use Rattle.dsr_text.specs.Declarations.{declaration_faults};
-ghost use Rattle.dsr_meaning.specs.Typed.{AreTyped};
 ghost use Rattle.dsr_text.specs.Tables.{tables, tables_with, version_of};
 ghost use Rattle.dsr_meaning.specs.Placeable.{ArePlaceable};
 ghost use Rattle.dsr_struct.specs.Known.{known_of, AllFit, HasLegalWidths};
@@ -12,8 +10,8 @@ ghost use Rattle.dsr_struct.specs.Refusals.{Tells};
 use crate::lookups::Names;
 use crate::names::{head_name, name_tables};
 use crate::refusals::SpecFault;
-use dsr_tree::Tree;
 use dsr_ir::{Name, NoMemory, Structures};
+use dsr_tree::Tree;
 use std::alloc::Global;
 
 // 2 for version 2, and otherwise 1.
@@ -37,7 +35,7 @@ impl Names<'_> {
         requires head { head.now ≡ codes "Head" }
         requires fit { AllFit (known_of self.now) }
         requires legal { All HasLegalWidths (known_of self.now).tree.structures }
-        ensures { IfOk result (λ s. structures_shape s ≡ tables_with (known_of self.now)) }
+        ensures { IfOk result (λ s. s ≡ tables_with (known_of self.now)) }
     {
         Ok(Structures {
             version: version_of(self.tree.version.number),
@@ -56,9 +54,8 @@ impl Names<'_> {
 /// the one of the least condition.
 pub fn structures(alloc: Global, tree: &Tree) -> Result<Structures, SpecFault>
     ensures no_fault { IfOk result (λ _. declaration_faults (tree_shape tree.now) ≡ []) }
-    ensures tables { IfOk result (λ s. structures_shape s ≡ tables (tree_shape tree.now)) }
-    ensures typed { IfOk result (λ s. ArePlaceable (structures_shape s)) }
-    ensures resolved { IfOk result (λ s. AreTyped (structures_shape s)) }
+    ensures tables { IfOk result (λ s. s ≡ tables (tree_shape tree.now)) }
+    ensures placeable { IfOk result ArePlaceable }
     ensures fault { IfErr result (Tells (declaration_faults (tree_shape tree.now))) }
 {
     let tables = name_tables(alloc, tree)?;

@@ -2,13 +2,12 @@
 ghost use Rattle.std.specs.Prelude.{◌≡◌, map, option_map, IfOk};
 ghost use Rattle.std.specs.Str.{bytes_eq};
 ghost use Rattle.indexmap.specs.IndexMap.{get};
-ghost use Rattle.dsr_ir.specs.Shapes.{expr_shape as shape};
 ghost use Rattle.dsr_tree.specs.Trees.{expr_shape, term_shape, factor_shape, more_term_shape, more_factor_shape, in_terms, in_factors};
 ghost use Rattle.dsr_text.specs.Tables.{number_in, sum_of, product_of, typed_expr, typed_sum, typed_term, typed_product, typed_factor};
 ghost use Rattle.dsr_struct.specs.Known.{Fit};
 
-use dsr_tree::{self_, Factor, MoreFactor, MoreTerm, PlacedName, ProductSign, SumSign, Term2};
 use dsr_ir::{Expr, Name, NoMemory};
+use dsr_tree::{self, Factor, MoreFactor, MoreTerm, PlacedName, ProductSign, SumSign, Term2};
 use indexmap::IndexMap;
 use std::alloc::Global;
 
@@ -21,25 +20,21 @@ pub fn number_in(numbers: &IndexMap<Name, usize>, name: &PlacedName) -> u32
 }
 
 fn sum_of(alloc: Global, sign: SumSign, left: Expr, right: Expr) -> Result<Expr, NoMemory>
-    ensures { IfOk result (λ e. shape e ≡ sum_of sign (shape left) (shape right)) }
+    ensures { IfOk result (λ e. e ≡ sum_of sign left right) }
 {
-    let left = Box::new(alloc, left)?;
-    let right = Box::new(alloc, right)?;
-    Ok(match sign {
-        SumSign::Plus => Expr::Sum(left, right),
-        SumSign::Minus => Expr::Less(left, right),
-    })
+    match sign {
+        SumSign::Plus => Expr::sum(alloc, left, right),
+        SumSign::Minus => Expr::less(alloc, left, right),
+    }
 }
 
 fn product_of(alloc: Global, sign: ProductSign, left: Expr, right: Expr) -> Result<Expr, NoMemory>
-    ensures { IfOk result (λ e. shape e ≡ product_of sign (shape left) (shape right)) }
+    ensures { IfOk result (λ e. e ≡ product_of sign left right) }
 {
-    let left = Box::new(alloc, left)?;
-    let right = Box::new(alloc, right)?;
-    Ok(match sign {
-        ProductSign::Times => Expr::Times(left, right),
-        ProductSign::Over => Expr::Over(left, right),
-    })
+    match sign {
+        ProductSign::Times => Expr::times(alloc, left, right),
+        ProductSign::Over => Expr::over(alloc, left, right),
+    }
 }
 
 /// An expression, with each name as the number of the head's field.
@@ -47,10 +42,10 @@ fn product_of(alloc: Global, sign: ProductSign, left: Expr, right: Expr) -> Resu
 pub fn typed_expr(
     alloc: Global,
     fixed: &IndexMap<Name, usize>,
-    expr: &tree::Expr,
+    expr: &dsr_tree::Expr,
 ) -> Result<Expr, NoMemory>
     requires { Fit (get bytes_eq fixed.now) }
-    ensures { IfOk result (λ e. shape e ≡ typed_expr (get bytes_eq fixed.now) (expr_shape expr.now)) }
+    ensures { IfOk result (λ e. e ≡ typed_expr (get bytes_eq fixed.now) (expr_shape expr.now)) }
 {
     let first = typed_term(alloc, fixed, &expr.first)?;
     typed_sum(alloc, fixed, &expr.rest, first)
@@ -64,7 +59,7 @@ fn typed_sum(
     first: Expr,
 ) -> Result<Expr, NoMemory>
     requires { Fit (get bytes_eq fixed.now) }
-    ensures { IfOk result (λ e. shape e ≡ typed_sum (get bytes_eq fixed.now) (shape first) (in_terms (map more_term_shape rest.now))) }
+    ensures { IfOk result (λ e. e ≡ typed_sum (get bytes_eq fixed.now) first (in_terms (map more_term_shape rest.now))) }
 {
     let mut sum = first;
     for more in rest {
@@ -77,7 +72,7 @@ fn typed_sum(
 #[cycle(expression)]
 fn typed_term(alloc: Global, fixed: &IndexMap<Name, usize>, term: &Term2) -> Result<Expr, NoMemory>
     requires { Fit (get bytes_eq fixed.now) }
-    ensures { IfOk result (λ e. shape e ≡ typed_term (get bytes_eq fixed.now) (term_shape term.now)) }
+    ensures { IfOk result (λ e. e ≡ typed_term (get bytes_eq fixed.now) (term_shape term.now)) }
 {
     let first = typed_factor(alloc, fixed, &term.first)?;
     typed_product(alloc, fixed, &term.rest, first)
@@ -91,7 +86,7 @@ fn typed_product(
     first: Expr,
 ) -> Result<Expr, NoMemory>
     requires { Fit (get bytes_eq fixed.now) }
-    ensures { IfOk result (λ e. shape e ≡ typed_product (get bytes_eq fixed.now) (shape first) (in_factors (map more_factor_shape rest.now))) }
+    ensures { IfOk result (λ e. e ≡ typed_product (get bytes_eq fixed.now) first (in_factors (map more_factor_shape rest.now))) }
 {
     let mut product = first;
     for more in rest {
@@ -108,11 +103,11 @@ fn typed_factor(
     factor: &Factor,
 ) -> Result<Expr, NoMemory>
     requires { Fit (get bytes_eq fixed.now) }
-    ensures { IfOk result (λ e. shape e ≡ typed_factor (get bytes_eq fixed.now) (factor_shape factor.now)) }
+    ensures { IfOk result (λ e. e ≡ typed_factor (get bytes_eq fixed.now) (factor_shape factor.now)) }
 {
     match factor {
-        Factor::Number(number) => Ok(Expr::Num(number.number)),
-        Factor::Name(name) => Ok(Expr::Fixed(number_in(fixed, name))),
+        Factor::Number(number) => Ok(Expr::number(number.number)),
+        Factor::Name(name) => Ok(Expr::fixed(number_in(fixed, name))),
         Factor::Group { inner, .. } => typed_expr(alloc, fixed, inner),
     }
 }
@@ -121,10 +116,10 @@ fn typed_factor(
 pub fn typed_maybe_expr(
     alloc: Global,
     fixed: &IndexMap<Name, usize>,
-    expr: &Option<tree::Expr>,
+    expr: &Option<dsr_tree::Expr>,
 ) -> Result<Option<Expr>, NoMemory>
     requires { Fit (get bytes_eq fixed.now) }
-    ensures { IfOk result (λ e. option_map shape e ≡ option_map (typed_expr (get bytes_eq fixed.now)) (option_map expr_shape expr.now)) }
+    ensures { IfOk result (λ e. e ≡ option_map (typed_expr (get bytes_eq fixed.now)) (option_map expr_shape expr.now)) }
 {
     match expr {
         Some(expr) => Ok(Some(typed_expr(alloc, fixed, expr)?)),

@@ -6,8 +6,8 @@ ghost use Rattle.dsr_struct.specs.Known.{known_of, AllFit};
 
 use crate::lookups::Names;
 use crate::typed_exprs::number_in;
-use dsr_tree::{Relation, Set, Target, Var, View};
 use dsr_ir::{NoMemory, Rel, Seq, SetDecl, TryClone};
+use dsr_tree::{Relation, Set, Target, Var, View};
 use std::alloc::Global;
 
 impl Names<'_> {

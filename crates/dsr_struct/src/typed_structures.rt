@@ -1,6 +1,5 @@
 // The tables of structures and pools.
 ghost use Rattle.std.specs.Prelude.{◌≡◌, ◌∷◌, [], All, map, option_map, option_and_then, IfOk};
-ghost use Rattle.dsr_ir.specs.Shapes.{field_shape as shape_of_field, structure_shape as shape_of_structure, pool_shape as shape_of_pool};
 ghost use Rattle.dsr_tree.specs.Trees.{named, named_shape, field_shape, structure_shape, pool_shape};
 ghost use Rattle.dsr_text.specs.Declarations.{width_faults};
 ghost use Rattle.dsr_text.specs.Names.{used_structure};
@@ -9,20 +8,20 @@ ghost use Rattle.dsr_struct.specs.Known.{known_of, AllFit, HasLegalWidth, HasLeg
 
 use crate::lookups::Names;
 use crate::typed_exprs::{number_in, typed_expr, typed_maybe_expr};
-use dsr_tree::{self_, Content, Fresh, NamedField, PlacedName};
 use dsr_ir::{Field, Kind, Name, NoMemory, Pool, Seq, Structure, TryClone, Width};
+use dsr_tree::{self, Content, Fresh, NamedField, PlacedName};
 use std::alloc::Global;
 
-fn typed_width(width: tree::Width) -> Width
+fn typed_width(width: dsr_tree::Width) -> Width
     requires legal { width_faults width ≡ [] }
     ensures { result ≡ typed_width width }
 {
     match width {
-        tree::Width::U8 { .. } => Width::U8,
-        tree::Width::U16 { .. } => Width::U16,
-        tree::Width::U32 { .. } => Width::U32,
-        tree::Width::U64 { .. } => Width::U64,
-        tree::Width::Bits { number, .. } => Width::Bits(number.number as u8),
+        dsr_tree::Width::U8 { .. } => Width::U8,
+        dsr_tree::Width::U16 { .. } => Width::U16,
+        dsr_tree::Width::U32 { .. } => Width::U32,
+        dsr_tree::Width::U64 { .. } => Width::U64,
+        dsr_tree::Width::Bits { number, .. } => Width::Bits(number.number as u8),
     }
 }
 
@@ -61,7 +60,7 @@ impl Names<'_> {
     fn typed_named_field(&self, alloc: Global, field: &NamedField) -> Result<Field, NoMemory>
         requires fit { AllFit (known_of self.now) }
         requires legal { width_faults field.now.width ≡ [] }
-        ensures { IfOk result (λ f. shape_of_field f ≡ typed_field (known_of self.now) (named (named_shape field.now))) }
+        ensures { IfOk result (λ f. f ≡ typed_field (known_of self.now) (named (named_shape field.now))) }
     {
         Ok(Field {
             name: field.name.name.clone(alloc)?,
@@ -73,14 +72,14 @@ impl Names<'_> {
     }
 
     // A gap of n bytes is an array of n bytes without a name.
-    fn typed_field(&self, alloc: Global, field: &tree::Field) -> Result<Field, NoMemory>
+    fn typed_field(&self, alloc: Global, field: &dsr_tree::Field) -> Result<Field, NoMemory>
         requires fit { AllFit (known_of self.now) }
         requires legal { HasLegalWidth (field_shape field.now) }
-        ensures { IfOk result (λ f. shape_of_field f ≡ typed_field (known_of self.now) (field_shape field.now)) }
+        ensures { IfOk result (λ f. f ≡ typed_field (known_of self.now) (field_shape field.now)) }
     {
         match field {
-            tree::Field::Named(field) => self.typed_named_field(alloc, field),
-            tree::Field::Skip { length, .. } => Ok(Field {
+            dsr_tree::Field::Named(field) => self.typed_named_field(alloc, field),
+            dsr_tree::Field::Skip { length, .. } => Ok(Field {
                 name: Name::new(Vec::new(alloc)),
                 fixed: false,
                 width: Width::U8,
@@ -90,10 +89,14 @@ impl Names<'_> {
         }
     }
 
-    fn typed_fields(&self, alloc: Global, fields: &[tree::Field]) -> Result<Seq<Field>, NoMemory>
+    fn typed_fields(
+        &self,
+        alloc: Global,
+        fields: &[dsr_tree::Field],
+    ) -> Result<Seq<Field>, NoMemory>
         requires fit { AllFit (known_of self.now) }
         requires legal { All HasLegalWidth (map field_shape fields.now) }
-        ensures { IfOk result (λ fs. map shape_of_field fs ≡ map (typed_field (known_of self.now)) (map field_shape fields.now)) }
+        ensures { IfOk result (λ fs. fs ≡ map (typed_field (known_of self.now)) (map field_shape fields.now)) }
     {
         let mut typed = Vec::new(alloc);
         for field in fields {
@@ -115,11 +118,11 @@ impl Names<'_> {
     fn typed_structure(
         &self,
         alloc: Global,
-        structure: &tree::Structure,
+        structure: &dsr_tree::Structure,
     ) -> Result<Structure, NoMemory>
         requires fit { AllFit (known_of self.now) }
         requires legal { HasLegalWidths (structure_shape structure.now) }
-        ensures { IfOk result (λ s. shape_of_structure s ≡ typed_structure (known_of self.now) (structure_shape structure.now)) }
+        ensures { IfOk result (λ s. s ≡ typed_structure (known_of self.now) (structure_shape structure.now)) }
     {
         Ok(Structure {
             name: structure.name.name.clone(alloc)?,
@@ -132,7 +135,7 @@ impl Names<'_> {
     pub fn typed_structures(&self, alloc: Global) -> Result<Seq<Structure>, NoMemory>
         requires fit { AllFit (known_of self.now) }
         requires legal { All HasLegalWidths (known_of self.now).tree.structures }
-        ensures { IfOk result (λ ss. map shape_of_structure ss ≡ map (typed_structure (known_of self.now)) (known_of self.now).tree.structures) }
+        ensures { IfOk result (λ ss. ss ≡ map (typed_structure (known_of self.now)) (known_of self.now).tree.structures) }
     {
         let mut typed = Vec::new(alloc);
         for structure in self.tree.structures.items() {
@@ -168,9 +171,9 @@ impl Names<'_> {
         Ok(None)
     }
 
-    fn typed_pool(&self, alloc: Global, pool: &tree::Pool) -> Result<Pool, NoMemory>
+    fn typed_pool(&self, alloc: Global, pool: &dsr_tree::Pool) -> Result<Pool, NoMemory>
         requires fit { AllFit (known_of self.now) }
-        ensures { IfOk result (λ p. shape_of_pool p ≡ typed_pool (known_of self.now) (pool_shape pool.now)) }
+        ensures { IfOk result (λ p. p ≡ typed_pool (known_of self.now) (pool_shape pool.now)) }
     {
         let fixed = &self.tables.fixed;
         Ok(Pool {
@@ -189,7 +192,7 @@ impl Names<'_> {
     /// The table of pools.
     pub fn typed_pools(&self, alloc: Global) -> Result<Seq<Pool>, NoMemory>
         requires fit { AllFit (known_of self.now) }
-        ensures { IfOk result (λ ps. map shape_of_pool ps ≡ map (typed_pool (known_of self.now)) (known_of self.now).tree.pools) }
+        ensures { IfOk result (λ ps. ps ≡ map (typed_pool (known_of self.now)) (known_of self.now).tree.pools) }
     {
         let mut typed = Vec::new(alloc);
         for pool in self.tree.pools.items() {

@@ -28,9 +28,21 @@ const FIELDS: [Row; 7] = [
     (b"p", false, Width::U16, Kind::Refers { pool: 2 }),
 ];
 
+fn is_kind(found: Kind, wanted: Kind) -> bool {
+    match (found, wanted) {
+        (Kind::Number { init: found }, Kind::Number { init: wanted }) => found == wanted,
+        (Kind::Refers { pool: found }, Kind::Refers { pool: wanted }) => found == wanted,
+        (Kind::Gap, Kind::Gap) => true,
+        _ => false,
+    }
+}
+
 fn is_field(field: &Field, row: &Row) -> bool {
     let (name, fixed, width, kind) = *row;
-    field.name.bytes() == name && field.fixed == fixed && field.width == width && field.kind == kind
+    field.name.bytes() == name
+        && field.fixed == fixed
+        && field.width == width
+        && is_kind(field.kind, kind)
 }
 
 fn are_fields(fields: &[Field]) -> bool {
@@ -66,12 +78,12 @@ fn are_pools(pools: &[Pool]) -> bool {
     match pools {
         [p, q] => {
             p.structure == 0
-                && p.slot == Some(Expr::Num(8))
-                && p.step == Expr::Fixed(1)
+                && p.slot == Some(Expr::number(8))
+                && p.step == Expr::fixed(1)
                 && has_avoided(p, &[1, 0])
                 && q.structure == 2
                 && q.slot.is_none()
-                && q.none == Expr::Num(9)
+                && q.none == Expr::number(9)
                 && q.avoid.is_none()
         }
         _ => false,
@@ -108,20 +120,14 @@ fn are_tables(tables: &Structures) -> bool {
 
 // `n + 1 - (2)`, where n is field 1 of `Head`.
 fn length_of_m(alloc: Global) -> Result<Expr, NoMemory> {
-    let n = Box::new(alloc, Expr::Fixed(1))?;
-    let one = Box::new(alloc, Expr::Num(1))?;
-    let sum = Box::new(alloc, Expr::Sum(n, one))?;
-    let two = Box::new(alloc, Expr::Num(2))?;
-    Ok(Expr::Less(sum, two))
+    let sum = Expr::sum(alloc, Expr::fixed(1), Expr::number(1))?;
+    Expr::less(alloc, sum, Expr::number(2))
 }
 
 // `n * 2 / 3`
 fn start_of_p(alloc: Global) -> Result<Expr, NoMemory> {
-    let n = Box::new(alloc, Expr::Fixed(1))?;
-    let two = Box::new(alloc, Expr::Num(2))?;
-    let product = Box::new(alloc, Expr::Times(n, two))?;
-    let three = Box::new(alloc, Expr::Num(3))?;
-    Ok(Expr::Over(product, three))
+    let product = Expr::times(alloc, Expr::fixed(1), Expr::number(2))?;
+    Expr::over(alloc, product, Expr::number(3))
 }
 
 fn has_length(structures: &[Structure], length: &Expr) -> bool {

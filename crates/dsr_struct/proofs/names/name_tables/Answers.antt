@@ -1,4 +1,4 @@
-use Rattle.std.proofs.Common.{Some, [], map, take, length, refl, ap, ◌∙◌}
+use Rattle.std.proofs.Common.{Some, map, take, length, refl, ap, ◌∙◌}
 use Rattle.std.proofs.lemmas.List.{take_min}
 use Rattle.std.proofs.Math.Nat.{min_comm}
 use Rattle.std.specs.List.{position_from}

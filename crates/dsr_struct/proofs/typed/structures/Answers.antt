@@ -3,10 +3,8 @@ use Rattle.std.proofs.lemmas.Result.{err_from_is_err_and}
 use Rattle.dsr_tree.specs.Trees.{tree_shape}
 use Rattle.dsr_text.specs.Tables.{tables_with}
 use Rattle.dsr_struct.specs.Known.{told_by}
-use Rattle.dsr_meaning.specs.Typed.{AreTyped}
 use Rattle.dsr_meaning.specs.Placeable.{ArePlaceable}
 use Rattle.dsr_struct.proofs.Outcome.{fault_told, no_fault, numbers_fit, widths_legal}
-use Rattle.dsr_struct.proofs.ResolvedTables.{resolved_tables}
 use Rattle.dsr_struct.proofs.TypedTables.{typed_tables}
 use Rattle.dsr_struct.proofs.typed.structures.Goals as goal
 
@@ -34,7 +32,6 @@ returns c =
     record {
       no_fault = empty;
       tables = made;
-      typed = subst ArePlaceable (sym made) (typed_tables tree empty);
-      resolved = subst AreTyped (sym made) (resolved_tables tree empty);
+      placeable = subst ArePlaceable (sym made) (typed_tables tree empty);
       fault = tt;
     }

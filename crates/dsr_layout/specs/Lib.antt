@@ -1,5 +1,4 @@
 pub mod Checks
-pub mod Counts
 pub mod Ends
 pub mod FixedCells
 pub mod Kinds

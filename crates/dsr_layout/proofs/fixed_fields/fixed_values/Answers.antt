@@ -1,6 +1,5 @@
 use Rattle.std.proofs.Common.{◌≡◌, ℕ, inr, sym, ap, ◌∙◌, length}
 use Rattle.std.specs.Prelude.{option_map}
-
 use Rattle.dsr_meaning.specs.FixedFields.{fixed_cell, head_fields}
 use Rattle.dsr_meaning.specs.Refusals.{cut_refusals}
 use Rattle.dsr_layout.specs.Tables.{known, clip_cell}

@@ -22,9 +22,9 @@ use Rattle.dsr_meaning.specs.Places.{size_of}
 use Rattle.dsr_meaning.specs.Refusals.{Refusal, cut_refusals, head_refusals, size_refusals, value_refusals, outside_refusals, overlap_refusals, subtype_refusals, zero_refusals, layout_refusals, refusals_with, refusals_by, refusals}
 use Rattle.dsr_meaning.specs.Placeable.{IsPlaceableStructure}
 
--- typed structures have few fields
+-- placeable structures have few fields
 pub few_fields : (ss : List Structure) → All IsPlaceableStructure ss → All HasFewFields ss
-few_fields ss typed k d lt = (typed k d lt).few_fields
+few_fields ss placeable k d lt = (placeable k d lt).few_fields
 
 -- lists in a row, in two parts
 in_two : (a b c d e : List Refusal) → a ++ (b ++ (c ++ (d ++ e))) ≡ (a ++ (b ++ (c ++ d))) ++ e

@@ -2,6 +2,7 @@ pub mod Checks
 pub mod Ends
 pub mod FixedCells
 pub mod Kinds
+pub mod Laws
 pub mod Pools
 pub mod Ranges
 pub mod Readings

@@ -1,6 +1,7 @@
 pub mod Checks
 pub mod Ends
 pub mod FixedCells
+pub mod InRange
 pub mod Kinds
 pub mod Laws
 pub mod Pools

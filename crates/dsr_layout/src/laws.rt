@@ -7,6 +7,8 @@ ghost use Rattle.dsr_ir.specs.declared.declarations.Structures.{Structures};
 ghost use Rattle.dsr_ir.specs.declared.layouts.PoolNumbers.{PoolNumbers};
 ghost use Rattle.dsr_meaning.specs.Layouts.{layout_of};
 ghost use Rattle.dsr_meaning.specs.Refusals.{ByteRange, share_byte, is_code_below, instances, instance_limit, refusals};
+ghost use Rattle.dsr_meaning.specs.Typed.{IsTyped};
+ghost use Rattle.dsr_layout.specs.InRange.{FactsLieInRange};
 ghost use Rattle.dsr_layout.specs.Laws as laws;
 ghost use Rattle.dsr_layout.specs.Laws.{OfEachLayout, HasByte, HasCode};
 
@@ -43,6 +45,12 @@ pub fn codes_fit_references()
 /// that size by `=`, `<=` or `>=`.
 pub fn counts_fit_values()
     ensures { OfEachLayout laws.CountsFitValues }
+{}
+
+/// A fact of the model lies in the pools of its set or relation, at slots that they have; a target
+/// that is a number is one of a relation to numbers.
+pub fn facts_lie_in_range()
+    ensures { OfEachLayout (λ spec bytes layout. IsTyped spec → FactsLieInRange spec bytes layout) }
 {}
 
 /// The instances of rules and constraints are within their limit.

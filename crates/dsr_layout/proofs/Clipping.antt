@@ -2,7 +2,6 @@
 use Rattle.std.proofs.Common.{◌≡◌, ◌<◌, ◌≤◌, ◌+◌, ◌*◌, ◌^◌, ℕ, List, [], ◌∷◌, ◌++◌, map, drop, length, get_or, Option, None, Some, option_map, Result, Err, ok_or, refl, sym, ap, ◌∙◌, arith}
 use Rattle.std.specs.Option.{option_and_then, option_map_or}
 use Rattle.std.proofs.lemmas.List.{append_assoc, append-nil, drop_all}
-use Rattle.dsr_ir.specs.Exprs.{expr_shape}
 use Rattle.dsr_ir.specs.declared.declarations.Field.{Field}
 use Rattle.dsr_ir.specs.declared.layouts.FieldPlace.{FieldPlace}
 use Rattle.dsr_meaning.specs.Cells.{width_bits}
@@ -77,24 +76,24 @@ module _ (fixed : ℕ → Option ℕ) where
     left : drop i xs ≡ x ∷ drop (i + 1) xs
     left = drop_item xs i x lt is
 
-    pub behind_next : (bit : ℕ) {new : ℕ} {entries : Option ℕ} {all : Option ℕ} → entries_of fixed (option_map expr_shape x.len) ≡ Some entries → new ≡ clip (bit_behind bit (record { bits = width_bits x.width; entries = entries })) → option_map clip (bit_behind_fields fixed bit (drop i xs)) ≡ all → option_map clip (bit_behind_fields fixed new (map field_shape (drop (i + 1) xs))) ≡ all
+    pub behind_next : (bit : ℕ) {new : ℕ} {entries : Option ℕ} {all : Option ℕ} → entries_of fixed x.len ≡ Some entries → new ≡ clip (bit_behind bit (record { bits = width_bits x.width; entries = entries })) → option_map clip (bit_behind_fields fixed bit (drop i xs)) ≡ all → option_map clip (bit_behind_fields fixed new (drop (i + 1) xs)) ≡ all
     behind_next bit {new} {entries} {all} known made before =
         let behind = bit_behind bit (record { bits = width_bits x.width; entries = entries }) in
-        behind_same (map field_shape (drop (i + 1) xs)) new behind (ap clip made ∙ sym (clip_twice behind))
-        ∙ sym (ap (λ o. option_map clip (option_and_then (λ e. bit_behind_fields fixed (bit_behind bit e) (map field_shape (drop (i + 1) xs))) (option_map (λ n. record { bits = width_bits x.width; entries = n }) o))) known)
+        behind_same (drop (i + 1) xs) new behind (ap clip made ∙ sym (clip_twice behind))
+        ∙ sym (ap (λ o. option_map clip (option_and_then (λ e. bit_behind_fields fixed (bit_behind bit e) (drop (i + 1) xs)) (option_map (λ n. record { bits = width_bits x.width; entries = n }) o))) known)
         ∙ sym (ap (λ ys. option_map clip (bit_behind_fields fixed bit ys)) left)
         ∙ before
 
-    pub behind_missing : (bit : ℕ) {all : Option ℕ} → entries_of fixed (option_map expr_shape x.len) ≡ None → option_map clip (bit_behind_fields fixed bit (drop i xs)) ≡ all → None ≡ all
+    pub behind_missing : (bit : ℕ) {all : Option ℕ} → entries_of fixed x.len ≡ None → option_map clip (bit_behind_fields fixed bit (drop i xs)) ≡ all → None ≡ all
     behind_missing bit {all} unknown before =
-        sym (ap (λ o. option_map clip (option_and_then (λ e. bit_behind_fields fixed (bit_behind bit e) (map field_shape (drop (i + 1) xs))) (option_map (λ n. record { bits = width_bits x.width; entries = n }) o))) unknown)
+        sym (ap (λ o. option_map clip (option_and_then (λ e. bit_behind_fields fixed (bit_behind bit e) (drop (i + 1) xs)) (option_map (λ n. record { bits = width_bits x.width; entries = n }) o))) unknown)
         ∙ sym (ap (λ ys. option_map clip (bit_behind_fields fixed bit ys)) left)
         ∙ before
 
-    pub placed_next : (bit : ℕ) (old : List FieldPlace) {new : ℕ} {entries : Option ℕ} {places : List FieldPlace} {all : Option (List FieldPlace)} → bit < 2 ^ 64 → entries_of fixed (option_map expr_shape x.len) ≡ Some entries → places ≡ old ++ record { bit = bit; width = x.width; length = entries } ∷ [] → new ≡ clip (bit_behind bit (record { bits = width_bits x.width; entries = entries })) → option_map (λ ps. old ++ ps) (option_map (map clip_place) (placed fixed bit (drop i xs))) ≡ all → option_map (λ ps. places ++ ps) (option_map (map clip_place) (placed fixed new (map field_shape (drop (i + 1) xs)))) ≡ all
+    pub placed_next : (bit : ℕ) (old : List FieldPlace) {new : ℕ} {entries : Option ℕ} {places : List FieldPlace} {all : Option (List FieldPlace)} → bit < 2 ^ 64 → entries_of fixed x.len ≡ Some entries → places ≡ old ++ record { bit = bit; width = x.width; length = entries } ∷ [] → new ≡ clip (bit_behind bit (record { bits = width_bits x.width; entries = entries })) → option_map (λ ps. old ++ ps) (option_map (map clip_place) (placed fixed bit (drop i xs))) ≡ all → option_map (λ ps. places ++ ps) (option_map (map clip_place) (placed fixed new (drop (i + 1) xs))) ≡ all
     placed_next bit old {new} {entries} {places} {all} small known pushed made before =
         let behind = bit_behind bit (record { bits = width_bits x.width; entries = entries }) in
-        let rest = map field_shape (drop (i + 1) xs) in
+        let rest = drop (i + 1) xs in
         ap (λ qs. option_map (λ ps. qs ++ ps) (option_map (map clip_place) (placed fixed new rest))) pushed
         ∙ ap (option_map (λ ps. (old ++ record { bit = bit; width = x.width; length = entries } ∷ []) ++ ps)) (placed_same rest new behind (ap clip made ∙ sym (clip_twice behind)))
         ∙ sym (one_more old (record { bit = bit; width = x.width; length = entries }) (option_map (map clip_place) (placed fixed behind rest)))
@@ -104,11 +103,11 @@ module _ (fixed : ℕ → Option ℕ) where
         ∙ sym (ap (λ ys. option_map (λ ps. old ++ ps) (option_map (map clip_place) (placed fixed bit ys))) left)
         ∙ before
 
-    pub placed_missing : (bit : ℕ) (old : List FieldPlace) {all : Option (List FieldPlace)} → entries_of fixed (option_map expr_shape x.len) ≡ None → option_map (λ ps. old ++ ps) (option_map (map clip_place) (placed fixed bit (drop i xs))) ≡ option_map (map clip_place) all → all ≡ None
+    pub placed_missing : (bit : ℕ) (old : List FieldPlace) {all : Option (List FieldPlace)} → entries_of fixed x.len ≡ None → option_map (λ ps. old ++ ps) (option_map (map clip_place) (placed fixed bit (drop i xs))) ≡ option_map (map clip_place) all → all ≡ None
     placed_missing bit old {all} unknown before = none_clipped all (
         sym before
         ∙ ap (λ ys. option_map (λ ps. old ++ ps) (option_map (map clip_place) (placed fixed bit ys))) left
-        ∙ ap (λ o. option_map (λ ps. old ++ ps) (option_map (map clip_place) (option_and_then (λ e. option_map (λ ps. record { bit = bit; width = x.width; length = e.entries } ∷ ps) (placed fixed (bit_behind bit e) (map field_shape (drop (i + 1) xs)))) (option_map (λ n. record { bits = width_bits x.width; entries = n }) o)))) unknown)
+        ∙ ap (λ o. option_map (λ ps. old ++ ps) (option_map (map clip_place) (option_and_then (λ e. option_map (λ ps. record { bit = bit; width = x.width; length = e.entries } ∷ ps) (placed fixed (bit_behind bit e) (drop (i + 1) xs))) (option_map (λ n. record { bits = width_bits x.width; entries = n }) o)))) unknown)
 
   -- nothing is left
   pub behind_last : (bit : ℕ) {all : Option ℕ} (xs : List Field) (i : ℕ) → length xs ≤ i → bit < 2 ^ 64 → option_map clip (bit_behind_fields fixed bit (drop i xs)) ≡ all → Some bit ≡ all

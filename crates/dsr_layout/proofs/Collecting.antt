@@ -1,6 +1,5 @@
 -- A list of what items have, which grows at its end.
-use Rattle.std.proofs.Common.{◌≡◌, ◌<◌, ◌+◌, ℕ, zero, suc, List, [], ◌∷◌, ◌++◌, map, take, length, get_or, Option, None, Some, option_map, option_and_then, slice_get, refl, sym, ap, ◌∙◌, arith}
-use Rattle.std.proofs.lemmas.List.{map-append}
+use Rattle.std.proofs.Common.{◌≡◌, ◌<◌, ◌+◌, ℕ, zero, suc, List, [], ◌∷◌, ◌++◌, take, length, get_or, Option, None, Some, option_map, option_and_then, slice_get, refl, sym, ap, ◌∙◌, arith}
 use Rattle.dsr_meaning.specs.Layouts.{collect_at}
 use Rattle.dsr_layout.proofs.Items.{take_item}
 
@@ -19,12 +18,11 @@ module _ {S T : Type 0} (f : S → Option T) where
       rw has (ap (λ zs. Some (zs ++ y ∷ [])) none)
   collected_push n (s ∷ ss) x {ys = ys} {y = y} e has = push_behind (f s) (collect_at (λ _ s. f s) (suc n) ss) (collect_at (λ _ s. f s) (suc n) (ss ++ x ∷ [])) y (λ zs h. collected_push (suc n) ss x h has) e
 
-  -- what the items up to one have, and then what that one has; items are seen by their shapes
-  pub collected_next : {X : Type 0} (g : X → S) (n : ℕ) (xs : List X) (i : ℕ) (x : X) {ys : List T} {y : T} → i < length xs → x ≡ get_or xs i x → collect_at (λ _ s. f s) n (map g (take i xs)) ≡ Some ys → f (g x) ≡ Some y → collect_at (λ _ s. f s) n (map g (take (i + 1) xs)) ≡ Some (ys ++ y ∷ [])
-  collected_next g n xs i x {ys} {y} lt is e has =
-      ap (λ zs. collect_at (λ _ s. f s) n (map g zs)) (take_item xs i x lt is)
-      ∙ ap (collect_at (λ _ s. f s) n) (map-append g (take i xs) (x ∷ []))
-      ∙ collected_push n (map g (take i xs)) (g x) e has
+  -- what the items up to one have, and then what that one has
+  pub collected_next : (n : ℕ) (xs : List S) (i : ℕ) (x : S) {ys : List T} {y : T} → i < length xs → x ≡ get_or xs i x → collect_at (λ _ s. f s) n (take i xs) ≡ Some ys → f x ≡ Some y → collect_at (λ _ s. f s) n (take (i + 1) xs) ≡ Some (ys ++ y ∷ [])
+  collected_next n xs i x {ys} {y} lt is e has =
+      ap (collect_at (λ _ s. f s) n) (take_item xs i x lt is)
+      ∙ collected_push n (take i xs) x e has
 
 -- what a list has under a number is what an item has
 pub record IsOf {S T : Type 0} (f : ℕ → S → Option T) (xs : List S) (k m : ℕ) (y : T) : Type 0 where

@@ -1,7 +1,7 @@
 -- How the parts of all refusals are told, one after another.
-use Rattle.std.proofs.Common.{◌≡◌, ◌<◌, ◌≤◌, ℕ, List, [], ◌++◌, map, length, get_or, All, Option, None, Some, true, is_some, inl, inr, refl, sym, ap, ◌∙◌, subst}
+use Rattle.std.proofs.Common.{◌≡◌, ℕ, List, [], ◌++◌, length, All, Option, None, Some, true, is_some, inl, inr, refl, sym, ap, ◌∙◌, subst}
 use Rattle.std.specs.Option.{option_map_or}
-use Rattle.std.proofs.lemmas.List.{append_assoc, get_or-map, length-map}
+use Rattle.std.proofs.lemmas.List.{append_assoc}
 use Rattle.dsr_ir.specs.declared.declarations.Structures.{Structures}
 use Rattle.dsr_ir.specs.declared.declarations.Spec.{Spec}
 use Rattle.dsr_ir.specs.declared.declarations.Structure.{Structure}
@@ -22,12 +22,9 @@ use Rattle.dsr_meaning.specs.Places.{size_of}
 use Rattle.dsr_meaning.specs.Refusals.{Refusal, cut_refusals, head_refusals, size_refusals, value_refusals, outside_refusals, overlap_refusals, subtype_refusals, zero_refusals, layout_refusals, refusals_with, refusals_by, refusals}
 use Rattle.dsr_meaning.specs.Placeable.{IsPlaceableStructure}
 
--- typed structures have few fields
+-- placeable structures have few fields
 pub few_fields : (ss : List Structure) → All IsPlaceableStructure ss → All HasFewFields ss
-few_fields ss typed k d lt =
-    let at = typed k d (subst (λ n. k < n) (sym (length-map ss structure_shape)) lt) in
-    let is = get_or-ss k d d lt in
-    subst (λ n. n ≤ 64) (length-map (get_or ss k d).fields field_shape) (subst IsPlaceableStructure is at).few_fields
+few_fields ss placeable k d lt = (placeable k d lt).few_fields
 
 -- lists in a row, in two parts
 in_two : (a b c d e : List Refusal) → a ++ (b ++ (c ++ (d ++ e))) ≡ (a ++ (b ++ (c ++ d))) ++ e

@@ -3,7 +3,6 @@ use Rattle.std.proofs.Common.{◌≡◌, ◌<◌, ◌≤◌, ◌^◌, ℕ, suc, 
 use Rattle.std.specs.Option.{option_map_or}
 use Rattle.std.proofs.lemmas.Bool.Decides.{nat_tests}
 use Rattle.dsr_ir.specs.Layouts.{field_place}
-
 use Rattle.dsr_ir.specs.declared.constraints.Atom.TheVariants.{Value}
 use Rattle.dsr_ir.specs.declared.constraints.Bound.TheVariants.{Size}
 use Rattle.dsr_ir.specs.declared.constraints.Conj.{Conj}

@@ -1,5 +1,5 @@
 -- The fixed fields behind which the image ends.
-use Rattle.std.proofs.Common.{◌≡◌, ◌<◌, ◌≤◌, ◌+◌, ◌*◌, ◌-◌, ◌^◌, ℕ, zero, suc, Bool, true, false, ltb, min, List, [], ◌∷◌, ◌++◌, map, length, drop, Some, None, Option, refl, ap, ◌∙◌, arith}
+use Rattle.std.proofs.Common.{◌≡◌, ◌<◌, ◌≤◌, ◌+◌, ◌*◌, ◌-◌, ◌^◌, ℕ, zero, suc, Bool, true, false, ltb, min, List, [], ◌∷◌, ◌++◌, length, drop, Some, None, Option, refl, ap, ◌∙◌, arith}
 use Rattle.std.specs.Prelude.{slice_get, option_map}
 use Rattle.std.specs.Option.{option_map_or}
 use Rattle.std.proofs.lemmas.Bool.Decides.{nat_tests}
@@ -44,20 +44,21 @@ left_from [] i lt = absurd (omega arith)
 left_from (x ∷ xs) zero lt = (x, refl)
 left_from (x ∷ xs) (suc i) lt = left_from xs i (omega arith)
 
--- the next field, where its cell lies in the image
-pub cut_next : {X : Type 0} (shape : X → Field) (cell : ℕ → Option Cell) (bytes : ℕ) (xs : List X) (i : ℕ) → i < length xs → cuts bytes (cell i) ≡ false → cut_from cell bytes i (map shape (drop i xs)) ≡ cut_from cell bytes (i + 1) (map shape (drop (i + 1) xs))
-cut_next shape cell bytes xs i lt whole =
-    let more : suc i ≡ i + 1 = omega arith in
-    ap (λ ys. cut_from cell bytes i (map shape ys)) (left_from xs i lt).1
-    ∙ ap (λ b. refused_when b Short ++ cut_from cell bytes (suc i) (map shape (drop (suc i) xs))) whole
-    ∙ ap (λ n. cut_from cell bytes n (map shape (drop n xs))) more
+module _ (cell : ℕ → Option Cell) (bytes : ℕ) (fields : List Field) (i : ℕ) where
+  -- the next field, where its cell lies in the image
+  pub cut_next : i < length fields → cuts bytes (cell i) ≡ false → cut_from cell bytes i (drop i fields) ≡ cut_from cell bytes (i + 1) (drop (i + 1) fields)
+  cut_next lt whole =
+      let more : suc i ≡ i + 1 = omega arith in
+      ap (cut_from cell bytes i) (left_from fields i lt).1
+      ∙ ap (λ b. refused_when b Short ++ cut_from cell bytes (suc i) (drop (suc i) fields)) whole
+      ∙ ap (λ n. cut_from cell bytes n (drop n fields)) more
 
--- the first field whose cell doesn't
-pub cut_here : {X : Type 0} (shape : X → Field) (cell : ℕ → Option Cell) (bytes : ℕ) (xs : List X) (i : ℕ) → i < length xs → cuts bytes (cell i) ≡ true → told_of (cut_from cell bytes i (map shape (drop i xs))) ≡ Some (told_as Short)
-cut_here shape cell bytes xs i lt is =
-    ap (λ ys. told_of (cut_from cell bytes i (map shape ys))) (left_from xs i lt).1
-    ∙ ap (λ b. told_of (refused_when b Short ++ cut_from cell bytes (suc i) (map shape (drop (suc i) xs)))) is
+  -- the first field whose cell doesn't
+  pub cut_here : i < length fields → cuts bytes (cell i) ≡ true → told_of (cut_from cell bytes i (drop i fields)) ≡ Some (told_as Short)
+  cut_here lt is =
+      ap (λ fs. told_of (cut_from cell bytes i fs)) (left_from fields i lt).1
+      ∙ ap (λ b. told_of (refused_when b Short ++ cut_from cell bytes (suc i) (drop (suc i) fields))) is
 
--- no field is left
-pub cut_all : {X : Type 0} (shape : X → Field) (cell : ℕ → Option Cell) (bytes : ℕ) (xs : List X) (i : ℕ) → length xs ≤ i → cut_from cell bytes i (map shape (drop i xs)) ≡ []
-cut_all shape cell bytes xs i past = ap (λ ys. cut_from cell bytes i (map shape ys)) (drop_all i xs past)
+  -- no field is left
+  pub cut_all : length fields ≤ i → cut_from cell bytes i (drop i fields) ≡ []
+  cut_all past = ap (cut_from cell bytes i) (drop_all i fields past)

@@ -1,10 +1,11 @@
 -- What fits where nothing is refused: the head its image, and structures the slots that they describe.
-use Rattle.std.proofs.Common.{◌≡◌, ◌<◌, ◌≤◌, ◌+◌, ◌-◌, ◌*◌, ◌/◌, ◌%◌, ◌^◌, ℕ, Bool, true, false, not, ◌||◌, nat_eq, nat_lt, List, [], ◌++◌, length, Option, None, Some, IfSome, IsSome, is_none, option_map, slice_get, if◌then◌else◌, refl, sym, ap, ◌∙◌, subst, arith}
+use Rattle.std.proofs.Common.{◌≡◌, ◌<◌, ◌≤◌, ◌+◌, ◌-◌, ◌*◌, ◌/◌, ◌%◌, ◌^◌, ℕ, Bool, true, false, not, ◌||◌, nat_eq, nat_lt, List, [], ◌++◌, length, Option, None, Some, IfSome, IsSome, IsSomeAnd, is_none, option_map, option_and_then, unwrap_or, slice_get, if◌then◌else◌, refl, sym, ap, ◌∙◌, subst, arith}
 use Rattle.std.specs.Option.{option_map_or}
 use Rattle.std.proofs.lemmas.Bool.{eq-eqb}
 use Rattle.std.proofs.lemmas.Bool.Decides.{nat_tests}
 use Rattle.dsr_ir.specs.Layouts.{pool_numbers}
 use Rattle.dsr_ir.specs.declared.declarations.Field.{Field}
+use Rattle.dsr_ir.specs.declared.declarations.FieldRef.{FieldRef}
 use Rattle.dsr_ir.specs.declared.declarations.Pool.{Pool}
 use Rattle.dsr_ir.specs.declared.declarations.Structure.{Structure}
 use Rattle.dsr_ir.specs.declared.declarations.Structures.{Structures}
@@ -18,13 +19,17 @@ use Rattle.dsr_meaning.specs.Lists.{each_at}
 use Rattle.dsr_meaning.specs.Instances.{kind_pool}
 use Rattle.dsr_meaning.specs.FixedFields.{head_fields, fixed_cell, fixed_value}
 use Rattle.dsr_meaning.specs.Layouts.{bytes_of, last_code, pool_of, layout_with, layout_of}
+use Rattle.dsr_meaning.specs.Legal.{IsByteOf}
 use Rattle.dsr_meaning.specs.Places.{lineage, size_of}
-use Rattle.dsr_meaning.specs.Refusals.{Arith, CodeTooWide, fits, codes_fit, reference_refusals, refused_when, Short, Subtype, ends_behind, cut_refusals, head_refusals, size_refusals, value_refusals, is_larger, view_refusals, set_refusals, outside_refusals, overlap_refusals, subtype_refusals, zero_refusals, none_refusals, code_refusals, count_refusals, instance_refusals, layout_refusals, refusals}
+use Rattle.dsr_meaning.specs.References.{IsNoneOf}
+use Rattle.dsr_meaning.specs.Typed.{declared_field, pool_at}
+use Rattle.dsr_layout.specs.Laws.{IsByteOfHead}
+use Rattle.dsr_meaning.specs.Refusals.{Arith, CodeTooWide, fits, codes_fit, reference_refusals, refused_when, Short, Subtype, ends_behind, cut_refusals, head_range, head_refusals, size_refusals, value_refusals, is_larger, view_refusals, set_refusals, outside_refusals, overlap_refusals, subtype_refusals, zero_refusals, none_refusals, code_refusals, count_refusals, instance_refusals, layout_refusals, refusals}
 use Rattle.dsr_layout.proofs.Collecting.{IsOf, collected_item}
 use Rattle.dsr_layout.proofs.Enclosed.{sized_end}
 use Rattle.dsr_layout.proofs.LegalLayout.{built}
 use Rattle.dsr_layout.proofs.LegalPlaces.{ends_at_byte}
-use Rattle.dsr_layout.proofs.LegalPools.{both, codes_below, counted}
+use Rattle.dsr_layout.proofs.LegalPools.{both, codes_below, counted, head_apart_from}
 use Rattle.dsr_layout.proofs.Looking.{each_item, quiet}
 
 -- a structure by which a pool is read fits its slot, where that isn't refused
@@ -45,6 +50,42 @@ not_not false e = absurd cc
 is_there : (o : Option ℕ) → is_none o ≡ false → IsSome o
 is_there None e = absurd cc
 is_there (Some n) e = refl
+
+-- a byte of the head is one of its range
+byte_of_head : (size : Option ℕ) (at : ℕ) → IsSomeAnd size (λ n. at < n) → at < unwrap_or size 0
+byte_of_head None at within = absurd within
+byte_of_head (Some n) at within = within
+
+-- a declared pool stands among the pools
+pub pool_found : (base : Structures) (p : ℕ) (d : Pool) → pool_at base p ≡ Some d → slice_get base.pools (p - 1) ≡ Some d
+pool_found base p d found = elim (nat_eq p 0) as (λ b. (if b then None else slice_get base.pools (p - 1)) ≡ Some d → slice_get base.pools (p - 1) ≡ Some d) [
+  | true ↦ λ h. absurd cc
+  | false ↦ λ h. h
+] found
+
+-- a declared field is one of a structure's
+pub record IsFieldAt (base : Structures) (place : FieldRef) (f : Field) : Type 0 where
+  pub structure : Structure
+  pub structure_is : slice_get base.structures place.structure ≡ Some structure
+  pub field_is : slice_get structure.fields place.field ≡ Some f
+
+pub field_found : (base : Structures) (place : FieldRef) (f : Field) → declared_field base place ≡ Some f → IsFieldAt base place f
+field_found base place f found = elim (slice_get base.structures place.structure) as (λ o. slice_get base.structures place.structure ≡ o → option_and_then (λ s. slice_get s.fields place.field) o ≡ Some f → IsFieldAt base place f) [
+  | None ↦ λ _ h. absurd cc
+  | Some s ↦ λ is h. record { structure = s; structure_is = is; field_is = h }
+] refl found
+
+-- a code of no slot is one of a pool's numbers
+pub record IsNoneIn (layout : Layout) (pool value : ℕ) : Type 0 where
+  pub numbers : PoolNumbers
+  pub declared : pool_numbers layout pool ≡ Some numbers
+  pub value_is : value ≡ numbers.none
+
+pub none_of : (layout : Layout) (pool value : ℕ) → IsNoneOf layout pool value → IsNoneIn layout pool value
+none_of layout pool value none = elim (pool_numbers layout pool) as (λ o. pool_numbers layout pool ≡ o → IsSomeAnd o (λ n. value ≡ n.none) → IsNoneIn layout pool value) [
+  | None ↦ λ _ h. absurd h
+  | Some n ↦ λ is h. record { numbers = n; declared = is; value_is = h }
+] refl none
 
 module _ (spec : Spec) (bytes : List ℕ) (none : refusals spec bytes ≡ []) where
   abbrev base : Structures
@@ -99,6 +140,12 @@ module _ (spec : Spec) (bytes : List ℕ) (none : refusals spec bytes ≡ []) wh
         let from_zero = zero_refusals layout ++ (none_refusals layout ++ (code_refusals base.structures layout ++ behind)) in
         let after_views = (both_empty (subtype_refusals size base.sets base.pools layout) from_zero (both_empty (overlap_refusals size base.head layout) (subtype_refusals size base.sets base.pools layout ++ from_zero) (both_empty (outside_refusals layout) (overlap_refusals size base.head layout ++ (subtype_refusals size base.sets base.pools layout ++ from_zero)) all_empty).1).1).1 in
         third_empty (zero_refusals layout) (none_refusals layout) (code_refusals base.structures layout) behind after_views
+
+    ranges_empty : overlap_refusals size base.head layout ≡ []
+    ranges_empty = second_empty (outside_refusals layout) (overlap_refusals size base.head layout) (subtype_refusals size base.sets base.pools layout ++ (zero_refusals layout ++ (none_refusals layout ++ (code_refusals base.structures layout ++ (count_refusals spec layout ++ instance_refusals spec layout))))) all_empty
+
+    pub head_apart : (p : ℕ) (n : PoolNumbers) → pool_numbers layout p ≡ Some n → (at : ℕ) → IsByteOfHead base bytes at → IsByteOf n at → ⊥
+    head_apart p n numbers at in_head in_pool = head_apart_from (head_range size base.head) layout ranges_empty p at n numbers (omega arith, byte_of_head (bytes_of size base.head) at in_head) in_pool
 
     -- the codes of a pool fit the fields that refer to it
     module _ (i k p : ℕ) (s : Structure) (f : Field) (n : PoolNumbers) (found_s : slice_get base.structures i ≡ Some s) (found_f : slice_get s.fields k ≡ Some f) (refers : kind_pool f.kind ≡ Some p) (numbers : pool_numbers layout p ≡ Some n) where

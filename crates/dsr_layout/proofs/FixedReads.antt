@@ -32,11 +32,11 @@ narrow_of (Bits n) legal = omega (arith, legal.1)
 
 -- the fields of `Head` are legal ones
 legal_head : (base : Structures) → ArePlaceable base → (k : ℕ) (f : Field) → slice_get (head_fields base) k ≡ Some f → IsLegalWidth f.width
-legal_head base typed k f is = elim (slice_get base.structures base.head) as (λ o. slice_get base.structures base.head ≡ o → IsLegalWidth f.width) [
+legal_head base placeable k f is = elim (slice_get base.structures base.head) as (λ o. slice_get base.structures base.head ≡ o → IsLegalWidth f.width) [
   | None ↦ λ e. let nothing : slice_get (head_fields base) k ≡ None = ap (λ fs. slice_get fs k) (no_head base e) in absurd (let both : None ≡ Some f = sym nothing ∙ is in cc)
   | Some s ↦ λ e.
-      let typed_head = found_holds IsPlaceableStructure base.structures base.head s typed.structures e in
-      found_holds HasLegalWidth s.fields k f typed_head.widths (sym (ap (λ fs. slice_get fs k) (head_is base s e)) ∙ is)
+      let placeable_head = found_holds IsPlaceableStructure base.structures base.head s placeable.structures e in
+      found_holds HasLegalWidth s.fields k f placeable_head.widths (sym (ap (λ fs. slice_get fs k) (head_is base s e)) ∙ is)
 ] refl
 
 -- the cell is read as it is
@@ -59,7 +59,7 @@ field_read base bytes f (Some at) small narrow true e = whole_cell bytes (cell_a
 
 -- the cell of a fixed field, where none ends behind the image
 fixed_read : (base : Structures) (bytes : ℕ) → ArePlaceable base → bytes ≤ 67108864 → cut_refusals (fixed_cell base) (head_fields base) bytes ≡ [] → (k : ℕ) → IsRead bytes (option_map clip_cell (fixed_cell base k)) (fixed_cell base k)
-fixed_read base bytes typed small whole k = go (slice_get (head_fields base) k) refl where
+fixed_read base bytes placeable small whole k = go (slice_get (head_fields base) k) refl where
   cell : Option Field → Option Cell
   cell o = option_and_then (λ f. if is_fixed f then option_map (cell_at base.order f) (own_bit (lineage base.structures base.head) k) else None) o
 
@@ -67,17 +67,17 @@ fixed_read base bytes typed small whole k = go (slice_get (head_fields base) k) 
   go None e = record { same = refl; readable = tt }
   go (Some f) e =
       let inside : cuts bytes (cell (Some f)) ≡ false = sym (ap (λ o. cuts bytes (cell o)) e) ∙ uncut (fixed_cell base) bytes (head_fields base) whole k f e in
-      field_read base bytes f (own_bit (lineage base.structures base.head) k) small (narrow_of f.width (legal_head base typed k f e)) (is_fixed f) inside
+      field_read base bytes f (own_bit (lineage base.structures base.head) k) small (narrow_of f.width (legal_head base placeable k f e)) (is_fixed f) inside
 
 -- the table has the cells of the fixed fields
 pub read_cell : (base : Structures) (bytes : ℕ) (cells : List (Option Cell)) → ArePlaceable base → bytes ≤ 67108864 → cut_refusals (fixed_cell base) (head_fields base) bytes ≡ [] → ((k : ℕ) → known cells k ≡ option_map clip_cell (fixed_cell base k)) → (k : ℕ) → known cells k ≡ fixed_cell base k
-read_cell base bytes cells typed small whole held k = held k ∙ (fixed_read base bytes typed small whole k).same
+read_cell base bytes cells placeable small whole held k = held k ∙ (fixed_read base bytes placeable small whole k).same
 
 -- all cells of the table can be read
 pub all_readable : (base : Structures) (bytes : ℕ) (cells : List (Option Cell)) → ArePlaceable base → bytes ≤ 67108864 → cut_refusals (fixed_cell base) (head_fields base) bytes ≡ [] → ((k : ℕ) → known cells k ≡ option_map clip_cell (fixed_cell base k)) → All (λ c. IfSome c (IsReadable bytes)) cells
-all_readable base bytes cells typed small whole held i d lt =
+all_readable base bytes cells placeable small whole held i d lt =
     let here : known cells i ≡ get_or cells i d = ap (option_and_then (λ v. v)) (slice_get-get_or cells i d lt) in
-    subst (λ o. IfSome o (IsReadable bytes)) (sym (read_cell base bytes cells typed small whole held i) ∙ here) (fixed_read base bytes typed small whole i).readable
+    subst (λ o. IfSome o (IsReadable bytes)) (sym (read_cell base bytes cells placeable small whole held i) ∙ here) (fixed_read base bytes placeable small whole i).readable
 
 -- what is told of the table is told of the cells
 same_told : (base : Structures) (bytes : ℕ) (cells : List (Option Cell)) (fields : List Field) → bytes ≤ 67108864 → ((k : ℕ) → known cells k ≡ option_map clip_cell (fixed_cell base k)) → fields ≡ head_fields base → cut_refusals (known cells) fields bytes ≡ cut_refusals (fixed_cell base) (head_fields base) bytes

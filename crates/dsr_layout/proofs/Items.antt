@@ -1,8 +1,8 @@
 -- Lists up to an item and from it on.
-use Rattle.std.proofs.Common.{◌≡◌, ◌<◌, ◌≤◌, ◌+◌, ℕ, List, [], ◌∷◌, ◌++◌, map, take, drop, length, get_or, Some, slice_get, option_map, sym, ap, ◌∙◌, add-one, arith}
+use Rattle.std.proofs.Common.{◌≡◌, ◌<◌, ◌+◌, ℕ, List, [], ◌∷◌, ◌++◌, take, drop, length, get_or, Option, None, Some, IfSome, slice_get, refl, sym, ap, ◌∙◌, add-one}
 use Rattle.std.proofs.Math.Seq.{take-suc}
-use Rattle.std.proofs.lemmas.List.{drop_more, get_or_default, length-map}
-use Rattle.std.proofs.lemmas.Option.{slice_get-map, slice_get-get_or, slice_get_within, get_or_from_slice_get}
+use Rattle.std.proofs.lemmas.List.{drop_more, get_or_default}
+use Rattle.std.proofs.lemmas.Option.{slice_get-get_or, slice_get_within, get_or_from_slice_get}
 
 module _ {X : Type 0} where
   -- what is left of a list, from an item on
@@ -21,11 +21,11 @@ module _ {X : Type 0} where
   pub item_is : (xs : List X) (i : ℕ) (d : X) → i < length xs → get_or xs i d ≡ get_or xs i (get_or xs i d)
   item_is xs i d lt = get_or_default xs i d (get_or xs i d) lt
 
-module _ {X S : Type 0} (shape : X → S) (xs : List X) where
-  -- an item seen by its shape
-  pub shape_at : (i : ℕ) (x : X) → i < length xs → x ≡ get_or xs i x → slice_get (map shape xs) i ≡ Some (shape x)
-  shape_at i x lt is = slice_get-map shape xs i ∙ ap (option_map shape) (slice_get-get_or xs i x lt) ∙ ap (λ y. Some (shape y)) (sym is)
+  -- an item is found at its place
+  pub item_at : (xs : List X) (i : ℕ) (x : X) → i < length xs → x ≡ get_or xs i x → slice_get xs i ≡ Some x
+  item_at xs i x lt is = slice_get-get_or xs i x lt ∙ ap Some (sym is)
 
-  -- as many shapes as items
-  pub all_shapes : {i : ℕ} → length xs ≤ i → length (map shape xs) ≤ i
-  all_shapes le = omega (arith, le, length-map xs shape)
+-- what holds of each value that may be there holds where one is
+pub if_some : {A : Type 0} (P : A → Type 0) (o : Option A) → ((x : A) → o ≡ Some x → P x) → IfSome o P
+if_some P None each = tt
+if_some P (Some x) each = each x refl

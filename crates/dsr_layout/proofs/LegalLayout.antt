@@ -76,6 +76,6 @@ collect_length f n (x ∷ xs) = elim (f n x) as (λ o. IfSome (option_and_then (
 pub as_many : (fixed size : ℕ → Option ℕ) (ps : List Pool) (pools : List PoolNumbers) → pools_of fixed size ps ≡ Some pools → length pools ≡ length ps
 as_many fixed size ps pools is = subst (λ o. IfSome o (λ ys. length ys ≡ length ps)) is (collect_length (λ _ p. pool_of fixed size p) 1 ps)
 
--- the places of typed structures are legal
+-- the places of placeable structures are legal
 pub all_legal : (fixed : ℕ → Option ℕ) (ss : List Structure) (fields : List (List FieldPlace)) → All IsPlaceableStructure ss → places_of fixed ss ≡ Some fields → All (All IsLegalPlace) fields
-all_legal fixed ss fields typed is = subst (λ o. IfSome o (All (All IsLegalPlace))) is (legal_places fixed ss typed)
+all_legal fixed ss fields placeable is = subst (λ o. IfSome o (All (All IsLegalPlace))) is (legal_places fixed ss placeable)

@@ -80,10 +80,10 @@ ends_at_byte fixed (s ∷ line) = elim (end_of fixed line) as (λ o. IfSome (opt
 ]
 
 own_legal : (fixed : ℕ → Option ℕ) (line : List Structure) → Each IsPlaceableStructure line → IfSome (own_places fixed line) (All IsLegalPlace)
-own_legal fixed [] typed = tt
-own_legal fixed (s ∷ line) typed = elim (end_of fixed line) as (λ o. IfSome o (λ e. e % 8 ≡ 0) → IfSome (option_and_then (λ start. placed fixed start s.fields) o) (All IsLegalPlace)) [
+own_legal fixed [] placeable = tt
+own_legal fixed (s ∷ line) placeable = elim (end_of fixed line) as (λ o. IfSome o (λ e. e % 8 ≡ 0) → IfSome (option_and_then (λ start. placed fixed start s.fields) o) (All IsLegalPlace)) [
   | None ↦ λ _. tt
-  | Some start ↦ λ at_byte. IfSome_then (placed fixed start s.fields) (placed_legal fixed start 0 s.fields at_byte (each_of HasLegalWidth s.fields typed.0.widths) typed.0.aligned) (all_of IsLegalPlace)
+  | Some start ↦ λ at_byte. IfSome_then (placed fixed start s.fields) (placed_legal fixed start 0 s.fields at_byte (each_of HasLegalWidth s.fields placeable.0.widths) placeable.0.aligned) (all_of IsLegalPlace)
 ] (ends_at_byte fixed line)
 
 -- a lineage is made of declared structures
@@ -104,7 +104,7 @@ collect_each f P h n (x ∷ xs) = elim (f n x) as (λ o. IfSome o P → IfSome (
   ] (collect_each f P h (suc n) xs)
 ] (h n x)
 
--- the places of the fields of typed structures are legal
+-- the places of the fields of placeable structures are legal
 pub legal_places : (fixed : ℕ → Option ℕ) (structures : List Structure) → All IsPlaceableStructure structures → IfSome (places_of fixed structures) (All (All IsLegalPlace))
-legal_places fixed structures typed =
-    IfSome_then (places_of fixed structures) (collect_each (λ i _. own_places fixed (lineage structures i)) (All IsLegalPlace) (λ i _. own_legal fixed (lineage structures i) (lineage_each IsPlaceableStructure (reverse structures) (each_reverse IsPlaceableStructure structures (each_of IsPlaceableStructure structures typed)) i)) 0 structures) (all_of (All IsLegalPlace))
+legal_places fixed structures placeable =
+    IfSome_then (places_of fixed structures) (collect_each (λ i _. own_places fixed (lineage structures i)) (All IsLegalPlace) (λ i _. own_legal fixed (lineage structures i) (lineage_each IsPlaceableStructure (reverse structures) (each_reverse IsPlaceableStructure structures (each_of IsPlaceableStructure structures placeable)) i)) 0 structures) (all_of (All IsLegalPlace))

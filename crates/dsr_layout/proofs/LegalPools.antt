@@ -10,10 +10,11 @@ use Rattle.dsr_ir.specs.declared.layouts.PoolNumbers.{PoolNumbers}
 use Rattle.dsr_meaning.proofs.Empty.{both_empty, each_has}
 use Rattle.dsr_meaning.specs.Lists.{each_at}
 use Rattle.dsr_meaning.specs.Layouts.{pool_end, last_code}
-use Rattle.dsr_meaning.specs.Legal.{IsLegalPool, AreApart}
+use Rattle.dsr_meaning.specs.Legal.{IsLegalPool, IsByteOf, AreApart}
 use Rattle.dsr_meaning.specs.Refusals.{Outside, Overlap, Zero, NoneIsCode, refused_when, outside_refusals, overlaps, zero_refusals, none_refusals, is_code_below, ByteRange, pool_range, share_byte}
 use Rattle.dsr_layout.proofs.SharedBytes.{byte_shared}
 use Rattle.dsr_layout.proofs.Looking.{quiet}
+use Rattle.dsr_layout.specs.Laws.{HasByte}
 use Rattle.dsr_layout.specs.Pools.{IsComputable, HasStep}
 
 pub neither : (a b : Bool) → (a || b) ≡ false → (a ≡ false) × (b ≡ false)
@@ -80,9 +81,9 @@ apart_in p (r ∷ rs) e (suc i) (suc j) d lt within =
     apart_in (suc p) rs rest i j d (omega (arith, lt)) (omega (arith, within))
 
 -- no byte is in two ranges that share none
-no_byte : (a b : ByteRange) → share_byte a b ≡ false → (at : ℕ) → a.first ≤ at → at < a.behind → b.first ≤ at → at < b.behind → ⊥
-no_byte a b e at from before from' before' =
-    let shared : false ≡ true = sym e ∙ byte_shared a b at from before from' before' in
+no_byte : (a b : ByteRange) → share_byte a b ≡ false → (at : ℕ) → HasByte a at → HasByte b at → ⊥
+no_byte a b e at in_a in_b =
+    let shared : false ≡ true = sym e ∙ byte_shared a b at in_a in_b in
     absurd cc
 
 -- pools are counted from 1
@@ -113,11 +114,20 @@ pools_apart head layout e p q at m n other is_m is_n in_m in_n =
     elim (nat_lt p q) as (λ b. nat_lt p q ≡ b → ⊥) [
       | true ↦ λ before.
           let apart : share_byte (pool_range m) (pool_range n) ≡ false = subst (λ r. share_byte r (pool_range n) ≡ false) first.0 (subst (λ r. share_byte (get_or rs p head) r ≡ false) second.0 (apart_in 0 rs e p q head (grind (arith, nat_tests)) second.1)) in
-          no_byte (pool_range m) (pool_range n) apart at in_m.from in_m.before in_n.from in_n.before
+          no_byte (pool_range m) (pool_range n) apart at (in_m.from, in_m.before) (in_n.from, in_n.before)
       | false ↦ λ behind.
           let apart : share_byte (pool_range n) (pool_range m) ≡ false = subst (λ r. share_byte r (pool_range m) ≡ false) second.0 (subst (λ r. share_byte (get_or rs q head) r ≡ false) first.0 (apart_in 0 rs e q p head (grind (arith, nat_tests)) first.1)) in
-          no_byte (pool_range n) (pool_range m) apart at in_n.from in_n.before in_m.from in_m.before
+          no_byte (pool_range n) (pool_range m) apart at (in_n.from, in_n.before) (in_m.from, in_m.before)
     ] refl
+
+-- the head's bytes are none of a pool's
+pub head_apart_from : (head : ByteRange) (layout : Layout) → overlaps 0 (head ∷ map pool_range layout.pools) ≡ [] → (p at : ℕ) (n : PoolNumbers) → pool_numbers layout p ≡ Some n → HasByte head at → IsByteOf n at → ⊥
+head_apart_from head layout e p at n is in_head in_pool =
+    let rs = head ∷ map pool_range layout.pools in
+    let found = range_at head layout p n head is in
+    let first : 0 < p = omega (arith, (counted layout p n is).0) in
+    let apart : share_byte head (pool_range n) ≡ false = subst (λ r. share_byte head r ≡ false) found.0 (apart_in 0 rs e 0 p head first found.1) in
+    no_byte head (pool_range n) apart at in_head (in_pool.from, in_pool.before)
 
 -- all pools, where none is refused
 pub legal_pools : (layout : Layout) → All IsComputable layout.pools → outside_refusals layout ≡ [] → zero_refusals layout ≡ [] → none_refusals layout ≡ [] → All (IsLegalPool layout.length) layout.pools

@@ -19,5 +19,7 @@ pub mod Lineages
 pub mod Looking
 pub mod Meanings
 pub mod Placed
+pub mod RangeOfFacts
+pub mod SameCounts
 pub mod SharedBytes
 pub mod Sizes

@@ -16,7 +16,7 @@ use Rattle.dsr_layout.specs.Telling.{Tells, told_of}
 use Rattle.dsr_layout.specs.declared.faults.LayoutFault.{LayoutFault}
 use Rattle.dsr_layout.specs.declared.faults.LayoutFault.TheVariants as faults
 use Rattle.dsr_layout.proofs.Clipping.{clipped_first, none_clipped, one_more, nothing_before}
-use Rattle.dsr_layout.proofs.Items.{drop_item, shape_at}
+use Rattle.dsr_layout.proofs.Items.{drop_item, item_at}
 use Rattle.dsr_layout.proofs.Lineages.{ancestors, lineage_of}
 use Rattle.dsr_layout.proofs.Sizes.{size_at, size_below, start_is, end_same}
 
@@ -82,8 +82,8 @@ module _ (fixed : ℕ → Option ℕ) where
   ] refl sized
 
   module _ (ends : List (Option ℕ)) (ss : List Structure) (holds : HoldsEnds fixed ss ends) (i : ℕ) (s : Structure) (found : slice_get ss i ≡ Some s) where
-    begins : start_in ends i s.parent ≡ option_map clip (end_of fixed (ancestors ss i s.parent))
-    begins = start_is fixed ends ss i s.parent holds
+    starts_there : start_in ends i s.parent ≡ option_map clip (end_of fixed (ancestors ss i s.parent))
+    starts_there = start_is fixed ends ss i s.parent holds
 
     ends_at : end_in ends i ≡ option_map clip (end_of fixed (s ∷ ancestors ss i s.parent))
     ends_at = holds i ∙ ap (λ line. option_map clip (end_of fixed line)) (lineage_of ss i s found)
@@ -91,7 +91,7 @@ module _ (fixed : ℕ → Option ℕ) where
     -- where a structure has a size, its places in the table are its own
     own_found : IsSome (size_in ends i) → clipped_places fixed (start_in ends i s.parent) s.fields ≡ own_places fixed (lineage ss i)
     own_found sized =
-        ap (λ start. clipped_places fixed start s.fields) begins
+        ap (λ start. clipped_places fixed start s.fields) starts_there
         ∙ sized_places (end_of fixed (ancestors ss i s.parent)) s.fields (subst (λ end. IsSome (size_at end)) ends_at sized)
         ∙ sym (ap (own_places fixed) (lineage_of ss i s found))
 
@@ -101,7 +101,7 @@ module _ (fixed : ℕ → Option ℕ) where
     own_missing (inr none) =
         ap size_at (ends_at
         ∙ sym (end_same fixed (end_of fixed (ancestors ss i s.parent)) s.fields)
-        ∙ ap (λ start. end_behind fixed start s.fields) (sym begins)
+        ∙ ap (λ start. end_behind fixed start s.fields) (sym starts_there)
         ∙ endless_behind (start_in ends i s.parent) s.fields none)
 
 -- the places so far with those of the structures that are left are all places, and their refusals are all
@@ -134,12 +134,12 @@ module _ (fixed : ℕ → Option ℕ) (ends : List (Option ℕ)) (xs : List Stru
     left = drop_item xs i x lt is
 
     found_is : slice_get xs i ≡ Some x
-    found_is = shape_at xs i x lt is
+    found_is = item_at xs i x lt is
 
     pub places_next : (old : List (List FieldPlace)) (own : List FieldPlace) {places : List (List FieldPlace)} → PlacesSoFar fixed ends xs i old → IsSome (size_in ends i) → clipped_places fixed (start_in ends i x.parent) x.fields ≡ Some own → places ≡ old ++ own ∷ [] → PlacesSoFar fixed ends xs (i + 1) places
     places_next old own {places} before sized found pushed =
         let ss = xs in
-        let rest = map structure_shape (drop (i + 1) xs) in
+        let rest = drop (i + 1) xs in
         let owned : own_places fixed (lineage ss i) ≡ Some own = sym (own_found fixed ends ss holds i x found_is sized) ∙ found in
         let next : i + 1 ≡ suc i = add-one i in
         record {
@@ -161,7 +161,7 @@ module _ (fixed : ℕ → Option ℕ) (ends : List (Option ℕ)) (xs : List Stru
     pub places_refused : (old : List (List FieldPlace)) (e : LayoutFault) → PlacesSoFar fixed ends xs i old → (e ≡ faults.NoMemory) ⊎ ((e ≡ faults.Arith) × ((size_in ends i ≡ None) ⊎ (clipped_places fixed (start_in ends i x.parent) x.fields ≡ None))) → Tells (size_refusals (size_in ends) xs) e
     places_refused old e before (inl memory) = inl memory
     places_refused old e before (inr told) =
-        let rest = each_at (λ k _. refused_when (is_none (size_in ends k)) Arith) (suc i) (map structure_shape (drop (i + 1) xs)) in
+        let rest = each_at (λ k _. refused_when (is_none (size_in ends k)) Arith) (suc i) (drop (i + 1) xs) in
         let none = own_missing fixed ends xs holds i x found_is told.1 in
         inr (ap told_of (
         sym before.sized

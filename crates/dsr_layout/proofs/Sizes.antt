@@ -1,8 +1,8 @@
 -- The ends and sizes of structures by the table of their ends.
-use Rattle.std.proofs.Common.{◌≡◌, ◌<◌, ◌≤◌, ◌+◌, ◌-◌, ◌^◌, ℕ, true, false, nat_lt, List, [], ◌∷◌, ◌++◌, map, take, length, get_or, inl, inr, Option, None, Some, IsSome, option_map, if◌then◌else◌, refl, sym, ap, ◌∙◌, arith}
+use Rattle.std.proofs.Common.{◌≡◌, ◌<◌, ◌≤◌, ◌+◌, ◌-◌, ◌^◌, ℕ, true, false, nat_lt, List, [], ◌∷◌, ◌++◌, take, length, get_or, inl, inr, Option, None, Some, IsSome, option_map, if◌then◌else◌, refl, sym, ap, ◌∙◌, arith}
 use Rattle.std.specs.Option.{option_and_then}
 use Rattle.std.proofs.lemmas.Bool.{cases_lt, cases_order, lt-ltb, le-ltb, ltb-true, cond-true, cond-false}
-use Rattle.std.proofs.lemmas.List.{get_or_append_left, get_or_at, get_or_past, length-append, length-map, length-take-le, map-append}
+use Rattle.std.proofs.lemmas.List.{get_or_append_left, get_or_at, get_or_past, length-append, length-take-le}
 use Rattle.dsr_ir.specs.declared.declarations.Field.{Field}
 use Rattle.dsr_ir.specs.declared.declarations.Structure.{Structure}
 use Rattle.dsr_meaning.specs.Expressions.{in_range}
@@ -101,12 +101,12 @@ module _ (fixed : ℕ → Option ℕ) where
   ]
 
   -- the ends of the structures up to one, and then of that one too
-  pub ends_next : (xs : List Structure) (i : ℕ) (x : Structure) → i < length xs → x ≡ get_or xs i x → (old : List (Option ℕ)) {ends : List (Option ℕ)} {end : Option ℕ} → length old ≡ i → HoldsEnds fixed (take i xs) old → ends ≡ old ++ end ∷ [] → end ≡ end_behind fixed (start_in old (length old) x.parent) x.fields → (length ends ≡ i + 1) × HoldsEnds fixed (map structure_shape (take (i + 1) xs)) ends
+  pub ends_next : (xs : List Structure) (i : ℕ) (x : Structure) → i < length xs → x ≡ get_or xs i x → (old : List (Option ℕ)) {ends : List (Option ℕ)} {end : Option ℕ} → length old ≡ i → HoldsEnds fixed (take i xs) old → ends ≡ old ++ end ∷ [] → end ≡ end_behind fixed (start_in old (length old) x.parent) x.fields → (length ends ≡ i + 1) × HoldsEnds fixed (take (i + 1) xs) ends
   ends_next xs i x lt is old {ends} {end} many holds pushed made =
-      let ss = map structure_shape (take i xs) in
-      let taken : length ss ≡ i = length-map (take i xs) structure_shape ∙ length-take-le i xs (omega arith) in
+      let ss = take i xs in
+      let taken : length ss ≡ i = length-take-le i xs (omega arith) in
       let made_at = made ∙ ap (λ n. end_behind fixed (start_in old n x.parent) x.fields) (many ∙ sym taken) in
-      let shapes : map structure_shape (take (i + 1) xs) ≡ ss ++ x ∷ [] = ap (map structure_shape) (take_item xs i x lt is) ∙ map-append structure_shape (take i xs) (x ∷ []) in (
+      let more : take (i + 1) xs ≡ ss ++ x ∷ [] = take_item xs i x lt is in (
         ap length pushed ∙ length-append old (end ∷ []) ∙ ap (λ n. n + 1) many,
-        λ k. ap (λ es. end_in es k) pushed ∙ ends_push old ss x end (many ∙ sym taken) holds made_at k ∙ sym (ap (λ ys. option_map clip (end_of fixed (lineage ys k))) shapes),
+        λ k. ap (λ es. end_in es k) pushed ∙ ends_push old ss x end (many ∙ sym taken) holds made_at k ∙ sym (ap (λ ys. option_map clip (end_of fixed (lineage ys k))) more),
       )

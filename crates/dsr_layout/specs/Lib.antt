@@ -1,8 +1,9 @@
 pub mod Checks
-pub mod Counts
 pub mod Ends
 pub mod FixedCells
+pub mod InRange
 pub mod Kinds
+pub mod Laws
 pub mod Pools
 pub mod Ranges
 pub mod Readings

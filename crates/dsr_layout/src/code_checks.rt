@@ -1,6 +1,5 @@
 // Codes that don't fit the fields that refer to a pool.
 ghost use Rattle.std.specs.Prelude.{◌≡◌, ◌≤◌, All, length, map};
-
 ghost use Rattle.dsr_meaning.specs.Cells.{width_bits};
 ghost use Rattle.dsr_meaning.specs.Lists.{each_at};
 ghost use Rattle.dsr_meaning.specs.Refusals as meaning;

@@ -10,7 +10,7 @@ ghost use Rattle.dsr_layout.specs.Telling.{told_of};
 use crate::code_checks::fits;
 use crate::faults::LayoutFault;
 use crate::lookups::{field_place, record_count, set_pool};
-use dsr_ir::{Atom, Bound, Conj, Inc, Layout, Literal, Measure, Op, Path, Rule, Spec};
+use dsr_ir::{Atom, Bound, Conj, Inc, Layout, Literal, Measure, Op, Path, Rule, Spec, Symbol};
 
 // How large a size may be.
 fn greatest_size(spec: &Spec, layout: &Layout, measure: Measure) -> u64
@@ -48,10 +48,10 @@ fn source_count(spec: &Spec, layout: &Layout, rel: u32) -> u64
 fn given_path(rel: u32, inc: &Inc) -> Option<Path>
     ensures { result ≡ meaning.given_path rel inc.now }
 {
-    match inc {
-        Inc::OwnPair(own, path) if *own == rel => Some(*path),
-        Inc::SlotPair(own, _, path) if *own == rel => Some(*path),
-        _ => None,
+    if inc.gives(Symbol::Rel(rel)) {
+        inc.target()
+    } else {
+        None
     }
 }
 

@@ -6,7 +6,7 @@ use std::alloc::AllocFailed;
 
 /// Why an image has no layout under a specification, or that this couldn't be found out. Pools
 /// are counted from 1, structures, fields and constraints from 0.
-#[derive(Clone, Copy, Debug, PartialEq, Eq)]
+#[derive(Clone, Copy, PartialEq, Eq)]
 pub enum LayoutFault {
     /// The image ends before the last fixed field does, or before `Head` does.
     Short,

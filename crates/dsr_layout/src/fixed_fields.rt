@@ -1,7 +1,6 @@
 // The fixed fields of `Head`: their cells and values.
 ghost use Rattle.std.specs.Prelude.{◌≡◌, ◌≤◌, ℕ, false, [], All, IfSome, IfOk, IfErr, length, map, option_map};
 ghost use Rattle.std.specs.Option.{option_map_or};
-
 ghost use Rattle.dsr_meaning.specs.Cells.{cell_value, is_bytewise};
 ghost use Rattle.dsr_meaning.specs.FixedFields.{fixed_cell, fixed_value, head_fields};
 ghost use Rattle.dsr_meaning.specs.Refusals.{cut_refusals, ends_behind};
@@ -165,7 +164,7 @@ pub fn fixed_values(
     base: &Structures,
     bytes: &[u8],
 ) -> Result<Vec<Option<u64>>, LayoutFault>
-    requires typed { ArePlaceable base.now }
+    requires placeable { ArePlaceable base.now }
     requires image { length bytes.now ≤ 67108864 }
     ensures values { IfOk result (λ values. (k : ℕ) → known values.items k ≡ fixed_value base.now bytes.now k) }
     ensures uncut { IfOk result (λ _. cut_refusals (fixed_cell base.now) (head_fields base.now) (length bytes.now) ≡ []) }

@@ -5,13 +5,13 @@ ghost use Rattle.dsr_meaning.specs.Instances as instances;
 ghost use Rattle.dsr_meaning.specs.Models.{base_of};
 ghost use Rattle.dsr_meaning.specs.Refusals as meaning;
 ghost use Rattle.dsr_meaning.specs.Refusals.{instance_refusals, instances_where};
-ghost use Rattle.dsr_layout.specs.Counts.{gives};
+ghost use Rattle.dsr_ir.specs.Rules.{gives};
 ghost use Rattle.dsr_layout.specs.Tables.{clip};
 ghost use Rattle.dsr_layout.specs.Telling.{told_of};
 
 use crate::faults::LayoutFault;
 use crate::lookups::{field_place, record_count, set_pool};
-use dsr_ir::{Constraint, Inc, Layout, Quant, Rule, Span, Spec, Symbol};
+use dsr_ir::{Constraint, Layout, Quant, Rule, Span, Spec, Symbol};
 
 // The pool of the records of a rule.
 fn premise_pool(spec: &Spec, rule: &Rule) -> u32
@@ -44,24 +44,13 @@ fn rule_instances(spec: &Spec, layout: &Layout, rule: &Rule) -> u64
     records.saturating_mul(index_count(layout, rule.span))
 }
 
-// Whether an inclusion gives facts of a symbol.
-fn gives(symbol: Symbol, inc: &Inc) -> bool
-    ensures { result ≡ gives symbol inc.now }
-{
-    match (symbol, inc) {
-        (Symbol::Set(set), Inc::Own(own) | Inc::Target(own, _) | Inc::Slot(own, _)) => *own == set,
-        (Symbol::Rel(rel), Inc::OwnPair(own, _) | Inc::SlotPair(own, _, _)) => *own == rel,
-        _ => false,
-    }
-}
-
 // The instances of the rules of a symbol.
 fn symbol_instances(spec: &Spec, layout: &Layout, symbol: Symbol) -> u64
     ensures { result ≡ clip (instances_where spec.now layout.now (gives symbol) spec.now.rules) }
 {
     let mut total: u64 = 0;
     for rule in spec.rules.items() {
-        if gives(symbol, &rule.inc) {
+        if rule.inc.gives(symbol) {
             total = total.saturating_add(rule_instances(spec, layout, rule));
         }
     }

@@ -1,10 +1,8 @@
 // The layout of a specification on an image.
-ghost use Rattle.std.specs.Prelude.{◌≡◌, ◌≤◌, ◌++◌, [], All, IfOk, IfErr, Some, length};
-
-ghost use Rattle.dsr_meaning.specs.Layouts.{layout_of};
+ghost use Rattle.std.specs.Prelude.{◌≡◌, ◌≤◌, ◌++◌, All, IfOk, IfErr, length};
 ghost use Rattle.dsr_meaning.specs.Legal.{IsLegalLayout};
 ghost use Rattle.dsr_meaning.specs.Refusals as meaning;
-ghost use Rattle.dsr_meaning.specs.Refusals.{refusals, layout_refusals, size_refusals, value_refusals};
+ghost use Rattle.dsr_meaning.specs.Refusals.{IsLayoutOf, refusals, layout_refusals, size_refusals, value_refusals};
 ghost use Rattle.dsr_meaning.specs.Placeable.{ArePlaceable, IsPlaceable};
 ghost use Rattle.dsr_layout.specs.Checks.{place_refusals, number_refusals};
 ghost use Rattle.dsr_layout.specs.Pools.{IsComputable, HasStep};
@@ -64,7 +62,7 @@ fn place_fault(
 
 // The first reason to refuse codes and counts.
 fn code_fault(spec: &Spec, layout: &Layout) -> Option<LayoutFault>
-    requires typed { IsPlaceable spec.now }
+    requires placeable { IsPlaceable spec.now }
     requires few { length layout.now.pools ≤ 32 }
     requires computable { All IsComputable layout.now.pools }
     requires steps { All HasStep layout.now.pools }
@@ -92,7 +90,7 @@ fn layout_fault(
     ends: &[Option<u64>],
     layout: &Layout,
 ) -> Result<Option<LayoutFault>, NoMemory>
-    requires typed { IsPlaceable spec.now }
+    requires placeable { IsPlaceable spec.now }
     requires few { length layout.now.pools ≤ 32 }
     requires computable { All IsComputable layout.now.pools }
     ensures { IfOk result (λ fault. fault ≡ told_of (layout_refusals (size_in ends.now) spec.now spec.now.base layout.now)) }
@@ -113,7 +111,7 @@ struct Readings {
 
 // The readings of an image that isn't short.
 fn read(alloc: Global, spec: &Spec, bytes: &[u8]) -> Result<Readings, LayoutFault>
-    requires typed { IsPlaceable spec.now }
+    requires placeable { IsPlaceable spec.now }
     requires image { length bytes.now ≤ 67108864 }
     ensures read { IfOk result (λ r. IsRead spec.now.base bytes.now r.fixed.items r.ends.items) }
     ensures refused { IfErr result (Tells (refusals spec.now bytes.now)) }
@@ -135,7 +133,7 @@ fn made(
     fixed: &[Option<u64>],
     ends: &[Option<u64>],
 ) -> Result<Layout, LayoutFault>
-    requires typed { ArePlaceable base.now }
+    requires placeable { ArePlaceable base.now }
     requires ends { HoldsEnds (known fixed.now) base.now.structures ends.now }
     ensures made { IfOk result (IsMade base.now length fixed.now ends.now) }
     ensures refused { IfErr result (Tells (size_refusals (size_in ends.now) base.now.structures ++ value_refusals (known fixed.now) (size_in ends.now) base.now.pools)) }
@@ -153,10 +151,9 @@ fn made(
 /// The layout of a specification on an image: the numbers that its expressions have there. Where
 /// it is refused, the fault is the first of the least kind, by order of declaration.
 pub fn layout(alloc: Global, spec: &Spec, bytes: &[u8]) -> Result<Layout, LayoutFault>
-    requires typed { IsPlaceable spec.now }
+    requires placeable { IsPlaceable spec.now }
     requires image { length bytes.now ≤ 67108864 }
-    ensures numbers { IfOk result (λ layout. layout_of spec.now.base bytes.now ≡ Some layout) }
-    ensures accepted { IfOk result (λ _. refusals spec.now bytes.now ≡ []) }
+    ensures layout { IfOk result (λ layout. IsLayoutOf spec.now bytes.now layout) }
     ensures legal { IfOk result IsLegalLayout }
     ensures refused { IfErr result (Tells (refusals spec.now bytes.now)) }
 {

@@ -1,7 +1,6 @@
 // Where structures end, and where their fields begin. Sums and products stop at the last number of
 // 64 bits, which no structure with a size ends at.
 ghost use Rattle.std.specs.Prelude.{◌≡◌, ◌≤◌, ◌⊎◌, None, Some, IsSome, [], length, map, option_map, IfOk, IfErr};
-
 ghost use Rattle.dsr_meaning.specs.Cells.{width_bits};
 ghost use Rattle.dsr_meaning.specs.Extents as extents;
 ghost use Rattle.dsr_meaning.specs.Layouts.{places_of};

@@ -1,7 +1,6 @@
 // Pools that lie outside of the image or over each other, whose slots are too small, or whose codes
 // are no codes.
 ghost use Rattle.std.specs.Prelude.{◌≡◌, ◌≤◌, ◌<◌, ◌+◌, suc, ◌∷◌, All, IfOk, length, map};
-
 ghost use Rattle.dsr_meaning.specs.Lists.{each_at};
 ghost use Rattle.dsr_meaning.specs.Refusals as meaning;
 ghost use Rattle.dsr_meaning.specs.Refusals.{outside_refusals, refused_when, overlaps, overlap_refusals, view_refusals, set_refusals, subtype_refusals, zero_refusals, none_refusals, is_code_below};

@@ -1,6 +1,5 @@
 // The numbers of pools.
-ghost use Rattle.std.specs.Prelude.{◌≡◌, ◌<◌, ◌+◌, ◌*◌, [], All, Some, IfOk, IfErr, map, option_map};
-ghost use Rattle.dsr_ir.specs.Exprs.{expr_shape};
+ghost use Rattle.std.specs.Prelude.{◌≡◌, ◌<◌, ◌+◌, ◌*◌, [], All, Some, IfOk, IfErr};
 ghost use Rattle.dsr_meaning.specs.Expressions.{in_range};
 ghost use Rattle.dsr_meaning.specs.Layouts as meaning;
 ghost use Rattle.dsr_meaning.specs.Refusals.{is_computable, value_refusals};
@@ -28,7 +27,7 @@ fn slot_bytes(
     structure: u32,
     slot: &Option<Expr>,
 ) -> Option<u64>
-    ensures { result ≡ meaning.slot_bytes (known fixed.now) (size_in ends.now) structure (option_map expr_shape slot.now) }
+    ensures { result ≡ meaning.slot_bytes (known fixed.now) (size_in ends.now) structure slot.now }
 {
     match slot {
         Some(slot) => value_of(fixed, slot),

@@ -11,7 +11,7 @@ use crate::lookups::pool_numbers;
 use dsr_ir::{Layout, PoolNumbers};
 
 /// What the value of a reference to a pool means.
-#[derive(Clone, Copy, Debug, PartialEq, Eq, PartialOrd, Ord, Hash)]
+#[derive(Clone, Copy, PartialEq, Eq)]
 pub enum Ref {
     /// It refers to no slot.
     None,

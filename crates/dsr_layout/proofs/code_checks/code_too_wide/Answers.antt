@@ -1,13 +1,9 @@
-use Rattle.std.proofs.Common.{map, refl, ap, ◌∙◌}
-
+use Rattle.std.proofs.Common.{refl, ap, ◌∙◌}
 use Rattle.dsr_meaning.specs.Lists.{each_at}
 use Rattle.dsr_meaning.specs.Refusals.{reference_refusals}
 use Rattle.dsr_layout.specs.Telling.{told_of}
-use Rattle.dsr_layout.proofs.Looking.{each_at_map, goes_on, is_none}
+use Rattle.dsr_layout.proofs.Looking.{goes_on, is_none}
 use Rattle.dsr_layout.proofs.code_checks.code_too_wide.Goals as goal
-
-pub loop-i-init : goal.loop-i-init
-loop-i-init c = ap told_of (each_at_map _ 0 c.args.structures.now)
 
 pub loop-i-preserved : goal.loop-i-preserved
 loop-i-preserved c =

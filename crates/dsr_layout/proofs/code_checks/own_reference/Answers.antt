@@ -1,11 +1,6 @@
-use Rattle.std.proofs.Common.{refl, ap, ◌∙◌}
-
-use Rattle.dsr_layout.specs.Telling.{told_of}
-use Rattle.dsr_layout.proofs.Looking.{each_at_map, goes_on, is_none}
+use Rattle.std.proofs.Common.{refl, ◌∙◌}
+use Rattle.dsr_layout.proofs.Looking.{goes_on, is_none}
 use Rattle.dsr_layout.proofs.code_checks.own_reference.Goals as goal
-
-pub loop-i-init : goal.loop-i-init
-loop-i-init c = ap told_of (each_at_map _ 0 c.args.fields.now)
 
 pub loop-i-preserved : goal.loop-i-preserved
 loop-i-preserved c =

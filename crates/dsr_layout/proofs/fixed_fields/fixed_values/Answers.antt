@@ -1,6 +1,5 @@
 use Rattle.std.proofs.Common.{◌≡◌, ℕ, inr, sym, ap, ◌∙◌, length}
 use Rattle.std.specs.Prelude.{option_map}
-
 use Rattle.dsr_meaning.specs.FixedFields.{fixed_cell, head_fields}
 use Rattle.dsr_meaning.specs.Refusals.{cut_refusals}
 use Rattle.dsr_layout.specs.Tables.{known, clip_cell}
@@ -20,7 +19,7 @@ values_in-requires-clause-readable c =
     let told = cut_told base (length c.args.bytes.now) c.requires.image c.deref.ensures.value c.in_ok-cells.ensures c.head_fields.ensures c.cut.ensures in
     let whole = told_none (cut_refusals (fixed_cell base) (head_fields base) (length c.args.bytes.now)) (sym c.in_default.is ∙ told) in
     let read : (k : ℕ) → known c.deref-2.result.now k ≡ option_map clip_cell (fixed_cell base k) = λ k. ap (λ cs. known cs k) c.deref-2.ensures.value ∙ c.in_ok-cells.ensures k in
-    all_readable base (length c.args.bytes.now) c.deref-2.result.now c.requires.typed c.requires.image whole read
+    all_readable base (length c.args.bytes.now) c.deref-2.result.now c.requires.placeable c.requires.image whole read
 
 pub returns-clause-uncut : goal.returns-clause-uncut
 returns-clause-uncut c =
@@ -34,4 +33,4 @@ returns-clause-values c =
     let told = cut_told base (length c.args.bytes.now) c.requires.image c.deref.ensures.value c.in_ok-cells.ensures c.head_fields.ensures c.cut.ensures in
     let whole = told_none (cut_refusals (fixed_cell base) (head_fields base) (length c.args.bytes.now)) (sym c.in_default.is ∙ told) in
     let read : (k : ℕ) → known c.deref-2.result.now k ≡ option_map clip_cell (fixed_cell base k) = λ k. ap (λ cs. known cs k) c.deref-2.ensures.value ∙ c.in_ok-cells.ensures k in
-    read_values base c.args.bytes.now c.deref-2.result.now c.in_ok-values_in.field-0.items (read_cell base (length c.args.bytes.now) c.deref-2.result.now c.requires.typed c.requires.image whole read) c.in_ok-values_in.ensures
+    read_values base c.args.bytes.now c.deref-2.result.now c.in_ok-values_in.field-0.items (read_cell base (length c.args.bytes.now) c.deref-2.result.now c.requires.placeable c.requires.image whole read) c.in_ok-values_in.ensures

@@ -1,6 +1,6 @@
 use Rattle.std.proofs.Common.{◌≡◌, take}
 use Rattle.dsr_layout.specs.Tables.{clip}
-use Rattle.dsr_layout.specs.Counts.{gives}
+use Rattle.dsr_ir.specs.Rules.{gives}
 use Rattle.dsr_meaning.specs.Refusals.{instances_where}
 use Rattle.dsr_layout.proofs.instances.symbol_instances.Given as goal
 

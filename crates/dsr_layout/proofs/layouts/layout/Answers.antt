@@ -1,6 +1,5 @@
 use Rattle.std.proofs.Common.{◌≤◌, sym, ap, subst, ◌++◌, ◌∙◌}
 use Rattle.std.proofs.lemmas.Result.{err_from_is_err_and}
-
 use Rattle.dsr_meaning.specs.Refusals.{refusals, size_refusals, value_refusals, layout_refusals}
 use Rattle.dsr_layout.specs.Tables.{known, size_in}
 use Rattle.dsr_layout.specs.Telling.{told_of, Tells}
@@ -28,19 +27,17 @@ returns-in-Some-clause-refused c =
     let told = ap (λ t. told_of (layout_refusals (size_in t) spec base layout)) (c.deref-3.ensures.value ∙ sym c.deref-2.ensures.value) in
     layout_told spec c.args.bytes.now c.deref.result.now c.deref-2.result.now read layout c.in_ok-layout.ensures.made c.in-Some.fault (sym c.in-Some.is ∙ c.in_ok-fault.ensures ∙ told)
 
-pub returns-clause-numbers : goal.returns-clause-numbers
-returns-clause-numbers c =
-    let read = read_as c.deref.ensures.value c.deref-2.ensures.value c.in_ok-readings.ensures.read in
-    layout_made c.args.spec.now c.args.bytes.now c.deref.result.now c.deref-2.result.now read c.in_ok-layout.layout c.in_ok-layout.ensures.made
-
-pub returns-clause-accepted : goal.returns-clause-accepted
-returns-clause-accepted c =
+pub returns-clause-layout : goal.returns-clause-layout
+returns-clause-layout c =
     let spec = c.args.spec.now in
     let base = spec.base in
     let read = read_as c.deref.ensures.value c.deref-2.ensures.value c.in_ok-readings.ensures.read in
     let layout = c.in_ok-layout.layout in
     let told = ap (λ t. told_of (layout_refusals (size_in t) spec base layout)) (c.deref-3.ensures.value ∙ sym c.deref-2.ensures.value) in
-    accepted spec c.args.bytes.now c.deref.result.now c.deref-2.result.now read layout c.in_ok-layout.ensures.made (sym c.in-None.is ∙ c.in_ok-fault.ensures ∙ told)
+    record {
+      numbers = layout_made spec c.args.bytes.now c.deref.result.now c.deref-2.result.now read layout c.in_ok-layout.ensures.made;
+      accepted = accepted spec c.args.bytes.now c.deref.result.now c.deref-2.result.now read layout c.in_ok-layout.ensures.made (sym c.in-None.is ∙ c.in_ok-fault.ensures ∙ told);
+    }
 
 pub returns-clause-legal : goal.returns-clause-legal
 returns-clause-legal c =

@@ -1,5 +1,4 @@
 use Rattle.std.proofs.Common.{◌∙◌}
-
 use Rattle.dsr_layout.specs.Tables.{size_in}
 use Rattle.dsr_layout.proofs.Composed.{first_part, second_part, steps_of_none}
 use Rattle.dsr_layout.proofs.Looking.{is_none}

@@ -1,5 +1,4 @@
-use Rattle.std.proofs.Common.{◌≤◌, Some, All, refl, sym, ap, subst, map, ◌∙◌}
-
+use Rattle.std.proofs.Common.{◌≤◌, Some, All, refl, sym, ap, subst, ◌∙◌}
 use Rattle.dsr_meaning.specs.Layouts.{pools_of, places_of}
 use Rattle.dsr_meaning.specs.Refusals.{size_refusals, value_refusals}
 use Rattle.dsr_layout.specs.Pools.{IsComputable}
@@ -21,6 +20,6 @@ returns-clause-made c =
       sized = ap (λ ss. size_refusals size ss) (sym c.items.ensures) ∙ c.in_ok-fields.ensures.sized;
       valued = ap (λ ps. value_refusals fixed size ps) (sym c.items-2.ensures) ∙ c.in_ok-pools.ensures.valued;
       computable = subst (All IsComputable) (sym c.new.ensures) c.in_ok-pools.ensures.computable;
-      few = subst (λ n. n ≤ 32) (sym (as_many fixed size c.args.base.now.pools c.new.result numbers)) c.requires.typed.few_pools;
-      legal = all_legal fixed c.args.base.now.structures c.new-2.result c.requires.typed.structures places;
+      few = subst (λ n. n ≤ 32) (sym (as_many fixed size c.args.base.now.pools c.new.result numbers)) c.requires.placeable.few_pools;
+      legal = all_legal fixed c.args.base.now.structures c.new-2.result c.requires.placeable.structures places;
     }

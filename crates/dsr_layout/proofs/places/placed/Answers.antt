@@ -1,6 +1,5 @@
 use Rattle.std.proofs.Common.{inr, sym, ap, map, ◌++◌, option_map, ◌∙◌}
 use Rattle.std.proofs.lemmas.Result.{err_from_is_err_and}
-
 use Rattle.dsr_meaning.specs.Places.{placed}
 use Rattle.dsr_layout.specs.Tables.{known, clip_place}
 use Rattle.dsr_layout.proofs.Clipping.{fault_of, nothing_before, placed_next, placed_missing, placed_last}

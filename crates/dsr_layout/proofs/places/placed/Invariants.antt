@@ -1,5 +1,4 @@
 use Rattle.std.proofs.Common.{◌≡◌, ◌<◌, ◌^◌, ◌++◌, map, drop, option_map}
-
 use Rattle.dsr_meaning.specs.Places.{placed}
 use Rattle.dsr_layout.specs.Tables.{known, clip_place}
 use Rattle.dsr_layout.proofs.places.placed.Given as goal

@@ -1,11 +1,6 @@
-use Rattle.std.proofs.Common.{◌+◌, refl, ap, ◌∙◌}
-
-use Rattle.dsr_layout.specs.Telling.{told_of}
-use Rattle.dsr_layout.proofs.Looking.{each_at_map, goes_on, is_none, is_told, told_either}
+use Rattle.std.proofs.Common.{◌+◌, refl, ◌∙◌}
+use Rattle.dsr_layout.proofs.Looking.{goes_on, is_none, is_told, told_either}
 use Rattle.dsr_layout.proofs.pool_checks.subtype.Goals as goal
-
-pub loop-i-init : goal.loop-i-init
-loop-i-init c = ap told_of (each_at_map _ 1 c.args.pools.now)
 
 pub returns-then-is_some : goal.returns-then-is_some
 returns-then-is_some c =

@@ -1,15 +1,13 @@
 use Rattle.std.proofs.Common.{rules, ◌≡◌, ◌+◌, ◌∷◌, ◌++◌, [], All, true, false, not, IsTrue, Option, Some, None, if◌then◌else◌, refl, sym, ap, subst, ◌∙◌}
 use Rattle.std.proofs.lemmas.List.Elements.{All-append}
 use Rattle.std.specs.Option.{option_map_or}
-
 use Rattle.dsr_ir.specs.declared.layouts.PoolNumbers.{PoolNumbers}
 use Rattle.dsr_meaning.specs.Layouts.{pool_of}
 use Rattle.dsr_meaning.specs.Refusals.{is_computable}
 use Rattle.dsr_layout.specs.Pools.{IsComputable, computed}
 use Rattle.dsr_layout.specs.Tables.{known, size_in}
-use Rattle.dsr_layout.specs.Telling.{told_of}
 use Rattle.dsr_layout.proofs.Collecting.{collected_next}
-use Rattle.dsr_layout.proofs.Looking.{each_at_map, goes_on, none_where}
+use Rattle.dsr_layout.proofs.Looking.{goes_on, none_where}
 use Rattle.dsr_layout.proofs.pools.pools_of.Goals as goal
 
 -- numbers that were computed are those of the pool, and computable
@@ -31,7 +29,7 @@ are_computable : (n : PoolNumbers) → IsComputable n → All IsComputable (n �
 are_computable n holds = search (rules, holds)
 
 pub loop-pool-init : goal.loop-pool-init
-loop-pool-init c = (ap Some (sym c.new-numbers.ensures.items), search rules, ap told_of (each_at_map _ 1 c.args.pools.now))
+loop-pool-init c = (ap Some (sym c.new-numbers.ensures.items), search rules, refl)
 
 pub loop-pool-preserved : goal.loop-pool-preserved
 loop-pool-preserved c =

@@ -1,4 +1,4 @@
--- Which statuses answers have, and why a store failed.
+-- Which statuses answers have.
 use Rattle.std.proofs.Common.{◌≡◌, ◌⊎◌, inl, inr, List, [], ◌∷◌, ℕ, subst, true}
 use Rattle.dsr_ir.specs.declared.declarations.Spec.{Spec}
 use Rattle.dsr_meaning.specs.Consistency.{BoundConstraint}
@@ -74,62 +74,3 @@ pub usage_cause : {s : Shelved} {words : List (List ℕ)} {a : Answer} → IsAns
 usage_cause (no_command u none) e = u
 usage_cause (on_files answer u f h) e = absurd (subst IsFilesStatus e (files_told h))
 usage_cause (on_spec answer u f h) e = absurd (subst IsFilesStatus e (text_told h))
-
--- why a store failed
-module _ (s : Shelved) (words : List (List ℕ)) where
-  Cause : Type 0
-  Cause = Rose s.faults_before s.faults_after ⊎ LacksOne s.held words
-
-  spec_cause : IsMissing s (second words) → Cause
-  unfolding Cause
-  spec_cause m = elim m.cause as (λ _. Cause) [ inl r ↦ inl r | inr l ↦ inr (inl l) ]
-
-  image_cause : IsMissing s (third words) → Cause
-  unfolding Cause
-  image_cause m = elim m.cause as (λ _. Cause) [ inl r ↦ inl r | inr l ↦ inr (inr l) ]
-
-  verdict_stored : (spec : Spec) (vs : List BoundConstraint) → (verdict_answer spec vs).status ≡ statuses.StoreFailed → ⊥
-  verdict_stored spec [] e = cc
-  verdict_stored spec (v ∷ vs) e = cc
-
-  image_stored : {spec : Spec} {image : List ℕ} {a : Answer} → IsImageAnswer spec image a → a.status ≡ statuses.StoreFailed → ⊥
-  image_stored (short h) e = cc
-  image_stored (outside le h) e = cc
-  image_stored {spec = spec} (checked layout vs l v) e = verdict_stored spec vs e
-
-  load_stored : {spec : Spec} {a : Answer} → IsLoadAnswer s spec (third words) a → a.status ≡ statuses.StoreFailed → Cause
-  load_stored (no_image m) e = image_cause m
-  load_stored (long_image image f long none) e = absurd cc
-  load_stored (on_image image answer i h none) e = absurd (image_stored h e)
-
-  files_stored : {a : Answer} → IsFilesAnswer s (second words) (third words) a → a.status ≡ statuses.StoreFailed → Cause
-  files_stored (no_spec m) e = spec_cause m
-  files_stored (long_spec text f long none) e = absurd cc
-  files_stored (refused text t n none) e = absurd cc
-  files_stored (accepted text spec answer t f h) e = load_stored h e
-
-  fault_stored : (fault : SyntaxFault) → (syntax_refused fault).status ≡ statuses.StoreFailed → ⊥
-  fault_stored (faults.Token place) e = cc
-  fault_stored (faults.Expected place) e = cc
-  fault_stored (faults.Limit place) e = cc
-  fault_stored faults.NoMemory e = cc
-
-  print_stored : {text : List ℕ} {a : Answer} → IsPrintAnswer text a → a.status ≡ statuses.StoreFailed → ⊥
-  print_stored (no_syntax fault has) e = fault_stored fault e
-  print_stored (no_tables tree kind place is told) e = cc
-  print_stored (with_rules tree is faultless some) e = cc
-  print_stored (printed tree is faultless none) e = cc
-
-  text_stored : {a : Answer} → IsTextAnswer s (second words) a → a.status ≡ statuses.StoreFailed → Cause
-  text_stored (no_text m) e = spec_cause m
-  text_stored (long_text text f long none) e = absurd cc
-  text_stored (on_text text answer t h none) e = absurd (print_stored h e)
-
-  answer_stored : {a : Answer} → IsAnswer s words a → a.status ≡ statuses.StoreFailed → Cause
-  answer_stored (no_command u none) e = absurd cc
-  answer_stored (on_files answer u f h) e = files_stored h e
-  answer_stored (on_spec answer u f h) e = text_stored h e
-
-  pub store_cause : {a : Answer} → IsAnswer s words a → a.status ≡ statuses.StoreFailed → Rose s.faults_before s.faults_after ⊎ LacksOne s.held words
-  unfolding Cause
-  store_cause h e = answer_stored h e

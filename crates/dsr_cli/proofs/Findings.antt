@@ -5,6 +5,7 @@ use Rattle.std.specs.FinMap.{get}
 use Rattle.std.proofs.lemmas.List.{length-take, take_all}
 use Rattle.dsr_ir.specs.declared.declarations.Spec.{Spec}
 use Rattle.dsr_ir.specs.declared.layouts.Layout.{Layout}
+use Rattle.dsr_meaning.specs.Models.{IsFact}
 use Rattle.dsr_meaning.specs.Consistency.{AreViolations, BoundConstraint, IsConsistent}
 use Rattle.dsr_parse.specs.declared.parser.SyntaxFault.{SyntaxFault}
 use Rattle.dsr_parse.specs.declared.parser.SyntaxFault.TheVariants as faults
@@ -58,11 +59,11 @@ module _ (s : Shelved) (words : List (List ℕ)) (files : Files) (told : s.held 
       let h = subst (λ o. IfSome o (λ files. IsSomeAnd (get files name) (λ whole. bytes ≡ take cap whole))) told f in
       whole_front files name bytes cap h lt
 
-  consistent_verdict : (spec : Spec) (layout : Layout) (image : List ℕ) (vs : List BoundConstraint) → AreViolations spec layout image vs → (verdict_answer spec vs).status ≡ statuses.Ok → IsConsistent spec layout image
+  consistent_verdict : (spec : Spec) (layout : Layout) (image : List ℕ) (vs : List BoundConstraint) → AreViolations (IsFact spec layout image) spec vs → (verdict_answer spec vs).status ≡ statuses.Ok → IsConsistent spec layout image
   consistent_verdict spec layout image [] v e = v.all
   consistent_verdict spec layout image (w ∷ ws) v e = absurd cc
 
-  inconsistent_verdict : (spec : Spec) (layout : Layout) (image : List ℕ) (vs : List BoundConstraint) → AreViolations spec layout image vs → (verdict_answer spec vs).status ≡ statuses.Inconsistent → IsConsistent spec layout image → ⊥
+  inconsistent_verdict : (spec : Spec) (layout : Layout) (image : List ℕ) (vs : List BoundConstraint) → AreViolations (IsFact spec layout image) spec vs → (verdict_answer spec vs).status ≡ statuses.Inconsistent → IsConsistent spec layout image → ⊥
   inconsistent_verdict spec layout image [] v e = absurd cc
   inconsistent_verdict spec layout image (w ∷ ws) v e = λ consistent. consistent w (v.only w (inl refl))
 
@@ -73,7 +74,7 @@ module _ (s : Shelved) (words : List (List ℕ)) (files : Files) (told : s.held 
     pub vs : List BoundConstraint
     pub file : get files (third words) ≡ Some image
     pub laid_out : IsLaidOut spec image layout
-    pub violations : AreViolations spec layout image vs
+    pub violations : AreViolations (IsFact spec layout image) spec vs
     pub answer_is : a ≡ verdict_answer spec vs
 
   module _ (status : Status) (is_verdict : (status ≡ statuses.Ok) ⊎ (status ≡ statuses.Inconsistent)) where

@@ -1,9 +1,9 @@
--- Tokens are cut into the statements that they are joined of.
+-- Tokens are cut into the statements of which they are made.
 use Rattle.std.proofs.Common.{◌≡◌, List, [], ◌∷◌, ◌++◌, map, Option, None, Some, Bool, true, false, ◌&&◌, cond, refl, sym, ap, ◌∙◌, append_assoc, append-nil}
 use Rattle.std.proofs.lemmas.Bool.{and_parts}
 use Rattle.dsr_tree.specs.declared.tokens.Token.{Token}
 use Rattle.dsr_cli.specs.FormStatements.{is_end, rest_of, cut}
-use Rattle.dsr_cli.specs.FormTexts.{joined}
+use Rattle.dsr_cli.specs.FormTexts.{run_together}
 use Rattle.dsr_cli.specs.FormTokens.{entry_tokens, entry_statement, structure_statements, both_structures, set_statement, relation_statement, rule_statement, premise_tokens, conclusion_tokens, demand_tokens, demand_statement, later_statements, form_statements, pool_statement, close_statement, head_name}
 use Rattle.dsr_cli.specs.declared.reader.forms.Conclusion.{Conclusion}
 use Rattle.dsr_cli.specs.declared.reader.forms.Conclusion.TheVariants.{Own, Target, Pair}
@@ -15,15 +15,15 @@ use Rattle.dsr_cli.specs.declared.reader.forms.Side.TheVariants.{Number, Members
 use Rattle.dsr_cli.specs.declared.reader.forms.Sort.{Sort}
 use Rattle.dsr_cli.specs.declared.reader.forms.Sort.TheVariants.{Fixed, Short, Long, Reference}
 
--- cut tokens joined again
-joined_rest : (before : List Token) → joined (rest_of before) ≡ before
+-- cut tokens put together again
+joined_rest : (before : List Token) → run_together (rest_of before) ≡ before
 joined_rest [] = refl
 joined_rest (t ∷ ts) = ap (λ xs. t ∷ xs) (append-nil ts)
 
-pub joined_cut : (before tokens : List Token) → joined (cut before tokens) ≡ before ++ tokens
+pub joined_cut : (before tokens : List Token) → run_together (cut before tokens) ≡ before ++ tokens
 joined_cut before [] = joined_rest before ∙ sym (append-nil before)
 joined_cut before (t ∷ ts) =
-    elim (is_end t) as (λ e. joined (cond e ((before ++ t ∷ []) ∷ cut [] ts) (cut (before ++ t ∷ []) ts)) ≡ before ++ t ∷ ts) [
+    elim (is_end t) as (λ e. run_together (cond e ((before ++ t ∷ []) ∷ cut [] ts) (cut (before ++ t ∷ []) ts)) ≡ before ++ t ∷ ts) [
       | true ↦ ap (λ xs. (before ++ t ∷ []) ++ xs) (joined_cut [] ts) ∙ append_assoc before (t ∷ []) ts
       | false ↦ joined_cut (before ++ t ∷ []) ts ∙ append_assoc before (t ∷ []) ts
     ]
@@ -55,10 +55,10 @@ all_single : List (List Token) → Bool
 all_single [] = true
 all_single (s ∷ ss) = single s && all_single ss
 
-cut_all : (ss : List (List Token)) → all_single ss ≡ true → cut [] (joined ss) ≡ ss
+cut_all : (ss : List (List Token)) → all_single ss ≡ true → cut [] (run_together ss) ≡ ss
 unfolding all_single
 cut_all [] e = refl
-cut_all (s ∷ ss) e = let p = and_parts (single s) (all_single ss) e in cut_single [] s (joined ss) p.0 ∙ ap (λ xs. s ∷ xs) (cut_all ss p.1)
+cut_all (s ∷ ss) e = let p = and_parts (single s) (all_single ss) e in cut_single [] s (run_together ss) p.0 ∙ ap (λ xs. s ∷ xs) (cut_all ss p.1)
 
 all_append : (xs ys : List (List Token)) → all_single xs ≡ true → all_single ys ≡ true → all_single (xs ++ ys) ≡ true
 unfolding all_single
@@ -126,5 +126,5 @@ form_single f =
     (later_single f)
 
 -- the tokens of a form, cut
-pub cut_form : (f : Form) → cut [] (joined (form_statements f)) ≡ form_statements f
+pub cut_form : (f : Form) → cut [] (run_together (form_statements f)) ≡ form_statements f
 cut_form f = cut_all (form_statements f) (form_single f)

@@ -6,14 +6,14 @@ use Rattle.dsr_tokens.proofs.Laws.{lexed_once}
 use Rattle.dsr_cli.specs.FormParts.{form_in}
 use Rattle.dsr_cli.specs.FormSpecs.{form_spec}
 use Rattle.dsr_cli.specs.FormStatements.{cut, token_of}
-use Rattle.dsr_cli.specs.FormTexts.{HasForm, IsWritten, joined}
+use Rattle.dsr_cli.specs.FormTexts.{HasForm, IsWritten, run_together}
 use Rattle.dsr_cli.specs.FormTokens.{form_statements}
 use Rattle.dsr_cli.proofs.FormCuts.{cut_form}
 use Rattle.dsr_cli.proofs.FormRoundTrip.{form_read}
 
 written_once : (tokens tokens' : List Token) (a b : Spec) → tokens ≡ tokens' → IsWritten tokens a → IsWritten tokens' b → a ≡ b
 written_once tokens tokens' a b e p q =
-    let texts : joined (form_statements p.form) ≡ joined (form_statements q.form) = sym p.tokens_are ∙ e ∙ q.tokens_are in
+    let texts : run_together (form_statements p.form) ≡ run_together (form_statements q.form) = sym p.tokens_are ∙ e ∙ q.tokens_are in
     let statements : form_statements p.form ≡ form_statements q.form = sym (cut_form p.form) ∙ ap (cut []) texts ∙ cut_form q.form in
     let forms : p.form ≡ q.form = sym (form_read p.form p.sound) ∙ ap form_in statements ∙ form_read q.form q.sound in
     p.spec_is ∙ ap form_spec forms ∙ sym q.spec_is

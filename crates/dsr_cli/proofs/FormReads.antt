@@ -11,7 +11,7 @@ use Rattle.dsr_cli.specs.FormConditions.{is_sound}
 use Rattle.dsr_cli.specs.FormParts.{form_in}
 use Rattle.dsr_cli.specs.FormSpecs.{form_spec}
 use Rattle.dsr_cli.specs.FormStatements.{token_of, cut}
-use Rattle.dsr_cli.specs.FormTexts.{is_no_mark, are_decimal, joined, IsWritten, HasForm, FindsForm, FindsSpec, ReadsSpec}
+use Rattle.dsr_cli.specs.FormTexts.{is_no_mark, are_decimal, run_together, IsWritten, HasForm, FindsForm, FindsSpec, ReadsSpec}
 use Rattle.dsr_cli.specs.FormTokens.{form_statements}
 use Rattle.dsr_cli.specs.declared.reader.forms.Form.{Form}
 use Rattle.dsr_cli.proofs.FormCuts.{joined_cut, cut_form}
@@ -40,7 +40,7 @@ module _ (tokens : List Token) (ss : List (List Token)) (cut_is : ss ≡ cut [] 
   pub one_spec : (form : Form) → found ≡ Some form → (spec : Spec) → spec ≡ form_spec form → IsWritten tokens spec
   one_spec form e spec spec_is =
       let some : FindsForm ss (Some form) = subst (FindsForm ss) e finds in
-      record { form = form; sound = some.0; tokens_are = sym (joined_cut [] tokens) ∙ ap joined (sym cut_is ∙ some.1); spec_is = spec_is }
+      record { form = form; sound = some.0; tokens_are = sym (joined_cut [] tokens) ∙ ap run_together (sym cut_is ∙ some.1); spec_is = spec_is }
 
 pub no_lexemes : (text : List ℕ) → ((lexemes : List Lexeme) → IsLexed text lexemes → ⊥) → (spec : Spec) → HasForm text spec → ⊥
 no_lexemes text none spec h = none h.lexemes h.lexed

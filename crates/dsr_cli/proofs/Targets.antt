@@ -14,7 +14,7 @@ use Rattle.dsr_ir.specs.declared.tuples.Target.TheVariants.{Elem, Num}
 use Rattle.dsr_meaning.specs.Cells.{value_at}
 use Rattle.dsr_meaning.specs.Counting.{AreMany, IsDistinct, IsIn}
 use Rattle.dsr_meaning.specs.Instances.{referred_pool}
-use Rattle.dsr_meaning.specs.Models.{IsPair}
+use Rattle.dsr_meaning.specs.Models.{IsFact, IsPair}
 use Rattle.dsr_meaning.specs.Truth.{head, HasSize}
 use Rattle.dsr_ir.specs.declared.constraints.Measure.TheVariants.{Out}
 use Rattle.dsr_ir.specs.declared.constraints.Var.{Var}
@@ -184,7 +184,7 @@ of_head spec Head rel h = (refl, h)
 of_head spec First rel h = absurd h
 of_head spec Second rel h = absurd h
 
-pub size_of_targets : (spec : Spec) → IsPlain spec → (bytes : List ℕ) (layout : Layout) → IsLaidOut spec bytes layout → (v : Var) (rel : ℕ) → IsPlainMeasure spec (Out v rel) → (slots : List ℕ) → AreTargets spec layout bytes rel slots → HasSize spec layout bytes Once (Out v rel) (length slots)
+pub size_of_targets : (spec : Spec) → IsPlain spec → (bytes : List ℕ) (layout : Layout) → IsLaidOut spec bytes layout → (v : Var) (rel : ℕ) → IsPlainMeasure spec (Out v rel) → (slots : List ℕ) → AreTargets spec layout bytes rel slots → HasSize (IsFact spec layout bytes) Once (Out v rel) (length slots)
 size_of_targets spec plain bytes layout laid v rel h slots t =
     let f = of_head spec v rel h in
-    subst (λ w. HasSize spec layout bytes Once (Out w rel) (length slots)) (sym f.0) (many_targets spec plain bytes layout laid rel f.1 slots t)
+    subst (λ w. HasSize (IsFact spec layout bytes) Once (Out w rel) (length slots)) (sym f.0) (many_targets spec plain bytes layout laid rel f.1 slots t)

@@ -8,6 +8,7 @@ use Rattle.dsr_ir.specs.declared.layouts.Layout.{Layout}
 use Rattle.dsr_ir.specs.declared.tuples.Binding.{Binding}
 use Rattle.dsr_ir.specs.declared.tuples.Binding.TheVariants.{Once, Each, Pair}
 use Rattle.dsr_ir.specs.declared.tuples.Element.{Element}
+use Rattle.dsr_meaning.specs.Models.{IsFact}
 use Rattle.dsr_meaning.specs.Consistency.{AreViolations, BoundConstraint}
 use Rattle.dsr_text.specs.Canonical.{canonical}
 use Rattle.dsr_text.specs.Declarations.{declaration_faults}
@@ -22,7 +23,7 @@ use Rattle.dsr_store.specs.Causes.{Rose}
 use Rattle.dsr_store.specs.Files.{Files, IsFrontOf, Lacks}
 use Rattle.dsr_store.specs.declared.outside.Missed.{Missed}
 use Rattle.dsr_cli.specs.FormTexts.{HasForm}
-use Rattle.dsr_cli.specs.PlainLayouts.{IsLaidOut, IsOutside, IsShort, size_of}
+use Rattle.dsr_cli.specs.PlainLayouts.{IsLaidOut, EndsBehind, IsShort, size_of}
 use Rattle.dsr_cli.specs.Words.{is_usage, is_text, second, third}
 use Rattle.dsr_cli.specs.declared.status.Status.{Status}
 use Rattle.dsr_cli.specs.declared.status.Status.TheVariants as statuses
@@ -79,8 +80,8 @@ verdict_answer spec (v ∷ vs) = record { status = statuses.Inconsistent; text =
 -- the answer to a specification and the bytes of an image
 pub data IsImageAnswer (spec : Spec) (image : List ℕ) : Answer → Type 0 where
   short : IsShort spec image → IsImageAnswer spec image layout_short
-  outside : size_of spec 0 ≤ length image → IsOutside spec image → IsImageAnswer spec image (layout_outside (pool_name spec 1))
-  checked : (layout : Layout) (vs : List BoundConstraint) → IsLaidOut spec image layout → AreViolations spec layout image vs → IsImageAnswer spec image (verdict_answer spec vs)
+  outside : size_of spec 0 ≤ length image → EndsBehind spec image → IsImageAnswer spec image (layout_outside (pool_name spec 1))
+  checked : (layout : Layout) (vs : List BoundConstraint) → IsLaidOut spec image layout → AreViolations (IsFact spec layout image) spec vs → IsImageAnswer spec image (verdict_answer spec vs)
 
 -- what the shelf told before the call and after it
 pub record Shelved : Type 0 where

@@ -1,10 +1,8 @@
 -- How a run ends.
 use Rattle.std.specs.Prelude.{◌≡◌, ◌⊎◌, ℕ, List, Option}
 use Rattle.dsr_store.specs.Causes.{Rose}
-use Rattle.dsr_store.specs.Files.{Files, Lacks}
 use Rattle.dsr_store.specs.Written.{appended, AppendsFront}
 use Rattle.dsr_cli.specs.Answers.{Answer}
-use Rattle.dsr_cli.specs.Words.{second, third}
 use Rattle.dsr_cli.specs.declared.status.Status.{Status}
 use Rattle.dsr_cli.specs.declared.status.Status.TheVariants.{OutputFailed}
 
@@ -13,7 +11,3 @@ abbrev pub Puts : Answer → Option (List ℕ) → Option (List ℕ) → ℕ →
 Puts answer old new before after status =
     ((status ≡ answer.status) × (new ≡ appended old answer.text))
     ⊎ ((status ≡ OutputFailed) × Rose before after × AppendsFront old new answer.text)
-
--- the files are told, and one that the words name isn't there
-abbrev pub LacksOne : Option Files → List (List ℕ) → Type 0
-LacksOne held words = Lacks held (second words) ⊎ Lacks held (third words)

@@ -18,7 +18,7 @@ use Rattle.dsr_ir.specs.declared.declarations.Spec.{Spec}
 use Rattle.dsr_ir.specs.declared.declarations.Structure.{Structure}
 use Rattle.dsr_ir.specs.declared.declarations.Width.{Width}
 use Rattle.dsr_ir.specs.declared.declarations.Width.TheVariants as width
-use Rattle.dsr_ir.specs.declared.expressions.Expr.{Num, Fixed}
+use Rattle.dsr_ir.specs.Exprs.{NumOf, FixedOf}
 use Rattle.dsr_ir.specs.declared.rules.Inc.{Inc}
 use Rattle.dsr_ir.specs.declared.rules.Inc.TheVariants as inc
 use Rattle.dsr_ir.specs.declared.rules.Op.TheVariants as op
@@ -61,12 +61,12 @@ abbrev pub form_pool : Form → Pool
 form_pool f = record {
   name = f.pool;
   structure = 1;
-  count = Fixed 0;
+  count = FixedOf 0;
   slot = None;
-  start = Num (fields_size f.head_fields);
-  code = Num 1;
-  step = Num 1;
-  none = Num 0;
+  start = NumOf (fields_size f.head_fields);
+  code = NumOf 1;
+  step = NumOf 1;
+  none = NumOf 0;
   avoid = None;
 }
 

@@ -33,15 +33,15 @@ are_decimal text [] = true
 are_decimal text (l ∷ ls) = is_decimal l.token (drop l.place text) && are_decimal text ls
 
 -- statements one after the other
-abbrev pub joined : List (List Token) → List Token
-joined [] = []
-joined (s ∷ ss) = s ++ joined ss
+abbrev pub run_together : List (List Token) → List Token
+run_together [] = []
+run_together (s ∷ ss) = s ++ run_together ss
 
 -- tokens of the form, with the typed specification that they stand for
 pub record IsWritten (tokens : List Token) (spec : Spec) : Type 0 where
   pub form : Form
   pub sound : IsTrue (is_sound form)
-  pub tokens_are : tokens ≡ joined (form_statements form)
+  pub tokens_are : tokens ≡ run_together (form_statements form)
   pub spec_is : spec ≡ form_spec form
 
 -- a text of the form, with the typed specification that it stands for

@@ -47,8 +47,8 @@ abbrev pub IsShort : Spec → List ℕ → Type 0
 IsShort spec bytes = length bytes < size_of spec 0
 
 -- the pool ends behind the image
-abbrev pub IsOutside : Spec → List ℕ → Type 0
-IsOutside spec bytes = length bytes < size_of spec 0 + count_in bytes * size_of spec 1
+abbrev pub EndsBehind : Spec → List ℕ → Type 0
+EndsBehind spec bytes = length bytes < size_of spec 0 + count_in bytes * size_of spec 1
 
 -- the image has room for the head and the pool, and this is its layout
 pub record IsLaidOut (spec : Spec) (bytes : List ℕ) (layout : Layout) : Type 0 where

@@ -1,7 +1,7 @@
 // The answer to the words, before it is put.
 ghost use Rattle.std.specs.Prelude.{◌≡◌, ◌≤◌, ◌<◌, IfOk, map, string_bytes, true};
 ghost use Rattle.dsr_cli.specs.Answers.{Shelved, IsImageAnswer, IsLoadAnswer, IsFilesAnswer, IsTextAnswer, IsAnswer, verdict_answer, usage, store_failed, too_long_spec, too_long_image, spec_refused, layout_short, layout_outside, pool_name};
-ghost use Rattle.dsr_cli.specs.Loads.{Loads, bytes_of, shown, shelved_by};
+ghost use Rattle.dsr_cli.specs.Loads.{IsLastAsked, IsLastDue, IsLastOfTwo, Loads, bytes_of, shown, shelved_by};
 ghost use Rattle.dsr_cli.specs.Plain.{IsPlain};
 ghost use Rattle.dsr_cli.specs.Values.{violations_where};
 ghost use Rattle.dsr_cli.specs.Words.{is_usage};
@@ -100,6 +100,7 @@ fn load_of<F: Shelf>(
     ensures loaded { IfOk result (λ o. Loads (shelved_by (F.held shelf.old) (F.faults shelf.old) (F.faults shelf.new) (F.last shelf.old) (F.last shelf.new)) name.now cap (bytes_of o)) }
     ensures held { F.held shelf.new ≡ F.held shelf.old }
     ensures later { F.faults shelf.old ≤ F.faults shelf.new }
+    ensures last { IsLastDue (F.last shelf.old) (F.last shelf.new) name.now }
 {
     match shelf.load(alloc, name, cap) {
         Ok(bytes) => Ok(Some(bytes)),
@@ -118,6 +119,7 @@ fn answer_on_image<F: Shelf>(
     ensures answer { IfOk result (λ t. IsLoadAnswer (shelved_by (F.held shelf.old) (F.faults shelf.old) (F.faults shelf.new) (F.last shelf.old) (F.last shelf.new)) spec.now name.now (shown t)) }
     ensures held { F.held shelf.new ≡ F.held shelf.old }
     ensures later { F.faults shelf.old ≤ F.faults shelf.new }
+    ensures last { IsLastDue (F.last shelf.old) (F.last shelf.new) name.now }
 {
     let image = match load_of(alloc, shelf, name, IMAGE_LIMIT as u64 + 1)? {
         None => return tell(alloc, Status::StoreFailed, b"store failed\n"),
@@ -137,6 +139,7 @@ fn answer_on_files<F: Shelf>(
 ) -> Result<Told, AllocError>
     ensures answer { IfOk result (λ t. IsFilesAnswer (shelved_by (F.held shelf.old) (F.faults shelf.old) (F.faults shelf.new) (F.last shelf.old) (F.last shelf.new)) spec_name.now image_name.now (shown t)) }
     ensures held { F.held shelf.new ≡ F.held shelf.old }
+    ensures last { IsLastOfTwo (F.last shelf.old) (F.last shelf.new) spec_name.now image_name.now }
 {
     let text = match load_of(alloc, shelf, spec_name, SPEC_LIMIT as u64 + 1)? {
         None => return tell(alloc, Status::StoreFailed, b"store failed\n"),
@@ -154,6 +157,7 @@ fn answer_on_files<F: Shelf>(
 fn text_answer<F: Shelf>(alloc: Global, shelf: &mut F, name: &str) -> Result<Told, AllocError>
     ensures answer { IfOk result (λ t. IsTextAnswer (shelved_by (F.held shelf.old) (F.faults shelf.old) (F.faults shelf.new) (F.last shelf.old) (F.last shelf.new)) name.now (shown t)) }
     ensures held { F.held shelf.new ≡ F.held shelf.old }
+    ensures last { IsLastDue (F.last shelf.old) (F.last shelf.new) name.now }
 {
     let text = match load_of(alloc, shelf, name, SPEC_LIMIT as u64 + 1)? {
         None => return tell(alloc, Status::StoreFailed, b"store failed\n"),
@@ -173,6 +177,7 @@ pub fn answer_to<F: Shelf>(
 ) -> Result<Told, AllocError>
     ensures answer { IfOk result (λ t. IsAnswer (shelved_by (F.held shelf.old) (F.faults shelf.old) (F.faults shelf.new) (F.last shelf.old) (F.last shelf.new)) (map string_bytes words.now) (shown t)) }
     ensures held { F.held shelf.new ≡ F.held shelf.old }
+    ensures last { IsLastAsked (map string_bytes words.now) (F.last shelf.old) (F.last shelf.new) }
     ensures usage { is_usage (map string_bytes words.now) ≡ true → shelf.new ≡ shelf.old }
 {
     if is_usage_of(words) {

@@ -2,7 +2,7 @@
 ghost use Rattle.std.specs.Prelude.{◌≡◌, ◌<◌, ◌≤◌, ◌*◌, All, IfOk, IfErr, IsErrOf, OnErr, length, map};
 ghost use Rattle.dsr_meaning.specs.Cells.{width_bits};
 ghost use Rattle.dsr_cli.specs.Plain.{IsPlain, fields_of};
-ghost use Rattle.dsr_cli.specs.PlainLayouts.{size_bits, size_of, placed, structure_places, IsShort, IsOutside, IsLaidOut, count_in, layout_with, HasFewFields};
+ghost use Rattle.dsr_cli.specs.PlainLayouts.{size_bits, size_of, placed, structure_places, IsShort, EndsBehind, IsLaidOut, count_in, layout_with, HasFewFields};
 
 use byteorder::{ByteOrder, LittleEndian};
 use dsr_ir::{Field, FieldPlace, Layout, Order, PoolNumbers, Seq, Spec, Structure, Width};
@@ -118,7 +118,7 @@ pub fn layout_of(alloc: Global, spec: &Spec, image: &[u8]) -> Result<Layout, Lay
     requires plain { IsPlain spec.now }
     ensures laid_out { IfOk result (λ layout. IsLaidOut spec.now image.now layout) }
     ensures short { IsErrOf result LayoutFault.Short → IsShort spec.now image.now }
-    ensures outside { IsErrOf result LayoutFault.Outside → (size_of spec.now 0 ≤ length image.now) × IsOutside spec.now image.now }
+    ensures outside { IsErrOf result LayoutFault.Outside → (size_of spec.now 0 ≤ length image.now) × EndsBehind spec.now image.now }
 {
     let head_size = size_in(spec, 0);
     let slot = size_in(spec, 1);

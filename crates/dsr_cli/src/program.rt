@@ -2,8 +2,8 @@
 ghost use Rattle.std.specs.Prelude.{◌≡◌, ◌⊎◌, map, string_bytes, true, false};
 ghost use Rattle.dsr_cli.specs.Answers.{Answer, IsAnswer};
 ghost use Rattle.dsr_store.specs.Causes.{Rose};
-ghost use Rattle.dsr_cli.specs.Ends.{LacksOne, Puts};
-ghost use Rattle.dsr_cli.specs.Loads.{shelved_by};
+ghost use Rattle.dsr_cli.specs.Ends.{Puts};
+ghost use Rattle.dsr_cli.specs.Loads.{IsLastAsked, shelved_by};
 ghost use Rattle.dsr_cli.specs.Verdicts.{FindsConsistent, FindsInconsistent, FindsText};
 ghost use Rattle.dsr_cli.specs.Words.{is_text, is_usage};
 
@@ -28,9 +28,10 @@ pub fn run<F: Shelf, O: Sink>(
     ensures inconsistent { result ≡ Status.Inconsistent → FindsInconsistent (F.held shelf.old) (map string_bytes words.now.items) }
     ensures usage { result ≡ Status.Usage → is_usage (map string_bytes words.now.items) ≡ true }
     ensures uncalled { is_usage (map string_bytes words.now.items) ≡ true → shelf.new ≡ shelf.old }
-    ensures store { result ≡ Status.StoreFailed → Rose (F.faults shelf.old) (F.faults shelf.new) ⊎ LacksOne (F.held shelf.old) (map string_bytes words.now.items) }
     ensures output { result ≡ Status.OutputFailed → Rose (O.faults out.old) (O.faults out.new) }
+    ensures quiet { (result ≡ Status.OutputFailed) ⊎ (O.faults out.new ≡ O.faults out.old) }
     ensures no_memory { result ≡ Status.NoMemory → O.written out.new ≡ O.written out.old }
+    ensures last { IsLastAsked (map string_bytes words.now.items) (F.last shelf.old) (F.last shelf.new) }
     ensures held { F.held shelf.new ≡ F.held shelf.old }
 {
     match answer_to(alloc, words, shelf) {

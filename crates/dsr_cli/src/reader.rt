@@ -24,8 +24,8 @@ use crate::reader::statements::statements_of;
 use crate::reader::typed::make_spec;
 use crate::reader::written::write_form;
 use dsr_ir::{Seq, Spec};
-use dsr_tree::{Lexeme, Token};
 use dsr_tokens::{TokenFault, tokens};
+use dsr_tree::{Lexeme, Token};
 use std::alloc::{AllocError, Global};
 
 // Reads what the statements say, and compares them with those of the text that says it.

@@ -10,9 +10,9 @@ ghost use Rattle.dsr_struct.specs.declared.refusals.SpecFault.TheVariants as spe
 use crate::Status;
 use crate::answers::{Told, tell};
 use dsr_ir::NoMemory;
-use dsr_tree::Tree;
 use dsr_parse::{SyntaxFault, parse, print};
 use dsr_struct::{SpecFault, structures};
+use dsr_tree::Tree;
 use itoa::Buffer;
 use std::alloc::{AllocError, Global};
 

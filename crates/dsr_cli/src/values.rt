@@ -6,7 +6,7 @@ ghost use Rattle.dsr_ir.specs.declared.rules.Op.TheVariants.{Eq};
 ghost use Rattle.dsr_ir.specs.declared.tuples.Binding.TheVariants.{Once};
 ghost use Rattle.dsr_meaning.specs.Consistency.{AreViolations};
 ghost use Rattle.dsr_meaning.specs.Counting.{AreMany, IsIn};
-ghost use Rattle.dsr_meaning.specs.Models.{IsMember};
+ghost use Rattle.dsr_meaning.specs.Models.{IsFact, IsMember};
 ghost use Rattle.dsr_meaning.specs.Truth.{head, AtomHolds, HasBound, HasSize};
 ghost use Rattle.dsr_cli.specs.Plain.{IsPlain, IsPlainBound, IsPlainMeasure, IsPlainRule, Relates};
 ghost use Rattle.dsr_cli.specs.PlainLayouts.{IsLaidOut};
@@ -141,7 +141,7 @@ fn size_of(alloc: Global, view: &View, marks: &[bool], measure: Measure) -> Resu
     requires laid_out { IsLaidOut view.now.spec.now view.now.image.now view.now.layout.now }
     requires members { AreMembers view.now.spec.now view.now.layout.now view.now.image.now marks.now }
     requires measure { IsPlainMeasure view.now.spec.now measure }
-    ensures { IfOk result (λ n. HasSize view.now.spec.now view.now.layout.now view.now.image.now Once measure n) }
+    ensures { IfOk result (λ n. HasSize (IsFact view.now.spec.now view.now.layout.now view.now.image.now) Once measure n) }
 {
     match measure {
         Measure::Whole(set) => Ok(size_of_set(view, marks, set) as u64),
@@ -156,7 +156,7 @@ fn bound_of(alloc: Global, view: &View, marks: &[bool], bound: Bound) -> Result<
     requires laid_out { IsLaidOut view.now.spec.now view.now.image.now view.now.layout.now }
     requires members { AreMembers view.now.spec.now view.now.layout.now view.now.image.now marks.now }
     requires bound { IsPlainBound view.now.spec.now bound }
-    ensures { IfOk result (λ n. HasBound view.now.spec.now view.now.layout.now view.now.image.now Once bound n) }
+    ensures { IfOk result (λ n. HasBound (IsFact view.now.spec.now view.now.layout.now view.now.image.now) Once bound n) }
 {
     match bound {
         Bound::Num(k) => Ok(k),
@@ -170,7 +170,7 @@ fn is_met(alloc: Global, view: &View, rel: u32, bound: Bound) -> Result<bool, Al
     requires laid_out { IsLaidOut view.now.spec.now view.now.image.now view.now.layout.now }
     requires relates { Relates view.now.spec.now rel 0 None }
     requires bound { IsPlainBound view.now.spec.now bound }
-    ensures { IfOk result (λ met. IsTrue met ↔ AtomHolds view.now.spec.now view.now.layout.now view.now.image.now Once (Value Head rel Eq bound)) }
+    ensures { IfOk result (λ met. IsTrue met ↔ AtomHolds (IsFact view.now.spec.now view.now.layout.now view.now.image.now) Once (Value Head rel Eq bound)) }
 {
     let marks = members_of(alloc, view)?;
     let n = bound_of(alloc, view, &marks, bound)?;
@@ -181,7 +181,7 @@ fn is_met(alloc: Global, view: &View, rel: u32, bound: Bound) -> Result<bool, Al
 pub fn is_consistent(alloc: Global, view: &View) -> Result<bool, AllocError>
     requires plain { IsPlain view.now.spec.now }
     requires laid_out { IsLaidOut view.now.spec.now view.now.image.now view.now.layout.now }
-    ensures { IfOk result (λ met. AreViolations view.now.spec.now view.now.layout.now view.now.image.now (violations_where met)) }
+    ensures { IfOk result (λ met. AreViolations (IsFact view.now.spec.now view.now.layout.now view.now.image.now) view.now.spec.now (violations_where met)) }
 {
     let constraint = &view.spec.constraints.items()[0];
     match constraint.conjs.items()[0].literals.items()[0].atom {

@@ -87,18 +87,15 @@ fn first_wrong(
 
 #[test]
 fn whole_bytes(rt: HostRuntime) -> Result<(), Fail> {
-    assert_eq!(rt;
-        first_wrong(rt.alloc(), &LITTLE, true, Order::Little)?,
-        None
-    );
-    assert_eq!(rt; first_wrong(rt.alloc(), &BIG, true, Order::Big)?, None);
+    assert!(rt; first_wrong(rt.alloc(), &LITTLE, true, Order::Little)?.is_none());
+    assert!(rt; first_wrong(rt.alloc(), &BIG, true, Order::Big)?.is_none());
     Ok(())
 }
 
 #[test]
 fn bits_in_either_order(rt: HostRuntime) -> Result<(), Fail> {
-    assert_eq!(rt; first_wrong(rt.alloc(), &BITS, false, Order::Little)?, None);
-    assert_eq!(rt; first_wrong(rt.alloc(), &BITS, false, Order::Big)?, None);
+    assert!(rt; first_wrong(rt.alloc(), &BITS, false, Order::Little)?.is_none());
+    assert!(rt; first_wrong(rt.alloc(), &BITS, false, Order::Big)?.is_none());
     Ok(())
 }
 
@@ -127,5 +124,41 @@ fn claims_leave_the_bytes(rt: HostRuntime) -> Result<(), Fail> {
     assert!(rt; image.claim(3, 4).is_ok());
     assert!(rt; image.claim(10, 0).is_ok());
     assert!(rt; image.into_bytes().as_slice() == BYTES.as_slice());
+    Ok(())
+}
+
+// Two puts into cells of any image that share no bit, and what both hold then.
+fn put_both<I: ImageBytes>(image: &mut I, a: &Cell, b: &Cell, v: u64, w: u64) -> (u64, u64)
+    requires a { IsCellOf (I.bytes image.old) a.now }
+    requires b { IsCellOf (I.bytes image.old) b.now }
+    requires apart { AreCellsApart a.now b.now }
+    requires a_claimed { IsCellClaimed (I.claimed image.old) a.now }
+    requires b_claimed { IsCellClaimed (I.claimed image.old) b.now }
+    requires a_fits { v < 2 ^ a.now.width }
+    requires b_fits { w < 2 ^ b.now.width }
+    ensures first { result.0 ≡ v }
+    ensures second { result.1 ≡ w }
+{
+    image.put(a, v);
+    image.put(b, w);
+    (image.get(a), image.get(b))
+}
+
+#[test]
+fn two_puts_hold(rt: HostRuntime) -> Result<(), Fail> {
+    let mut image = image(rt.alloc())?;
+    let low = Cell {
+        bit: 16,
+        width: 16,
+        bytewise: true,
+        order: Order::Big,
+    };
+    let high = Cell {
+        bit: 32,
+        width: 3,
+        bytewise: false,
+        order: Order::Big,
+    };
+    assert!(rt; put_both(&mut image, &low, &high, 258, 5) == (258, 5));
     Ok(())
 }

@@ -213,49 +213,90 @@ fn hash_of(name: &Name) -> u64 {
     hasher.finish()
 }
 
-fn is_same_spec(copy: &Spec, source: &Spec) -> bool {
-    let (Some(a), Some(b)) = (
-        copy.base.pools.items().first(),
-        source.base.pools.items().first(),
-    ) else {
-        return false;
-    };
-    let (Some(r), Some(s)) = (copy.rules.items().first(), source.rules.items().first()) else {
-        return false;
-    };
-    a.name == b.name && a.start == b.start && a.slot == b.slot && r.inc == s.inc && r.span == s.span
+fn is_same_pool(copy: &Pool, source: &Pool) -> bool {
+    copy.name == source.name && copy.start == source.start && copy.slot == source.slot
 }
 
-// `not given (any of one atom)`, together with that atom
-fn is_formula(formula: &Formula) -> bool {
-    let FormulaNode::Every(parts) = formula.node() else {
-        return false;
-    };
-    match (parts.first(), parts.get(1)) {
-        (Some(FormulaNode::Not(part)), Some(FormulaNode::Leaf(atom))) => {
+fn is_same_rule(copy: &Rule, source: &Rule) -> bool {
+    copy.inc == source.inc && copy.span == source.span
+}
+
+fn are_same_rules(copies: &[Rule], sources: &[Rule]) -> bool {
+    copies
+        .iter()
+        .zip(sources)
+        .all(|(copy, source)| is_same_rule(copy, source))
+}
+
+fn are_same_pools(copies: &[Pool], sources: &[Pool]) -> bool {
+    copies
+        .iter()
+        .zip(sources)
+        .all(|(copy, source)| is_same_pool(copy, source))
+}
+
+// `not given (any of one atom)`
+fn is_first_part(part: &FormulaNode) -> bool {
+    match part {
+        FormulaNode::Not(part) => {
             let part: &FormulaNode = part;
-            matches!(part, FormulaNode::Given(_)) && *atom == ATOM
+            matches!(part, FormulaNode::Given(_))
         }
         _ => false,
     }
 }
 
+fn is_formula(formula: &Formula) -> bool {
+    match formula.node() {
+        FormulaNode::Every(parts) => parts.len() == 2 && is_first_part(&parts[0]),
+        _ => false,
+    }
+}
+
 #[test]
-fn copies_equal_their_sources(rt: HostRuntime) -> Result<(), Fail> {
+fn expressions_are_copied(rt: HostRuntime) -> Result<(), Fail> {
     let alloc = rt.alloc();
     let expr = expression(alloc)?;
     assert!(rt; TryClone::clone(&expr, alloc)? == expr);
     assert!(rt; expr != Expr::number(5));
     assert!(rt; matches!(expr.node(), ExprNode::Times(_, _)));
+    Ok(())
+}
+
+#[test]
+fn specifications_are_copied(rt: HostRuntime) -> Result<(), Fail> {
+    let alloc = rt.alloc();
     let spec = specification(alloc)?;
-    assert!(rt; is_same_spec(&TryClone::clone(&spec, alloc)?, &spec));
+    let copy = TryClone::clone(&spec, alloc)?;
+    assert!(rt; are_same_pools(copy.base.pools.items(), spec.base.pools.items()));
+    assert!(rt; are_same_rules(copy.rules.items(), spec.rules.items()));
+    assert_eq!(rt; copy.base.pools.items().len(), 1);
+    assert_eq!(rt; copy.rules.items().len(), 1);
+    Ok(())
+}
+
+#[test]
+fn formulas_are_copied(rt: HostRuntime) -> Result<(), Fail> {
+    let alloc = rt.alloc();
     let formula = formula(alloc)?;
     assert!(rt; is_formula(&formula));
     assert!(rt; is_formula(&TryClone::clone(&formula, alloc)?));
+    Ok(())
+}
+
+#[test]
+fn templates_and_layouts_are_copied(rt: HostRuntime) -> Result<(), Fail> {
+    let alloc = rt.alloc();
     let template = template(alloc)?;
     assert!(rt; TryClone::clone(&template, alloc)? == template);
     let copy = TryClone::clone(&layout(alloc)?, alloc)?;
     assert_eq!(rt; copy.length(), 112);
+    Ok(())
+}
+
+#[test]
+fn names_are_copied(rt: HostRuntime) -> Result<(), Fail> {
+    let alloc = rt.alloc();
     let name = name(alloc, b"nodes")?;
     let copy = TryClone::clone(&name, alloc)?;
     assert!(rt; copy == name && copy.cmp(&name) == Ordering::Equal);

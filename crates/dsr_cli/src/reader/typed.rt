@@ -5,7 +5,11 @@ ghost use Rattle.dsr_cli.specs.FormSpecs.{sort_width, sort_kind, entry_field, st
 
 use crate::reader::conditions::{is_fixed_sort, size_of_fields};
 use crate::reader::forms::{Clause, Conclusion, Entry, Form, Link, Premise, Side, Sort};
-use dsr_ir::{Atom, Bound, Conj, Constraint, Expr, Field, FieldRef, Inc, Kind, Literal, Measure, Name, Op, Order, Path, Pool, Quant, Rel, Rule, Seq, SetDecl, Span, Spec, Structure, Structures, Var, Width};
+use dsr_ir::{
+    Atom, Bound, Conj, Constraint, Expr, Field, FieldRef, Inc, Kind, Literal, Measure, Name, Op,
+    Order, Path, Pool, Quant, Rel, Rule, Seq, SetDecl, Span, Spec, Structure, Structures, Var,
+    Width,
+};
 use std::alloc::{AllocError, AllocFailed, Global};
 
 /// The name of these bytes.
@@ -83,12 +87,12 @@ fn make_pool(alloc: Global, form: &Form) -> Result<Pool, AllocError>
     Ok(Pool {
         name: make_name(alloc, form.pool.bytes())?,
         structure: 1,
-        count: Expr::Fixed(0),
+        count: Expr::fixed(0),
         slot: None,
-        start: Expr::Num(size_of_fields(form.head_fields.items())),
-        code: Expr::Num(1),
-        step: Expr::Num(1),
-        none: Expr::Num(0),
+        start: Expr::number(size_of_fields(form.head_fields.items())),
+        code: Expr::number(1),
+        step: Expr::number(1),
+        none: Expr::number(0),
         avoid: None,
     })
 }

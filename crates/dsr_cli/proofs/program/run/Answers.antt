@@ -1,6 +1,6 @@
 use Rattle.std.proofs.Common.{ap, ◌∙◌}
 use Rattle.dsr_store.specs.Written.{appended}
-use Rattle.dsr_cli.proofs.AnswerLaws.{not_no_memory, not_output_failed, store_cause, usage_cause}
+use Rattle.dsr_cli.proofs.AnswerLaws.{not_no_memory, not_output_failed, usage_cause}
 use Rattle.dsr_cli.proofs.Findings.{finds_consistent, finds_inconsistent, finds_printed}
 use Rattle.dsr_cli.proofs.program.run.Goals as goal
 
@@ -9,9 +9,6 @@ returns-in-Ok-put-clause-no_memory g c e = absurd (not_no_memory c.in-Ok.ensures
 
 pub returns-in-Ok-put-clause-output : goal.returns-in-Ok-put-clause-output
 returns-in-Ok-put-clause-output g c e = absurd (not_output_failed c.in-Ok.ensures.answer e)
-
-pub returns-in-Ok-put-clause-store : goal.returns-in-Ok-put-clause-store
-returns-in-Ok-put-clause-store g c e = rw (← c.deref.ensures.value) (store_cause _ _ c.in-Ok.ensures.answer e)
 
 pub returns-in-Ok-put-clause-usage : goal.returns-in-Ok-put-clause-usage
 returns-in-Ok-put-clause-usage g c e = rw (← c.deref.ensures.value) (usage_cause c.in-Ok.ensures.answer e)

@@ -1,7 +1,9 @@
 // What is got from a cell, and what the image's bytes are after something was put.
 ghost use Rattle.std.specs.Prelude.{◌≡◌, ◌≤◌, ◌<◌, ◌+◌, ◌*◌, ◌^◌, IfOk, length};
 ghost use Rattle.std.specs.Bool.{OnTrue};
-ghost use Rattle.dsr_meaning.specs.Cells.{IsFieldCell};
+ghost use Rattle.dsr_image.specs.Images.{IsCellClaimed};
+ghost use Rattle.dsr_meaning.specs.Cells.{IsCellOf, IsFieldCell};
+ghost use Rattle.dsr_meaning.specs.Writes.{AreCellsApart};
 
 use crate::tables::{BIG, BITS, BYTES, LITTLE, Row};
 use dsr_image::{ImageBytes, Whole};

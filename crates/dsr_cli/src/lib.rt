@@ -14,6 +14,3 @@ mod words;
 
 pub use program::run;
 pub use status::Status;
-
-#[cfg(test)]
-mod tests;

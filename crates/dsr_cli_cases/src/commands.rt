@@ -1,5 +1,5 @@
 // Commands over shelves and outputs in memory.
-use crate::{Status, run};
+use dsr_cli::{Status, run};
 use dsr_store::{Content, Held, Label, MemoryShelf, MemorySink, Missed, SureShelf, SureSink};
 use std::alloc::{AllocError, Global};
 use std::test::Fail;

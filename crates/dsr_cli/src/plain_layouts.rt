@@ -9,7 +9,7 @@ use dsr_ir::{Field, FieldPlace, Layout, Order, PoolNumbers, Seq, Spec, Structure
 use std::alloc::{AllocError, AllocFailed, Global};
 
 /// Why an image has no layout.
-#[derive(Clone, Copy, Debug, PartialEq, Eq)]
+#[derive(Clone, Copy)]
 pub enum LayoutFault {
     /// The image ends before the head does.
     Short,

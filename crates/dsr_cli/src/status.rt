@@ -1,7 +1,7 @@
 // How the program ends.
 
 /// How a command ended.
-#[derive(Clone, Copy, Debug, PartialEq, Eq)]
+#[derive(Clone, Copy, PartialEq, Eq)]
 pub enum Status {
     Ok,
     Inconsistent,

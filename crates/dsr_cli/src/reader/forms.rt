@@ -2,7 +2,7 @@
 use dsr_ir::{Name, Seq};
 
 /// How a field is declared.
-#[derive(Clone, Copy, Debug, PartialEq, Eq)]
+#[derive(Clone, Copy)]
 pub enum Sort {
     /// `fixed u16 NAME ;`
     Fixed,
@@ -37,7 +37,7 @@ pub struct Premise {
 }
 
 /// The conclusion of a rule, by numbers of sets, relations and fields of the premise's record.
-#[derive(Clone, Copy, Debug, PartialEq, Eq)]
+#[derive(Clone, Copy)]
 pub enum Conclusion {
     Own { set: u32 },
     Target { field: u32, set: u32 },
@@ -52,7 +52,7 @@ pub struct Clause {
 }
 
 /// What the constraint's value is to be equal to.
-#[derive(Clone, Copy, Debug, PartialEq, Eq)]
+#[derive(Clone, Copy)]
 pub enum Side {
     Number(u64),
     /// The size of a set.

@@ -1,5 +1,5 @@
 -- What the laws say of layouts.
-use Rattle.std.specs.Prelude.{◌≡◌, ◌<◌, ◌≤◌, ◌+◌, ◌*◌, ◌/◌, ◌^◌, ℕ, List, Option, Some, IfSome, IsSome, IsSomeAnd, IsTrue, slice_get}
+use Rattle.std.specs.Prelude.{◌≡◌, ◌<◌, ◌≤◌, ◌+◌, ◌*◌, ◌^◌, ℕ, List, Option, Some, IfSome, IsSome, IsSomeAnd, IsTrue, slice_get}
 use Rattle.dsr_ir.specs.Layouts.{pool_numbers, field_place}
 use Rattle.dsr_ir.specs.declared.constraints.Atom.TheVariants.{Value}
 use Rattle.dsr_ir.specs.declared.constraints.Bound.TheVariants.{Size}

@@ -21,9 +21,10 @@ mod values;
 pub use cells::cell;
 pub use faults::LayoutFault;
 pub use laws::{
-    codes_are_of_slots, codes_fit_references, counts_fit_values, facts_lie_in_range, fields_lie_in_structures,
-    heads_are_apart_from_pools, heads_fit_their_images, instances_are_few, least_kinds_are_told,
-    parents_are_no_larger, ranges_share_bytes, records_fit_their_slots, structures_have_sizes,
+    codes_are_of_slots, codes_fit_references, counts_fit_values, facts_lie_in_range,
+    fields_lie_in_structures, heads_are_apart_from_pools, heads_fit_their_images,
+    instances_are_few, least_kinds_are_told, parents_are_no_larger, ranges_share_bytes,
+    records_fit_their_slots, structures_have_sizes,
 };
 pub use layouts::layout;
 pub use references::{Ref, code_of, slot_of};

@@ -1,4 +1,4 @@
-use Rattle.std.proofs.Common.{map, refl, ap, ◌∙◌}
+use Rattle.std.proofs.Common.{refl, ap, ◌∙◌}
 use Rattle.dsr_meaning.specs.Lists.{each_at}
 use Rattle.dsr_meaning.specs.Refusals.{reference_refusals}
 use Rattle.dsr_layout.specs.Telling.{told_of}

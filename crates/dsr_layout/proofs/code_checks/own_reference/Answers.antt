@@ -1,5 +1,4 @@
-use Rattle.std.proofs.Common.{refl, ap, ◌∙◌}
-use Rattle.dsr_layout.specs.Telling.{told_of}
+use Rattle.std.proofs.Common.{refl, ◌∙◌}
 use Rattle.dsr_layout.proofs.Looking.{goes_on, is_none}
 use Rattle.dsr_layout.proofs.code_checks.own_reference.Goals as goal
 

@@ -1,4 +1,4 @@
-use Rattle.std.proofs.Common.{◌+◌, [], ◌∷◌, ◌++◌, map, sym, ap, ◌∙◌, subst}
+use Rattle.std.proofs.Common.{◌+◌, [], ◌∷◌, ◌++◌, sym, ap, ◌∙◌, subst}
 use Rattle.dsr_layout.specs.FixedCells.{next_bit}
 use Rattle.dsr_layout.proofs.Items.{item_at}
 use Rattle.dsr_layout.proofs.FixedTables.{HoldsCells, holds_more, holds_all}

@@ -1,4 +1,3 @@
-use Rattle.std.proofs.Common.{map}
 use Rattle.dsr_layout.proofs.FixedTables.{HoldsCells}
 use Rattle.dsr_layout.proofs.fixed_fields.cells_from.Given as goal
 

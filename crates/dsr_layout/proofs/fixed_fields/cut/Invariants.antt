@@ -1,4 +1,4 @@
-use Rattle.std.proofs.Common.{◌≡◌, map, drop}
+use Rattle.std.proofs.Common.{◌≡◌, drop}
 use Rattle.dsr_meaning.specs.Refusals.{cut_refusals}
 use Rattle.dsr_layout.specs.Tables.{known}
 use Rattle.dsr_layout.specs.Telling.{told_of}

@@ -1,4 +1,4 @@
-use Rattle.std.proofs.Common.{◌≤◌, Some, All, refl, sym, ap, subst, map, ◌∙◌}
+use Rattle.std.proofs.Common.{◌≤◌, Some, All, refl, sym, ap, subst, ◌∙◌}
 use Rattle.dsr_meaning.specs.Layouts.{pools_of, places_of}
 use Rattle.dsr_meaning.specs.Refusals.{size_refusals, value_refusals}
 use Rattle.dsr_layout.specs.Pools.{IsComputable}

@@ -1,4 +1,4 @@
-use Rattle.std.proofs.Common.{sym, ap, subst, length, map, inr, ◌∙◌}
+use Rattle.std.proofs.Common.{sym, ap, subst, length, inr, ◌∙◌}
 use Rattle.dsr_meaning.specs.Refusals.{head_refusals}
 use Rattle.dsr_layout.specs.Tables.{known, size_in, HoldsEnds}
 use Rattle.dsr_layout.specs.Telling.{told_of}

@@ -1,4 +1,4 @@
-use Rattle.std.proofs.Common.{◌≡◌, ◌<◌, ◌^◌, map, drop, option_map}
+use Rattle.std.proofs.Common.{◌≡◌, ◌<◌, ◌^◌, drop, option_map}
 use Rattle.dsr_meaning.specs.Places.{bit_behind_fields}
 use Rattle.dsr_layout.specs.Tables.{known, clip}
 use Rattle.dsr_layout.proofs.places.bit_behind_fields.Given as goal

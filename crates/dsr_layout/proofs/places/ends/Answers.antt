@@ -1,4 +1,4 @@
-use Rattle.std.proofs.Common.{ap, sym, map, length, ◌∙◌}
+use Rattle.std.proofs.Common.{ap, sym, length, ◌∙◌}
 use Rattle.dsr_layout.specs.Ends.{start_in, end_behind}
 use Rattle.dsr_layout.specs.Tables.{known}
 use Rattle.dsr_layout.proofs.Sizes.{ends_next}

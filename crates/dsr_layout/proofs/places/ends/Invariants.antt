@@ -1,4 +1,4 @@
-use Rattle.std.proofs.Common.{◌≡◌, map, take, length}
+use Rattle.std.proofs.Common.{◌≡◌, take, length}
 use Rattle.dsr_layout.specs.Tables.{known, HoldsEnds}
 use Rattle.dsr_layout.proofs.places.ends.Given as goal
 

@@ -1,4 +1,4 @@
-use Rattle.std.proofs.Common.{ap, sym, subst, map, ◌∷◌, [], ◌++◌, ◌∙◌}
+use Rattle.std.proofs.Common.{ap, sym, subst, ◌∷◌, [], ◌++◌, ◌∙◌}
 use Rattle.std.proofs.lemmas.Result.{err_from_is_err_and}
 use Rattle.dsr_meaning.specs.Refusals.{size_refusals}
 use Rattle.dsr_layout.specs.Tables.{known, size_in}

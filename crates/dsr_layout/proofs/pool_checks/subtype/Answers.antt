@@ -1,5 +1,4 @@
-use Rattle.std.proofs.Common.{◌+◌, refl, ap, ◌∙◌}
-use Rattle.dsr_layout.specs.Telling.{told_of}
+use Rattle.std.proofs.Common.{◌+◌, refl, ◌∙◌}
 use Rattle.dsr_layout.proofs.Looking.{goes_on, is_none, is_told, told_either}
 use Rattle.dsr_layout.proofs.pool_checks.subtype.Goals as goal
 

@@ -1,4 +1,4 @@
-use Rattle.std.proofs.Common.{◌≡◌, ◌+◌, ◌++◌, drop, map}
+use Rattle.std.proofs.Common.{◌≡◌, ◌+◌, ◌++◌, drop}
 use Rattle.dsr_meaning.specs.Lists.{each_at}
 use Rattle.dsr_layout.specs.Tables.{size_in}
 use Rattle.dsr_layout.specs.Telling.{told_of}

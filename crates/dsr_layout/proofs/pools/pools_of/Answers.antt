@@ -6,7 +6,6 @@ use Rattle.dsr_meaning.specs.Layouts.{pool_of}
 use Rattle.dsr_meaning.specs.Refusals.{is_computable}
 use Rattle.dsr_layout.specs.Pools.{IsComputable, computed}
 use Rattle.dsr_layout.specs.Tables.{known, size_in}
-use Rattle.dsr_layout.specs.Telling.{told_of}
 use Rattle.dsr_layout.proofs.Collecting.{collected_next}
 use Rattle.dsr_layout.proofs.Looking.{goes_on, none_where}
 use Rattle.dsr_layout.proofs.pools.pools_of.Goals as goal

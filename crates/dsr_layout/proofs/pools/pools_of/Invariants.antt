@@ -1,4 +1,4 @@
-use Rattle.std.proofs.Common.{◌≡◌, ◌+◌, Some, All, map, take, drop, not, false}
+use Rattle.std.proofs.Common.{◌≡◌, ◌+◌, Some, All, take, drop, not, false}
 use Rattle.std.specs.Option.{option_map_or}
 use Rattle.dsr_meaning.specs.Lists.{each_at}
 use Rattle.dsr_meaning.specs.Layouts.{collect_at, pool_of}

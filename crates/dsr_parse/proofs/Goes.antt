@@ -4,7 +4,7 @@ use Rattle.std.proofs.lemmas.Bool.{and_parts, and_from, or_right, false_from_ne_
 use Rattle.dsr_tree.specs.declared.tokens.Token.{Token}
 use Rattle.dsr_text.specs.Syntax.{Class, IsOf, Charge, count_after, is_over, Part, Syntax, One, Empty, Then, Either, Many, The, Marked, Derives, one, empty, both, left, right, no_more, more, part}
 use Rattle.dsr_text.specs.Grammar.{rule_of, spec}
-use Rattle.dsr_parse.specs.Machine.{accepts, among, nullable, first, begins, Move, enter, not_into, into_part, step}
+use Rattle.dsr_parse.specs.Machine.{accepts, among, nullable, first, may_begin, Move, enter, not_into, into_part, step}
 use Rattle.dsr_parse.proofs.Apart.{accepts_it, among_left, among_right, disjoint, disjoint_so}
 use Rattle.dsr_parse.proofs.Checked.{tail, tail_rule, is_good, fronts, rule_good, rule_fronts, spec_good}
 use Rattle.dsr_parse.proofs.Stacks.{choose, Lang, null_sound, first_sound}
@@ -12,7 +12,7 @@ use Rattle.dsr_parse.proofs.Stacks.{choose, Lang, null_sound, first_sound}
 -- a text of the stack can begin with the token
 abbrev pub CanStart : List Syntax → Token → Type 0
 CanStart [] t = ⊥
-CanStart (s ∷ k) t = (begins s t ≡ true) ⊎ ((nullable s ≡ true) × CanStart k t)
+CanStart (s ∷ k) t = (may_begin s t ≡ true) ⊎ ((nullable s ≡ true) × CanStart k t)
 
 -- a whole text of the right side goes on with no token with which the stack begins
 abbrev Ends : Syntax → List Syntax → Type 0
@@ -22,7 +22,7 @@ Ends s k = (t : Token) → among (tail s) t ≡ true → CanStart k t → ⊥
 pub record Fits (s : Syntax) (k : List Syntax) : Type 0 where
   pub good : is_good s ≡ true
   pub ends : Ends s k
-  pub apart : nullable s ≡ true → (t : Token) → begins s t ≡ true → CanStart k t → ⊥
+  pub apart : nullable s ≡ true → (t : Token) → may_begin s t ≡ true → CanStart k t → ⊥
 
 -- one token tells how the texts of the stack go on
 abbrev pub Good : List Syntax → Type 0
@@ -110,7 +110,7 @@ kept_enter into parts Empty good t n k move e ends kept = absurd cc
 kept_enter into parts (Then a b) good t n k move e ends kept =
     let g = good_then a b good in
     let second : Ends b k = λ t e f. ends t (among_left (tail b) (if nullable b then first b ++ tail a else []) t e) f in
-    choose (begins a t) _ _ _ e
+    choose (may_begin a t) _ _ _ e
     (λ is e. kept_enter into parts a g.first_good t n (b ∷ k) move e
     (λ t e f. elim f as (λ _. ⊥) [
       | inl f ↦ disjoint_so (tail a) (first b) t g.ends e f
@@ -120,7 +120,7 @@ kept_enter into parts (Then a b) good t n k move e ends kept =
     (λ is e. choose (nullable a) _ _ _ e (λ none e. kept_enter into parts b g.second_good t n k move e second kept) (λ some e. absurd cc))
 kept_enter into parts (Either a b) good t n k move e ends kept =
     let g = good_either a b good in
-    choose (begins a t) _ _ _ e
+    choose (may_begin a t) _ _ _ e
     (λ is e. kept_enter into parts a g.left_good t n k move e (λ t e f. ends t (among_left (tail a) (tail b) t e) f) kept)
     (λ is e. kept_enter into parts b g.right_good t n k move e (λ t e f. ends t (among_right (tail a) (tail b) t e) f) kept)
 kept_enter into parts (Many a) good t n k move e ends kept =
@@ -140,7 +140,7 @@ kept_part p t n k move e ends kept = kept_enter not_into (λ q t n k move e ends
 -- a step keeps it
 pub kept : (k : List Syntax) (t : Token) (n : ℕ) (move : Move) → step k t n ≡ Some move → Good k → Good move.stack
 kept [] t n move e good = absurd cc
-kept (s ∷ k) t n move e (fits, good) = choose (begins s t) _ _ _ e
+kept (s ∷ k) t n move e (fits, good) = choose (may_begin s t) _ _ _ e
     (λ is e. kept_enter into_part kept_part s fits.good t n k move e fits.ends good)
     (λ is e. choose (nullable s) _ _ _ e (λ none e. kept k t n move e good) (λ some e. absurd cc))
 
@@ -196,24 +196,24 @@ forward into parts given s n m _ (both {a} {b} {k = h} {x = []} {y} p q) front g
     let u = null_sound a n h [] p refl in
     let f = and_parts (fronts parts a) (not (nullable a) || fronts parts b) front in
     let starts = first_sound b h m y q x xs e in
-    passed (begins a x.token) _ _ (false_from_ne_true (begins a x.token) (λ w. disjoint_so (first a) (first b) x.token (g.apart u.0) w starts))
+    passed (may_begin a x.token) _ _ (false_from_ne_true (may_begin a x.token) (λ w. disjoint_so (first a) (first b) x.token (g.apart u.0) w starts))
     (taken (nullable a) _ None u.0 (subst (λ c. Moves (enter into b x.token c k) x (Leads k m xs)) (sym u.1) (forward into parts given b h m y q (not_or (nullable a) (fronts parts b) f.1 u.0) g.second_good x xs e k)))
 forward into parts given s n m _ (both {a} {b} {k = h} {x = z ∷ zs} {y} p q) front good x xs e k =
     let g = good_then a b good in
     let f = and_parts (fronts parts a) (not (nullable a) || fronts parts b) front in
     let same : z ∷ zs ≡ x ∷ zs = cc in
     let rest : zs ++ y ≡ xs = cc in
-    taken (begins a x.token) _ _ (first_sound a n h (z ∷ zs) p x zs same)
+    taken (may_begin a x.token) _ _ (first_sound a n h (z ∷ zs) p x zs same)
     (subst (λ xs. Moves (enter into a x.token n (b ∷ k)) x (Leads k m xs)) rest (moved_on a b k h m x zs y _ q (forward into parts given a n h (z ∷ zs) p f.0 g.first_good x zs same (b ∷ k))))
 forward into parts given s n m ts (left {a} {b} p) front good x xs e k =
     let g = good_either a b good in
     let f = and_parts (fronts parts a) (fronts parts b) front in
-    taken (begins a x.token) _ _ (first_sound a n m ts p x xs e) (forward into parts given a n m ts p f.0 g.left_good x xs e k)
+    taken (may_begin a x.token) _ _ (first_sound a n m ts p x xs e) (forward into parts given a n m ts p f.0 g.left_good x xs e k)
 forward into parts given s n m ts (right {a} {b} p) front good x xs e k =
     let g = good_either a b good in
     let f = and_parts (fronts parts a) (fronts parts b) front in
     let starts = first_sound b n m ts p x xs e in
-    passed (begins a x.token) _ _ (false_from_ne_true (begins a x.token) (λ w. disjoint_so (first a) (first b) x.token g.apart w starts)) (forward into parts given b n m ts p f.1 g.right_good x xs e k)
+    passed (may_begin a x.token) _ _ (false_from_ne_true (may_begin a x.token) (λ w. disjoint_so (first a) (first b) x.token g.apart w starts)) (forward into parts given b n m ts p f.1 g.right_good x xs e k)
 forward into parts given s n m _ (no_more _) front good x xs e k = absurd cc
 forward into parts given s n m _ (more {a} {k = h} {x = []} {y} p q) front good x xs e k = absurd ((good_many a good).some (null_sound a n h [] p refl).0)
 forward into parts given s n m _ (more {a} {k = h} {x = z ∷ zs} {y} p q) front good x xs e k =
@@ -248,11 +248,11 @@ steps [] n x xs good l = absurd cc
 steps (s ∷ k) n x xs (fits, good) (m, [], b, e, d, l) =
     let u = null_sound s n m [] d refl in
     let rest : Lang k n (x ∷ xs) = subst (λ n. Lang k n (x ∷ xs)) (sym u.1) (subst (Lang k m) (sym e) l) in
-    passed (begins s x.token) _ _ (false_from_ne_true (begins s x.token) (λ w. fits.apart u.0 x.token w (starts k n x xs rest)))
+    passed (may_begin s x.token) _ _ (false_from_ne_true (may_begin s x.token) (λ w. fits.apart u.0 x.token w (starts k n x xs rest)))
     (taken (nullable s) _ None u.0 (steps k n x xs good rest))
 steps (s ∷ k) n x xs (fits, good) (m, z ∷ zs, b, e, d, l) =
     let same : z ∷ zs ≡ x ∷ zs = cc in
     let rest : zs ++ b ≡ xs = cc in
     let moves = forward into_part true (λ _. enters_part) s n m (z ∷ zs) d (any_fronts s) fits.good x zs same k in
-    taken (begins s x.token) _ _ (first_sound s n m (z ∷ zs) d x zs same)
+    taken (may_begin s x.token) _ _ (first_sound s n m (z ∷ zs) d x zs same)
     (record { count = moves.count; stack = moves.stack; is = moves.is; leads = subst (Lang moves.stack moves.count) rest (moves.leads b l) })

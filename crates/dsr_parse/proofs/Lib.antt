@@ -1,4 +1,5 @@
 pub mod Apart
+pub mod Bared
 pub mod Checked
 pub mod Exclusive
 pub mod Goes
@@ -8,6 +9,8 @@ pub mod Sentences
 pub mod Stacks
 pub mod Staying
 pub mod Taking
+pub mod Telling
 pub mod Texts
 pub mod Told
 pub mod TreeRows
+pub mod TreesOnce

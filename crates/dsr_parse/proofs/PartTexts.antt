@@ -13,7 +13,7 @@ use Rattle.dsr_text.specs.Grammar.{maybe, word, width, field}
 use Rattle.dsr_text.specs.Phrases.{Phrase, said_at, Says, says_at, says_both, in_turn}
 use Rattle.dsr_text.specs.Syntax.{Syntax, a_word}
 use Rattle.dsr_text.specs.TreeTexts.{maybe_text, fixed_text, brackets_text, behind_text, field_text, named_field_text, width_text}
-use Rattle.dsr_parse.specs.Machine.{accepts, begins}
+use Rattle.dsr_parse.specs.Machine.{accepts, may_begin}
 use Rattle.dsr_parse.specs.Reading.{Standing, Reads, is_next, said_field, said_length, said_slot}
 use Rattle.dsr_parse.proofs.Taking.{begins_shorter, in_turn_mapped, reads_to}
 use Rattle.dsr_parse.proofs.Passing.{says_within, reads_left, reads_none, next_is, other_is}
@@ -65,7 +65,7 @@ five_tests false false false false e = refl
 
 pub field_next : (ls : List Lexeme) → is_next field ls ≡ ((is_next (word keyword.Skip) ls || is_next (word keyword.Fixed) ls) || is_next width ls)
 field_next [] = refl
-field_next (l ∷ ls) = two_tests (accepts (a_word keyword.Skip) l.token) (accepts (a_word keyword.Fixed) l.token) (begins width l.token)
+field_next (l ∷ ls) = two_tests (accepts (a_word keyword.Skip) l.token) (accepts (a_word keyword.Fixed) l.token) (may_begin width l.token)
 
 pub width_next : (ls : List Lexeme) → is_next width ls ≡ ((((is_next (word keyword.U8) ls || is_next (word keyword.U16) ls) || is_next (word keyword.U32) ls) || is_next (word keyword.U64) ls) || is_next (word keyword.Bits) ls)
 width_next [] = refl

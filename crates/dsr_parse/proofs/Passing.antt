@@ -12,7 +12,7 @@ use Rattle.dsr_tree.specs.declared.tree.ProductSign.TheVariants.{Times, Over}
 use Rattle.dsr_text.specs.Phrases.{Phrase, silent, said, said_at, ◌▸◌, Says, says_nothing, says, says_at, says_both, in_turn}
 use Rattle.dsr_text.specs.Syntax.{Class, Charge, free, starts, counted, opening, count_after, is_over, Part, an_expression, a_formula, a_unit, Syntax, One, Empty, Then, Either, Many, The}
 use Rattle.std.proofs.lemmas.Bool.{lt-leb, le-leb}
-use Rattle.dsr_parse.specs.Machine.{accepts, among, begins, first, nullable, enter, into_part, step, is_done, run, go_on, Outcome, Accepts, StopsAt, Exceeds}
+use Rattle.dsr_parse.specs.Machine.{accepts, among, may_begin, first, nullable, enter, into_part, step, is_done, run, go_on, Outcome, Accepts, StopsAt, Exceeds}
 use Rattle.dsr_parse.specs.Reading.{Standing, Halts, EndsBy, Reads, ReadsItems, Next, Other, is_next}
 use Rattle.dsr_parse.specs.declared.reader.Stop.{Stop}
 use Rattle.dsr_parse.specs.declared.reader.Stop.TheVariants.{Limit}
@@ -46,8 +46,8 @@ two_tests false v false q d e f none = refl
 
 then_step : (a b : Syntax) (k : List Syntax) (t : Token) (n : ℕ) → step (Then a b ∷ k) t n ≡ step (a ∷ b ∷ k) t n
 then_step a b k t n =
-    ap (λ p. cond p (cond (begins a t) (enter into_part a t n (b ∷ k)) (cond (nullable a) (enter into_part b t n k) None)) (cond (nullable a && nullable b) (step k t n) None)) (among_first (nullable a) (first a) (first b) t)
-    ∙ two_tests (nullable a) (nullable b) (begins a t) (begins b t) (enter into_part a t n (b ∷ k)) (enter into_part b t n k) (step k t n) None
+    ap (λ p. cond p (cond (may_begin a t) (enter into_part a t n (b ∷ k)) (cond (nullable a) (enter into_part b t n k) None)) (cond (nullable a && nullable b) (step k t n) None)) (among_first (nullable a) (first a) (first b) t)
+    ∙ two_tests (nullable a) (nullable b) (may_begin a t) (may_begin b t) (enter into_part a t n (b ∷ k)) (enter into_part b t n k) (step k t n) None
 
 both_done : (u v w : Bool) → ((u && v) && w) ≡ (u && (v && w))
 both_done true v w = refl
@@ -207,16 +207,16 @@ either_tests u v p q d e f none un pn = ap (λ b. cond (b || q) (cond b d e) (co
 left_tests : {X : Type 0} (p q : Bool) (d e f g : X) → p ≡ true → cond (p || q) (cond p d e) f ≡ cond p d g
 left_tests p q d e f g is = ap (λ b. cond (b || q) (cond b d e) f) is ∙ sym (ap (λ b. cond b d g) is)
 
-either_step : (a b : Syntax) (k : List Syntax) (t : Token) (n : ℕ) → step (Either a b ∷ k) t n ≡ cond (begins a t || begins b t) (cond (begins a t) (enter into_part a t n k) (enter into_part b t n k)) (cond (nullable a || nullable b) (step k t n) None)
-either_step a b k t n = ap (λ p. cond p (cond (begins a t) (enter into_part a t n k) (enter into_part b t n k)) (cond (nullable a || nullable b) (step k t n) None)) (among_both (first a) (first b) t)
+either_step : (a b : Syntax) (k : List Syntax) (t : Token) (n : ℕ) → step (Either a b ∷ k) t n ≡ cond (may_begin a t || may_begin b t) (cond (may_begin a t) (enter into_part a t n k) (enter into_part b t n k)) (cond (nullable a || nullable b) (step k t n) None)
+either_step a b k t n = ap (λ p. cond p (cond (may_begin a t) (enter into_part a t n k) (enter into_part b t n k)) (cond (nullable a || nullable b) (step k t n) None)) (among_both (first a) (first b) t)
 
 left_run : (a b : Syntax) (ls : List Lexeme) (n : ℕ) (k : List Syntax) → is_next a ls ≡ true → run ls n (Either a b ∷ k) ≡ run ls n (a ∷ k)
 left_run a b [] n k next = absurd cc
-left_run a b (l ∷ ls) n k next = ap (λ move. go_on move (run ls) (suc (length ls))) (either_step a b k l.token n ∙ left_tests (begins a l.token) (begins b l.token) (enter into_part a l.token n k) (enter into_part b l.token n k) (cond (nullable a || nullable b) (step k l.token n) None) (cond (nullable a) (step k l.token n) None) next)
+left_run a b (l ∷ ls) n k next = ap (λ move. go_on move (run ls) (suc (length ls))) (either_step a b k l.token n ∙ left_tests (may_begin a l.token) (may_begin b l.token) (enter into_part a l.token n k) (enter into_part b l.token n k) (cond (nullable a || nullable b) (step k l.token n) None) (cond (nullable a) (step k l.token n) None) next)
 
 right_run : (a b : Syntax) (ls : List Lexeme) (n : ℕ) (k : List Syntax) → nullable a ≡ false → is_next a ls ≡ false → run ls n (Either a b ∷ k) ≡ run ls n (b ∷ k)
 right_run a b [] n k null next = ap (λ u. cond ((u || nullable b) && is_done k) Accepts (StopsAt 0)) null
-right_run a b (l ∷ ls) n k null next = ap (λ move. go_on move (run ls) (suc (length ls))) (either_step a b k l.token n ∙ either_tests (nullable a) (nullable b) (begins a l.token) (begins b l.token) (enter into_part a l.token n k) (enter into_part b l.token n k) (step k l.token n) None null next)
+right_run a b (l ∷ ls) n k null next = ap (λ move. go_on move (run ls) (suc (length ls))) (either_step a b k l.token n ∙ either_tests (nullable a) (nullable b) (may_begin a l.token) (may_begin b l.token) (enter into_part a l.token n k) (enter into_part b l.token n k) (step k l.token n) None null next)
 
 -- the left one is read, where it is next
 pub reads_left : {a b : Syntax} {p : Phrase} {x y : Standing} → Next a x.rest → Reads a p x y → Reads (Either a b) p x y

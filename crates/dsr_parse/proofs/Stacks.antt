@@ -6,7 +6,7 @@ use Rattle.dsr_tree.specs.declared.tokens.Token.TheVariants as token
 use Rattle.dsr_tree.specs.declared.tokens.Keyword.TheVariants as keyword
 use Rattle.dsr_text.specs.Syntax.{Class, a_word, a_mark, a_name, a_number, a_version, IsOf, Charge, free, count_after, is_over, Part, an_expression, a_formula, a_unit, Syntax, One, Empty, Then, Either, Many, The, Marked, Derives, one, empty, both, left, right, no_more, more, part}
 use Rattle.dsr_text.specs.Grammar.{rule_of, unit, literal}
-use Rattle.dsr_parse.specs.Machine.{accepts, among, nullable, first, begins, Move, enter, not_into, into_part, step, is_done}
+use Rattle.dsr_parse.specs.Machine.{accepts, among, nullable, first, may_begin, Move, enter, not_into, into_part, step, is_done}
 use Rattle.dsr_parse.proofs.Apart.{is_of, accepts_it, among_left, among_right}
 use Rattle.dsr_parse.proofs.Checked.{first_rule, nullable_rule}
 
@@ -63,11 +63,11 @@ null_complete (Many a) n e = no_more n
 null_complete (The p) n e = absurd cc
 
 -- what begins the first of two begins both
-pub first_left : (a b : Syntax) (t : Token) → begins a t ≡ true → begins (Then a b) t ≡ true
+pub first_left : (a b : Syntax) (t : Token) → may_begin a t ≡ true → may_begin (Then a b) t ≡ true
 first_left a b t e = elim (nullable a) as (λ c. among (if c then first a ++ first b else first a) t ≡ true) [ true ↦ among_left (first a) (first b) t e | false ↦ e ]
 
 -- what begins the second begins both, where the first may be empty
-pub first_right : (a b : Syntax) (t : Token) → nullable a ≡ true → begins b t ≡ true → begins (Then a b) t ≡ true
+pub first_right : (a b : Syntax) (t : Token) → nullable a ≡ true → may_begin b t ≡ true → may_begin (Then a b) t ≡ true
 first_right a b t c e = rw c (among_right (first a) (first b) t e)
 
 -- the first token of a text, or the given one
@@ -76,7 +76,7 @@ token_of t [] = t
 token_of t (x ∷ xs) = x.token
 
 -- the first token of a text is of a kind with which texts begin
-pub first_sound : (s : Syntax) (n m : ℕ) (ts : List Marked) → Derives rule_of s n m ts → (x : Marked) (xs : List Marked) → ts ≡ x ∷ xs → begins s x.token ≡ true
+pub first_sound : (s : Syntax) (n m : ℕ) (ts : List Marked) → Derives rule_of s n m ts → (x : Marked) (xs : List Marked) → ts ≡ x ∷ xs → may_begin s x.token ≡ true
 first_sound s n m _ (one charge class _ t is) x xs e =
     let same : t ≡ x.token = ap (λ ts. token_of t ts) e in
     or_left (accepts class x.token) false (accepts_it class x.token (subst (IsOf class) same is))
@@ -119,12 +119,12 @@ back_one charge class t n k move ts is e l =
 back_enter : (into : Part → Token → ℕ → List Syntax → Option Move) → ((p : Part) → Undoes into (The p)) → (s : Syntax) → Undoes into s
 back_enter into parts (One charge class) t n k move ts e l = choose (accepts class t) _ _ _ e (λ is e. back_one charge class t n k move ts is e l) (λ is e. absurd cc)
 back_enter into parts Empty t n k move ts e l = absurd cc
-back_enter into parts (Then a b) t n k move ts e l = choose (begins a t) _ _ _ e
+back_enter into parts (Then a b) t n k move ts e l = choose (may_begin a t) _ _ _ e
     (λ is e. join a b (Then a b) k n _ (λ h m x y p q. both p q) (back_enter into parts a t n (b ∷ k) move ts e l))
     (λ is e. choose (nullable a) _ _ _ e
     (λ none e. join a b (Then a b) k n _ (λ h m x y p q. both p q) (skip a (b ∷ k) n _ none (back_enter into parts b t n k move ts e l)))
     (λ some e. absurd cc))
-back_enter into parts (Either a b) t n k move ts e l = choose (begins a t) _ _ _ e
+back_enter into parts (Either a b) t n k move ts e l = choose (may_begin a t) _ _ _ e
     (λ is e. change a (Either a b) k n _ (λ m x p. left p) (back_enter into parts a t n k move ts e l))
     (λ is e. change b (Either a b) k n _ (λ m x p. right p) (back_enter into parts b t n k move ts e l))
 back_enter into parts (Many a) t n k move ts e l = join a (Many a) (Many a) k n _ (λ h m x y p q. more p q) (back_enter into parts a t n (Many a ∷ k) move ts e l)
@@ -133,7 +133,7 @@ back_enter into parts (The p) t n k move ts e l = parts p t n k move ts e l
 -- what a step goes over is a text
 pub back : (k : List Syntax) (t : Token) (n : ℕ) (move : Move) (ts : List Marked) → step k t n ≡ Some move → Lang move.stack move.count ts → Lang k n (record { token = t; over = move.over } ∷ ts)
 back [] t n move ts e l = absurd cc
-back (s ∷ k) t n move ts e l = choose (begins s t) _ _ _ e
+back (s ∷ k) t n move ts e l = choose (may_begin s t) _ _ _ e
     (λ is e. back_enter into_part
     (λ p t n k move ts e l. change (rule_of p) (The p) k n _ (λ m x d. part d) (back_enter not_into (λ q t n k move ts e l. absurd cc) (rule_of p) t n k move ts e l))
     s t n k move ts e l)

@@ -6,7 +6,7 @@ use Rattle.dsr_text.specs.Grammar.{spec}
 use Rattle.dsr_text.specs.Parsing.{IsTreeOf}
 use Rattle.dsr_text.specs.Phrases.{Phrase, Says}
 use Rattle.dsr_text.specs.TreeTexts.{tree_text}
-use Rattle.dsr_tokens.specs.Lexing.{IsFrontOf}
+use Rattle.dsr_tokens.specs.Lexing.{AreFrontTokens}
 use Rattle.dsr_parse.specs.Reading.{Standing, Reads}
 use Rattle.dsr_parse.proofs.Sentences.{accepted}
 use Rattle.dsr_parse.proofs.Texts.{no_token}
@@ -77,11 +77,11 @@ pub tree_accepts : {p : Phrase} {x y : Standing} (ls : List Lexeme) (left : ℕ)
 tree_accepts {p} {x} {y} ls left r is start same none = whole_run ls r is start ∙ ap (λ ms. run ms y.counted []) (nothing_left y.rest (omega arith))
 
 -- a token is missing behind a whole tree
-pub tree_no_token : {p : Phrase} {x y : Standing} (text : List ℕ) (ls : List Lexeme) (left place : ℕ) → IsFrontOf text ls (Some place) → Reads spec p x y → x.rest ≡ ls → x.counted ≡ 0 → left ≡ length y.rest → left ≤ 0 → HasFault text (Token place)
+pub tree_no_token : {p : Phrase} {x y : Standing} (text : List ℕ) (ls : List Lexeme) (left place : ℕ) → AreFrontTokens text ls (Some place) → Reads spec p x y → x.rest ≡ ls → x.counted ≡ 0 → left ≡ length y.rest → left ≤ 0 → HasFault text (Token place)
 tree_no_token text ls left place front r is start same none = no_token text ls place front (inr (tree_accepts ls left r is start same none))
 
 -- the tree of the whole text
-pub tree_read : {x y : Standing} (text : List ℕ) (ls : List Lexeme) (tree : TreeShape) (left : ℕ) → IsFrontOf text ls None → Reads spec (tree_text tree) x y → x.rest ≡ ls → x.counted ≡ 0 → left ≡ length y.rest → left ≤ 0 → IsTreeOf text tree
+pub tree_read : {x y : Standing} (text : List ℕ) (ls : List Lexeme) (tree : TreeShape) (left : ℕ) → AreFrontTokens text ls None → Reads spec (tree_text tree) x y → x.rest ≡ ls → x.counted ≡ 0 → left ≡ length y.rest → left ≤ 0 → IsTreeOf text tree
 tree_read {x} {y} text ls tree left lexed r is start same none = record {
   lexemes = ls;
   lexed = lexed;

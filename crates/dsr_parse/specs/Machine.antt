@@ -48,8 +48,8 @@ first (Many a) = first a
 first (The p) = first_of p
 
 -- whether a text of the right side can begin with the token
-abbrev pub begins : Syntax → Token → Bool
-begins a t = among (first a) t
+abbrev pub may_begin : Syntax → Token → Bool
+may_begin a t = among (first a) t
 
 -- where the machine goes: whether the token goes over a limit, what is counted behind it, and what has to come then
 pub record Move : Type 0 where
@@ -61,8 +61,8 @@ pub record Move : Type 0 where
 abbrev pub enter : (Part → Token → ℕ → List Syntax → Option Move) → Syntax → Token → ℕ → List Syntax → Option Move
 enter into (One charge class) t n k = if accepts class t then Some (record { over = is_over charge n; count = count_after charge n; stack = k }) else None
 enter into Empty t n k = None
-enter into (Then a b) t n k = if begins a t then enter into a t n (b ∷ k) else (if nullable a then enter into b t n k else None)
-enter into (Either a b) t n k = if begins a t then enter into a t n k else enter into b t n k
+enter into (Then a b) t n k = if may_begin a t then enter into a t n (b ∷ k) else (if nullable a then enter into b t n k else None)
+enter into (Either a b) t n k = if may_begin a t then enter into a t n k else enter into b t n k
 enter into (Many a) t n k = enter into a t n (Many a ∷ k)
 enter into (The p) t n k = into p t n k
 
@@ -76,7 +76,7 @@ into_part p t n k = enter not_into (rule_of p) t n k
 -- a step of the machine
 abbrev pub step : List Syntax → Token → ℕ → Option Move
 step [] t n = None
-step (s ∷ k) t n = if begins s t then enter into_part s t n k else (if nullable s then step k t n else None)
+step (s ∷ k) t n = if may_begin s t then enter into_part s t n k else (if nullable s then step k t n else None)
 
 -- nothing more has to come
 abbrev pub is_done : List Syntax → Bool

@@ -15,7 +15,7 @@ use Rattle.dsr_tree.specs.declared.tokens.Lexeme.{Lexeme}
 use Rattle.dsr_text.specs.Phrases.{Phrase, Says, in_turn}
 use Rattle.dsr_text.specs.Syntax.{Syntax, Many}
 use Rattle.dsr_text.specs.TreeTexts.{more_term_text, more_factor_text, more_join_text, more_unit_text, field_text, brackets_text, structure_text, behind_text, pool_text, constraint_text}
-use Rattle.dsr_parse.specs.Machine.{run, Outcome, StopsAt, Exceeds, begins}
+use Rattle.dsr_parse.specs.Machine.{run, Outcome, StopsAt, Exceeds, may_begin}
 use Rattle.dsr_parse.specs.declared.reader.Stop.{Stop}
 use Rattle.dsr_parse.specs.declared.reader.Stop.TheVariants.{NoMemory, Expected, Limit}
 
@@ -51,7 +51,7 @@ pub record ReadsItems {X : Type 0} (a : Syntax) (phrase : X → Phrase) (items :
 -- whether a text of the right side can begin with the token that comes next
 abbrev pub is_next : Syntax → List Lexeme → Bool
 is_next s [] = false
-is_next s (l ∷ ls) = begins s l.token
+is_next s (l ∷ ls) = may_begin s l.token
 
 -- it can
 pub record Next (s : Syntax) (ls : List Lexeme) : Type 0 where

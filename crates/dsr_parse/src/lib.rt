@@ -1,9 +1,11 @@
 //! The text of a specification, read as a tree by its grammar, and printed from one.
 #![tactic(auto)]
 
+mod laws;
 mod parser;
 mod reader;
 
 pub use dsr_print::print;
 pub use dsr_tokens::{TokenFault, tokens};
+pub use laws::{faults_are_unique, trees_are_unique};
 pub use parser::{SyntaxFault, parse};

@@ -6,13 +6,12 @@ ghost use Rattle.dsr_text.specs.Sentences.{IsSpecText};
 ghost use Rattle.dsr_parse.specs.Faults.{HasFault, StopsBy};
 ghost use Rattle.dsr_parse.specs.declared.parser.SyntaxFault.{SyntaxFault};
 ghost use Rattle.dsr_parse.specs.declared.parser.SyntaxFault.TheVariants as faults;
-ghost use Rattle.dsr_tokens.specs.Lexing.{IsFrontOf};
+ghost use Rattle.dsr_tokens.specs.Lexing.{AreFrontTokens};
 
 use crate::reader::{Reader, Stop};
-use dsr_tree::Tree;
 use dsr_ir::NoMemory;
-use dsr_tree::Lexeme;
 use dsr_tokens::front;
+use dsr_tree::{Lexeme, Tree};
 use std::alloc::Global;
 use thiserror::Error;
 
@@ -58,7 +57,7 @@ fn place_of(lexemes: &[Lexeme], left: usize) -> u64
 // The fault of a text, where its tokens up to the place of a token's fault, or up to the end,
 // can't be read further.
 fn fault_of(text: &[u8], lexemes: &[Lexeme], fault: Option<u64>, stop: Stop) -> SyntaxFault
-    requires front { IsFrontOf text.now lexemes.now fault }
+    requires front { AreFrontTokens text.now lexemes.now fault }
     requires stops { StopsBy lexemes.now stop }
     ensures { (result ≡ faults.NoMemory) ⊎ HasFault text.now result }
 {

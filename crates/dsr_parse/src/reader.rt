@@ -15,9 +15,8 @@ mod formulas;
 mod rules;
 mod structures;
 
-use dsr_tree::{PlacedName, PlacedNumber};
 use dsr_ir::{NoMemory, TryClone};
-use dsr_tree::{Keyword, Lexeme, Sign, Token};
+use dsr_tree::{Keyword, Lexeme, PlacedName, PlacedNumber, Sign, Token};
 use std::alloc::{AllocFailed, Global};
 use std::marker::Model;
 

@@ -8,3 +8,5 @@ mod specifications;
 mod tables;
 #[cfg(test)]
 mod texts;
+#[cfg(test)]
+mod tokens;

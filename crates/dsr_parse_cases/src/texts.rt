@@ -1,8 +1,8 @@
 // What is told of each text.
 use crate::specifications::SPECIFICATIONS;
 use crate::tables::{FAULTS, LIMITS, PRODUCTIONS, Part};
-use dsr_ir::TryCloneTree;
 use dsr_parse::{SyntaxFault, parse, print};
+use dsr_tree::TryCloneTree;
 use std::alloc::{AllocError, Global};
 use std::test::Fail;
 
@@ -40,22 +40,27 @@ fn specifications_are_printed_back(rt: HostRuntime) -> Result<(), Fail> {
     Ok(())
 }
 
-// Whether the tree of a text has a copy that is equal to it.
-fn is_copied(alloc: Global, text: &[u8]) -> Result<bool, Fail> {
+// The canonical text of a copy of a text's tree.
+fn copied(alloc: Global, text: &[u8]) -> Result<String, Fail> {
     let tree = parse(alloc, text)?;
-    match TryCloneTree::clone(&tree, alloc) {
-        Ok(copy) => Ok(copy == tree),
+    let Ok(copy) = TryCloneTree::clone(&tree, alloc) else {
+        return Err(AllocError.into());
+    };
+    match print(alloc, &copy) {
+        Ok(text) => Ok(String::from_utf8(text)?),
         Err(_) => Err(AllocError.into()),
     }
 }
 
 #[test]
 fn trees_are_copied(rt: HostRuntime) -> Result<(), Fail> {
-    for (text, _) in SPECIFICATIONS {
-        assert!(rt; is_copied(rt.alloc(), text.as_bytes())?);
+    for (text, wanted) in SPECIFICATIONS {
+        let found = copied(rt.alloc(), text.as_bytes())?;
+        assert_eq!(rt; found.as_str(), wanted);
     }
-    for (text, _) in PRODUCTIONS {
-        assert!(rt; is_copied(rt.alloc(), text.as_bytes())?);
+    for (text, wanted) in PRODUCTIONS {
+        let found = copied(rt.alloc(), text.as_bytes())?;
+        assert_eq!(rt; found.as_str(), wanted);
     }
     Ok(())
 }

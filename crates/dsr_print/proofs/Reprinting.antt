@@ -13,7 +13,7 @@ use Rattle.dsr_print.proofs.Once.{tree_once}
 use Rattle.dsr_print.proofs.Relexing.{relexed, tokens_said, within_same}
 
 -- the tokens of a whole text
-said_whole : (p : Phrase) (ls : List Lexeme) → Says p ls [] → map (λ l. l.token) ls ≡ tokens_of p
+pub said_whole : (p : Phrase) (ls : List Lexeme) → Says p ls [] → map (λ l. l.token) ls ≡ tokens_of p
 said_whole p ls says = tokens_said p ls [] says ∙ append-nil (tokens_of p)
 
 pub reprinted : (text : List ℕ) (tree : TreeShape) → IsTreeOf text tree → IsReprinted text (canonical tree) tree

@@ -7,7 +7,7 @@ use Rattle.dsr_tree.specs.declared.tokens.Token.TheVariants as token
 use Rattle.dsr_tree.specs.declared.tokens.Lexeme.{Lexeme}
 use Rattle.dsr_text.specs.Tokens.{is_keyword, is_version, is_two, is_second_version, Spells, a_keyword, a_name, a_decimal, a_hexadecimal, a_sign, Stands, Begins, a_blank, a_comment, a_token, IsCut, here, further}
 use Rattle.dsr_text.specs.Sentences.{StandFirst}
-use Rattle.dsr_tokens.specs.Lexing.{IsFrontOf}
+use Rattle.dsr_tokens.specs.Lexing.{AreFrontTokens}
 use Rattle.dsr_tokens.proofs.Shapes.{both}
 use Rattle.dsr_tokens.proofs.Steps.{begins_once}
 use Rattle.dsr_tokens.proofs.Cuts.{Stops}
@@ -15,7 +15,7 @@ use Rattle.dsr_tokens.proofs.Versions.{marked, marked_lexeme, spells_marked, cut
 use Rattle.dsr_tokens.proofs.Laws.{IsRead, read_lexed, read_fault, version_unmarked}
 
 -- the tokens before a text's fault, or before its end, stand first
-pub front_stands : (text : List ℕ) (lexemes : List Lexeme) (fault : Option ℕ) → IsFrontOf text lexemes fault → StandFirst text lexemes
+pub front_stands : (text : List ℕ) (lexemes : List Lexeme) (fault : Option ℕ) → AreFrontTokens text lexemes fault → StandFirst text lexemes
 front_stands text lexemes None lexed = record { to = length text; left = []; cut = lexed.cut }
 front_stands text lexemes (Some place) (fault, same) = subst (StandFirst text) same (record { to = place; left = fault.left; cut = fault.cut })
 
@@ -213,6 +213,6 @@ read_leads text a b to left read front =
     agree same = longest_cut (is_second_version b) (subst (λ second. IsCut second 0 text a front.to front.left) same front.cut) read.cut refl refl read.stops
 
 -- tokens that stand first are the front of those before a text's fault, or before its end
-pub front_leads : (text : List ℕ) (a lexemes : List Lexeme) (fault : Option ℕ) → IsFrontOf text lexemes fault → StandFirst text a → Leads a lexemes
+pub front_leads : (text : List ℕ) (a lexemes : List Lexeme) (fault : Option ℕ) → AreFrontTokens text lexemes fault → StandFirst text a → Leads a lexemes
 front_leads text a lexemes None lexed front = read_leads text a lexemes (length text) [] (read_lexed text lexemes lexed) front
 front_leads text a lexemes (Some place) (fault, same) front = subst (Leads a) same (read_leads text a fault.before place fault.left (read_fault text place fault) front)

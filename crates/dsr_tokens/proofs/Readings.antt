@@ -3,7 +3,7 @@ use Rattle.std.proofs.Common.{◌≡◌, ℕ, ◌+◌, ◌<◌, ◌≤◌, List,
 use Rattle.std.proofs.lemmas.List.{drop_all, drop-drop, take-append-drop, length-take-le}
 use Rattle.dsr_tree.specs.declared.tokens.Lexeme.{Lexeme}
 use Rattle.dsr_text.specs.Tokens.{is_second_version, IsCut, here, IsLexed}
-use Rattle.dsr_tokens.specs.Lexing.{Steps, StepsOn, IsFrontOf}
+use Rattle.dsr_tokens.specs.Lexing.{Steps, StepsOn, AreFrontTokens}
 use Rattle.dsr_tokens.proofs.Laws.{cut_step}
 
 pub first_cut : (text : List ℕ) (lexemes : List Lexeme) → lexemes ≡ [] → IsCut (is_second_version lexemes) 0 text lexemes 0 text
@@ -27,7 +27,7 @@ whole_cut text lexemes place within over cut =
     record { cut = subst (λ place. IsCut (is_second_version lexemes) 0 text lexemes place []) end (subst (λ left. IsCut (is_second_version lexemes) 0 text lexemes place left) left cut) }
 
 -- no step behind the tokens read: the text has its fault there
-pub front_stopped : (text : List ℕ) (old new : List Lexeme) (place : ℕ) → place < length text → IsCut (is_second_version old) 0 text old place (drop place text) → StepsOn old new text place (Ok None) → IsFrontOf text new (Some place)
+pub front_stopped : (text : List ℕ) (old new : List Lexeme) (place : ℕ) → place < length text → IsCut (is_second_version old) 0 text old place (drop place text) → StepsOn old new text place (Ok None) → AreFrontTokens text new (Some place)
 front_stopped text old new place within cut step = (
   record {
     before = old;

@@ -35,9 +35,9 @@ StepsOn old new text place (Ok None) = (new ≡ old) × ((bytes rest : List ℕ)
 StepsOn old new text place (Err _) = Unit {0}
 
 -- the tokens of a text, or those before the place of its first bytes that are none
-abbrev pub IsFrontOf : List ℕ → List Lexeme → Option ℕ → Type 0
-IsFrontOf text lexemes None = IsLexed text lexemes
-IsFrontOf text lexemes (Some place) = (fault : HasTokenFault text place) × (fault.before ≡ lexemes)
+abbrev pub AreFrontTokens : List ℕ → List Lexeme → Option ℕ → Type 0
+AreFrontTokens text lexemes None = IsLexed text lexemes
+AreFrontTokens text lexemes (Some place) = (fault : HasTokenFault text place) × (fault.before ≡ lexemes)
 
 -- the tokens of a text, or the place where it has none
 abbrev pub Lexes : List ℕ → Result (Vec Lexeme Global) TokenFault → Type 0

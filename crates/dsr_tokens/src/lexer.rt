@@ -1,7 +1,7 @@
 // The tokens of a text.
 ghost use Rattle.std.specs.Prelude.{◌≡◌, ◌<◌, length, drop, IfOk};
 ghost use Rattle.dsr_text.specs.Tokens.{is_second_version, is_two, is_version};
-ghost use Rattle.dsr_tokens.specs.Lexing.{FindsGap, IsFrontOf, Lexes, StepsOn};
+ghost use Rattle.dsr_tokens.specs.Lexing.{FindsGap, AreFrontTokens, Lexes, StepsOn};
 
 use crate::bytes::{is_blank_byte, line_len};
 use crate::words::find_token;
@@ -117,7 +117,7 @@ pub struct TextFront {
 
 /// The tokens of a text up to its end, or up to the first bytes that are no token.
 pub fn front(alloc: Global, text: &[u8]) -> Result<TextFront, NoMemory>
-    ensures { IfOk result (λ front. IsFrontOf text.now front.lexemes.items front.fault) }
+    ensures { IfOk result (λ front. AreFrontTokens text.now front.lexemes.items front.fault) }
 {
     let mut lexemes = Vec::new(alloc);
     let mut place = 0;

@@ -4,8 +4,6 @@
 mod bytes;
 mod lexer;
 mod spellings;
-#[cfg(test)]
-mod texts;
 mod words;
 
 pub use lexer::{TextFront, TokenFault, front, tokens};

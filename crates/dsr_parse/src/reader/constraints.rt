@@ -8,9 +8,8 @@ ghost use Rattle.dsr_text.specs.TreeTexts as texts;
 ghost use Rattle.dsr_parse.specs.Reading.{Reads, Halts, said_constraint};
 
 use crate::reader::{Reader, Stop};
-use dsr_tree::{Binder, Constraint, PlacedNumber, Quantifier, Tree};
 use dsr_ir::{Order, Seq};
-use dsr_tree::{Keyword, Sign};
+use dsr_tree::{Binder, Constraint, Keyword, PlacedNumber, Quantifier, Sign, Tree};
 
 impl<'a> Reader<'a> {
     // Reads the tree of a whole text; what stands behind it is left.

@@ -9,9 +9,8 @@ ghost use Rattle.dsr_text.specs.TreeTexts as texts;
 ghost use Rattle.dsr_parse.specs.Reading.{Reads, Halts, said_pool, said_slot};
 
 use crate::reader::{Reader, Stop};
-use dsr_tree::{Expr, Fresh, PlacedName, Pool, Relation, Set, Target, View};
 use dsr_ir::Seq;
-use dsr_tree::{Keyword, Sign};
+use dsr_tree::{Expr, Fresh, Keyword, PlacedName, Pool, Relation, Set, Sign, Target, View};
 
 impl<'a> Reader<'a> {
     pub fn pools(&mut self) -> Result<Vec<Pool>, Stop>

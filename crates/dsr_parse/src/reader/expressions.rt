@@ -8,8 +8,7 @@ ghost use Rattle.dsr_text.specs.TreeTexts as texts;
 ghost use Rattle.dsr_parse.specs.Reading.{Reads, Halts, Next, Found, said_term, said_factor};
 
 use crate::reader::{Reader, Stop};
-use dsr_tree::{Expr, Factor, MoreFactor, MoreTerm, ProductSign, SumSign, Term2};
-use dsr_tree::{Keyword, Sign};
+use dsr_tree::{Expr, Factor, Keyword, MoreFactor, MoreTerm, ProductSign, Sign, SumSign, Term2};
 
 impl<'a> Reader<'a> {
     // Reads an expression, inside so many parentheses.

@@ -8,8 +8,9 @@ ghost use Rattle.dsr_text.specs.TreeTexts as texts;
 ghost use Rattle.dsr_parse.specs.Reading.{Reads, Halts, said_join, said_unit};
 
 use crate::reader::{Reader, Stop};
-use dsr_tree::{Atom, Bound, Compare, Formula, Join, Measure, PlacedName, Size, Unit, Var};
-use dsr_tree::{Keyword, Sign};
+use dsr_tree::{
+    Atom, Bound, Compare, Formula, Join, Keyword, Measure, PlacedName, Sign, Size, Unit, Var,
+};
 
 impl<'a> Reader<'a> {
     // Reads a formula, inside so many constructs.

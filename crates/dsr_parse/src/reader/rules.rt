@@ -7,12 +7,11 @@ ghost use Rattle.dsr_text.specs.TreeTexts as texts;
 ghost use Rattle.dsr_parse.specs.Reading.{Reads, Halts, Found};
 
 use crate::reader::{Reader, Stop};
-use dsr_tree::{
-    Guard, Guards, Inclusion, Index, Member, MemberPart, Path, PlacedName, Premise, RefTest, Rule,
-    Span, Term,
-};
 use dsr_ir::Seq;
-use dsr_tree::{Keyword, Sign};
+use dsr_tree::{
+    Guard, Guards, Inclusion, Index, Keyword, Member, MemberPart, Path, PlacedName, Premise,
+    RefTest, Rule, Sign, Span, Term,
+};
 
 impl<'a> Reader<'a> {
     pub fn rules(&mut self) -> Result<Vec<Rule>, Stop>

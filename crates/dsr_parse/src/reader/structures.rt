@@ -9,9 +9,8 @@ ghost use Rattle.dsr_text.specs.TreeTexts as texts;
 ghost use Rattle.dsr_parse.specs.Reading.{Reads, Halts, is_next, said_field, said_structure, said_length};
 
 use crate::reader::{Reader, Stop};
-use dsr_tree::{Content, Expr, Field, NamedField, PlacedName, Structure, Width};
 use dsr_ir::Seq;
-use dsr_tree::{Keyword, Sign};
+use dsr_tree::{Content, Expr, Field, Keyword, NamedField, PlacedName, Sign, Structure, Width};
 
 impl<'a> Reader<'a> {
     pub fn structures(&mut self) -> Result<Vec<Structure>, Stop>

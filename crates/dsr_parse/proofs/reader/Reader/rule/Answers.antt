@@ -24,3 +24,4 @@ returns-in_err-sign-2-clause-err c = passed_on c.from_residual-in_err-sign-2.res
 
 pub returns-clause-ok : goal.returns-clause-ok
 returns-clause-ok c = reads_then c.in_ok-place.ensures.ok (reads_then c.in_ok-premise.ensures.ok (reads_then c.in_ok-span.ensures.ok (reads_then c.in_ok-guards.ensures.ok (reads_then (reads_unkept c.in_ok-sign.ensures.ok) (reads_then c.in_ok-inclusion.ensures.ok (reads_unkept c.in_ok-sign-2.ensures.ok))))))
+

@@ -6,7 +6,6 @@ use Rattle.dsr_parse.specs.declared.parser.SyntaxFault.{SyntaxFault}
 use Rattle.dsr_parse.specs.declared.parser.SyntaxFault.TheVariants as faults
 use Rattle.dsr_store.specs.Causes.{Rose}
 use Rattle.dsr_cli.specs.Answers.{Answer, IsAnswer, IsFilesAnswer, IsImageAnswer, IsLoadAnswer, IsMissing, IsPrintAnswer, IsTextAnswer, Shelved, syntax_refused, no_syntax, no_tables, with_rules, printed, no_text, long_text, on_text, on_spec, accepted, checked, long_image, long_spec, no_command, no_image, no_spec, on_files, on_image, outside, refused, short, verdict_answer}
-use Rattle.dsr_cli.specs.Ends.{LacksOne}
 use Rattle.dsr_cli.specs.Words.{is_usage, second, third}
 use Rattle.dsr_cli.specs.declared.status.Status.{Status}
 use Rattle.dsr_cli.specs.declared.status.Status.TheVariants as statuses

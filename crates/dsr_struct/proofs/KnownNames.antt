@@ -15,7 +15,7 @@ use Rattle.dsr_text.specs.Tables.{pool_in, typed_structure, typed_pool, tables}
 use Rattle.dsr_text.proofs.Absent.{when_absent}
 use Rattle.dsr_struct.proofs.Faultless.{AllEmpty}
 use Rattle.dsr_struct.proofs.Found.{known_has, IsFound, found_passes, found_within, found_below}
-use Rattle.dsr_struct.proofs.ResolvedExprs.{number_has}
+use Rattle.dsr_struct.proofs.NamesInExprs.{number_has}
 
 -- a structure of both names has one name
 one_name : (ss : List StructureTree) (k : ℕ) (p q : List ℕ) → IsFound (λ s. bytes_eq s.name.name p) ss k → IsFound (λ s. bytes_eq s.name.name q) ss k → p ≡ q

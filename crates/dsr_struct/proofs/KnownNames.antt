@@ -30,9 +30,6 @@ module _ (t : TreeShape) (empty : AllEmpty t) where
   head_known : is_none (structure_number t (codes "Head")) ≡ false
   head_known = when_absent (is_none (structure_number t (codes "Head"))) conditions.UnknownName 0 empty.head
 
-  pub head_below : (tables t).head < length (tables t).structures
-  head_below = rw (length-map t.structures (typed_structure (names_of t))) (known_has (structure_number t (codes "Head")) (λ k. k < length t.structures) head_known (found_below (λ s. bytes_eq s.name.name (codes "Head")) t.structures))
-
   -- the number of a structure that isn't called `Head` isn't that of `Head`
   is_other : (q : List ℕ) → is_head q ≡ false → (k : ℕ) → IsFound (λ s. bytes_eq s.name.name q) t.structures k → k ≢ (tables t).head
   is_other q e k found same =

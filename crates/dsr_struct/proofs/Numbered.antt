@@ -18,21 +18,21 @@ use Rattle.dsr_struct.proofs.Parts.{known_name, SoundStructure, sound_structure,
 use Rattle.dsr_struct.proofs.Sound.{neither, not_false, at_is, known_is, is_some_and, found_item, made_at}
 
 -- what a look-up behind another one gives
-pub record Through {A : Type 0} (f : ℕ → Option A) (o : Option ℕ) (y : A) : Type 0 where
+record Through {A : Type 0} (f : ℕ → Option A) (o : Option ℕ) (y : A) : Type 0 where
   pub number : ℕ
   pub is : o ≡ Some number
   pub gives : f number ≡ Some y
 
-pub through : {A : Type 0} (f : ℕ → Option A) (o : Option ℕ) (y : A) → option_and_then f o ≡ Some y → Through f o y
+through : {A : Type 0} (f : ℕ → Option A) (o : Option ℕ) (y : A) → option_and_then f o ≡ Some y → Through f o y
 through f None y e = absurd cc
 through f (Some n) y e = record { number = n; is = refl; gives = e }
 
 -- numbers that don't disagree are equal
-pub agreed : (a b : ℕ) → disagree (Some a) (Some b) ≡ false → a ≡ b
+agreed : (a b : ℕ) → disagree (Some a) (Some b) ≡ false → a ≡ b
 agreed a b e = eqb-true a b (not_false (nat_eq a b) e)
 
 -- what is plain has no base
-pub no_base : (o : Option View) → is_complement o ≡ false → (names : _) → typed_except names o ≡ None
+no_base : (o : Option View) → is_complement o ≡ false → (names : _) → typed_except names o ≡ None
 no_base None e names = refl
 no_base (Some (views.As place q)) e names = refl
 no_base (Some (views.Except place q)) e names = absurd cc

@@ -6,7 +6,7 @@ use Rattle.dsr_tree.specs.declared.tree.Fresh.{Fresh}
 use Rattle.dsr_tree.specs.declared.tree.PlacedName.{PlacedName}
 use Rattle.dsr_tree.specs.declared.tree.Relation.{Relation}
 use Rattle.dsr_tree.specs.declared.tree.Set.{Set}
-use Rattle.dsr_text.specs.Declarations.{FieldPosition, unknown_name, expr_faults, maybe_expr_faults, is_declared_above, is_misplaced, width_faults, content_faults, named_field_faults, field_faults, parent_faults, position_of, structure_faults, pool_faults, view_faults, set_faults, source_faults, target_faults, relation_faults, is_supply_mismatch, supply_faults}
+use Rattle.dsr_text.specs.Declarations.{FieldPosition, unknown_name, expr_faults, maybe_expr_faults, is_declared_above, is_bytewise, is_misplaced, width_faults, content_faults, named_field_faults, field_faults, parent_faults, position_of, structure_faults, pool_faults, view_faults, set_faults, source_faults, target_faults, relation_faults, is_supply_mismatch, supply_faults}
 use Rattle.dsr_text.specs.Names.{Names, is_at, used_structure, plain_set}
 use Rattle.dsr_meaning.specs.Lists.{each_at}
 use Rattle.dsr_meaning.proofs.Empty.{both_empty}
@@ -20,6 +20,7 @@ module _ (names : Names) where
   -- a field with a name
   pub record SoundField (at : FieldPosition) (f : NamedFieldTree) : Type 0 where
     pub once : is_declared_above names at f.name.name ≡ false
+    pub aligned : ((is_bytewise f.width || is_some f.length) && not at.on_byte) ≡ false
     pub placed : (is_some f.fixed && is_misplaced at f) ≡ false
     pub legal : width_faults f.width ≡ []
     pub len : maybe_expr_faults names.fixed f.length ≡ []
@@ -35,6 +36,7 @@ module _ (names : Names) where
       let l = both_empty _ _ w.1 in
       record {
         once = when_absent _ conditions.NameTwice f.name.place a.0;
+        aligned = when_absent _ conditions.Align f.name.place c.0;
         placed = when_absent _ conditions.FixedPlace f.name.place d.0;
         legal = w.0;
         len = l.0;

@@ -7,7 +7,7 @@ use Rattle.std.proofs.lemmas.List.Elements.{All-map}
 use Rattle.dsr_tree.specs.Trees.{FieldTree, named, skipped, StructureTree, TreeShape}
 use Rattle.dsr_tree.specs.declared.faults.Condition.TheVariants as conditions
 use Rattle.dsr_tree.specs.declared.faults.Fault.{Fault}
-use Rattle.dsr_text.specs.Declarations.{FieldPosition, is_declared_above, is_bytewise, is_misplaced, width_faults, maybe_expr_faults, content_faults, expr_faults, extent_of, field_faults, position_of, structure_faults, declaration_faults}
+use Rattle.dsr_text.specs.Declarations.{FieldPosition, is_bytewise, expr_faults, extent_of, field_faults, position_of, structure_faults, declaration_faults}
 use Rattle.dsr_meaning.specs.Extents.{bit_behind, bit_behind_all}
 use Rattle.dsr_text.specs.Faults.{when}
 use Rattle.dsr_meaning.specs.Lists.{each_at}
@@ -15,9 +15,10 @@ use Rattle.dsr_text.specs.Names.{Names, names_of}
 use Rattle.dsr_text.specs.Tables.{typed_expr, typed_field, typed_structure, typed_pool, typed_set, typed_relation, tables}
 use Rattle.dsr_meaning.specs.Placeable.{HasLegalWidth as IsLegal, begins_byte, plain_extent, AreAligned, IsPlaceableStructure, ArePlaceable}
 use Rattle.dsr_meaning.proofs.Bits.{bit_behind_append}
-use Rattle.dsr_meaning.proofs.Empty.{both_empty, third_empty, each_has}
+use Rattle.dsr_meaning.proofs.Empty.{both_empty, each_has}
 use Rattle.dsr_text.proofs.Absent.{when_absent}
 use Rattle.dsr_struct.proofs.Extents.{begins_same, legal_field, extent_same}
+use Rattle.dsr_struct.proofs.Parts.{sound_field}
 use Rattle.dsr_struct.proofs.Faultless.{all_empty, legal_width, fields_empty, few_fields}
 
 -- what has to begin at a byte does, where it isn't so that it has to and doesn't
@@ -30,14 +31,7 @@ module _ (names : Names) where
   -- a field without fault begins at a byte where it has to
   on_byte : (at : FieldPosition) (f : FieldTree) → field_faults names at f ≡ [] → IsTrue (begins_byte (typed_field names f)) → at.on_byte ≡ true
   on_byte at (named f) e h =
-      let none = third_empty
-      (when (is_declared_above names at f.name.name) conditions.NameTwice f.name.place)
-      (when (nat_eq at.number 64) conditions.Limit f.name.place)
-      (when ((is_bytewise f.width || is_some f.length) && not at.on_byte) conditions.Align f.name.place)
-      (when (is_some f.fixed && is_misplaced at f) conditions.FixedPlace f.name.place ++ (width_faults f.width ++ (maybe_expr_faults names.fixed f.length ++ content_faults names.pool f.width f.content)))
-      e in
-      begins_there (is_bytewise f.width || is_some f.length) at.on_byte
-      (when_absent ((is_bytewise f.width || is_some f.length) && not at.on_byte) conditions.Align f.name.place none)
+      begins_there (is_bytewise f.width || is_some f.length) at.on_byte (sound_field names at f e).aligned
       (sym (begins_same f.width (typed_expr names.fixed) f.length) ∙ h)
   on_byte at (skipped place l) e h =
       let behind = both_empty (when (nat_eq at.number 64) conditions.Limit place) (when (not at.on_byte) conditions.Align place ++ expr_faults names.fixed l) e in

@@ -27,7 +27,7 @@ module _ {S Y : Type 0} (g : ℕ → Y) where
   by_number-length n [] = refl
   by_number-length n (x ∷ xs) = ap suc (by_number-length (suc n) xs)
 
-  by_number-get : (n : ℕ) (xs : List S) (i : ℕ) (d : Y) → i < length xs → get_or (by_number g n xs) i d ≡ g (n + i)
+  pub by_number-get : (n : ℕ) (xs : List S) (i : ℕ) (d : Y) → i < length xs → get_or (by_number g n xs) i d ≡ g (n + i)
   by_number-get n [] i d lt = absurd (omega arith)
   by_number-get n (x ∷ xs) zero d lt =
       let at : n ≡ n + 0 = omega arith in

@@ -24,7 +24,7 @@ legal_same (widths.U32 place) e = tt
 legal_same (widths.U64 place) e = tt
 legal_same (widths.Bits place number) e = legal_bits number.number (when_absent (not (nat_le 1 number.number && nat_le number.number 32)) conditions.Width number.place e)
 
-bits_same : (w : Width) → width_bits (typed_width w) ≡ entry_bits w
+pub bits_same : (w : Width) → width_bits (typed_width w) ≡ entry_bits w
 bits_same (widths.U8 place) = refl
 bits_same (widths.U16 place) = refl
 bits_same (widths.U32 place) = refl

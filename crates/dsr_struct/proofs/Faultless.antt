@@ -1,5 +1,5 @@
 -- What follows where no declaration has a fault: few items, so that their numbers fit, and legal widths.
-use Rattle.std.proofs.Common.{◌≡◌, ◌<◌, ◌≤◌, ◌+◌, ◌-◌, ◌^◌, ℕ, Bool, true, false, not, ◌&&◌, ◌||◌, nat_eq, List, [], ◌∷◌, ◌++◌, length, min, codes, Option, None, Some, IfSome, is_some, All, cond, slice_get, option_and_then, refl, sym, subst, arith}
+use Rattle.std.proofs.Common.{◌≡◌, ◌<◌, ◌≤◌, ◌+◌, ◌-◌, ◌^◌, ℕ, Bool, true, false, not, ◌||◌, nat_eq, List, [], ◌∷◌, ◌++◌, length, min, codes, Option, None, Some, IfSome, is_some, All, cond, slice_get, option_and_then, refl, sym, subst, arith}
 use Rattle.std.specs.List.{position_from}
 use Rattle.std.specs.Str.{bytes_eq}
 use Rattle.std.proofs.lemmas.Bool.{eq-eqb}
@@ -9,13 +9,14 @@ use Rattle.dsr_tree.specs.Trees.{FieldTree, named, skipped, StructureTree, PoolT
 use Rattle.dsr_tree.specs.declared.tree.Relation.{Relation}
 use Rattle.dsr_tree.specs.declared.tree.Set.{Set}
 use Rattle.dsr_tree.specs.declared.faults.Condition.TheVariants as conditions
-use Rattle.dsr_text.specs.Declarations.{FieldPosition, is_declared_above, is_bytewise, is_misplaced, width_faults, maybe_expr_faults, content_faults, parent_faults, source_faults, target_faults, head_faults, field_faults, position_of, structure_faults, pool_faults, set_faults, relation_faults, supply_faults, declaration_faults}
+use Rattle.dsr_text.specs.Declarations.{FieldPosition, is_declared_above, source_faults, target_faults, head_faults, field_faults, position_of, structure_faults, pool_faults, set_faults, relation_faults, supply_faults, declaration_faults}
 use Rattle.dsr_text.specs.Faults.{when}
 use Rattle.dsr_meaning.specs.Lists.{each_at}
 use Rattle.dsr_text.specs.Names.{Names, names_of, is_at, structure_number, fixed_in, has_fixed_name, asked_structures}
 use Rattle.dsr_struct.specs.Known.{AllFit, HasLegalWidth, HasLegalWidths}
-use Rattle.dsr_meaning.proofs.Empty.{both_empty, second_empty, fourth_empty, fifth_empty, no_second, each_has, few}
+use Rattle.dsr_meaning.proofs.Empty.{both_empty, second_empty, no_second, each_has, few}
 use Rattle.dsr_text.proofs.Absent.{when_absent}
+use Rattle.dsr_struct.proofs.Parts.{sound_field, sound_structure}
 
 -- the number of an item that is found is one of the list's
 position_below : {T : Type 0} (test : T → Bool) (i : ℕ) (xs : List T) → IfSome (position_from test i xs) (λ k. k < i + length xs)
@@ -51,15 +52,7 @@ all_asked t small =
 module _ (names : Names) where
   -- a field without fault has a legal width
   pub legal_width : (at : FieldPosition) (f : FieldTree) → field_faults names at f ≡ [] → HasLegalWidth f
-  legal_width at (named f) e =
-      fifth_empty
-      (when (is_declared_above names at f.name.name) conditions.NameTwice f.name.place)
-      (when (nat_eq at.number 64) conditions.Limit f.name.place)
-      (when ((is_bytewise f.width || is_some f.length) && not at.on_byte) conditions.Align f.name.place)
-      (when (is_some f.fixed && is_misplaced at f) conditions.FixedPlace f.name.place)
-      (width_faults f.width)
-      (maybe_expr_faults names.fixed f.length ++ content_faults names.pool f.width f.content)
-      e
+  legal_width at (named f) e = (sound_field names at f e).legal
   legal_width at (skipped place l) e = tt
 
   -- a field, structure, pool or set that is one too many has a fault
@@ -88,13 +81,7 @@ module _ (names : Names) where
 
   -- the fields of a structure without fault have none, hence legal widths, and there are few
   pub fields_empty : (i : ℕ) (s : StructureTree) → structure_faults names i s ≡ [] → each_at (λ j f. field_faults names (position_of names i s j) f) 0 s.fields ≡ []
-  fields_empty i s e =
-      fourth_empty
-      (when (not (is_at i (names.structure s.name.name))) conditions.NameTwice s.name.place)
-      (when (nat_eq i 64) conditions.Limit s.name.place)
-      (parent_faults names i s.parent)
-      (each_at (λ j f. field_faults names (position_of names i s j) f) 0 s.fields)
-      e
+  fields_empty i s e = (sound_structure names i s e).fields
 
   legal_widths : (i : ℕ) (s : StructureTree) → structure_faults names i s ≡ [] → HasLegalWidths s
   legal_widths i s e = each_has (λ j f. field_faults names (position_of names i s j) f) HasLegalWidth (λ j. legal_width (position_of names i s j)) 0 s.fields (fields_empty i s e)

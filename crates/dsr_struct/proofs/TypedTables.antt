@@ -1,87 +1,83 @@
--- The tables of a tree without faults are typed: few items, legal widths, and fields at the boundaries that they need.
-use Rattle.std.proofs.Common.{◌≡◌, ◌%◌, ℕ, suc, Bool, true, false, not, ◌&&◌, ◌||◌, nat_eq, List, [], ◌∷◌, ◌++◌, map, take, length, is_some, refl, sym, ap, ◌∙◌, subst, append_assoc, arith}
-use Rattle.std.specs.Prelude.{IsTrue}
-use Rattle.std.proofs.lemmas.Bool.{eqb-true}
-use Rattle.std.proofs.lemmas.List.{take_at, length-map, length-append, map-append}
-use Rattle.std.proofs.lemmas.List.Elements.{All-map}
-use Rattle.dsr_tree.specs.Trees.{FieldTree, named, skipped, StructureTree, TreeShape}
+-- The tables of a tree without faults are typed.
+use Rattle.std.proofs.Common.{◌≡◌, ◌≤◌, ◌+◌, ℕ, suc, true, false, nat_eq, List, [], map, length, codes, Option, Some, is_some, is_none, slice_get, option_map, if◌then◌else◌, All, ap, ◌∙◌, arith}
+use Rattle.std.specs.Prelude.{IsSomeAnd}
+use Rattle.std.specs.Str.{bytes_eq}
+use Rattle.std.proofs.lemmas.Option.{slice_get-get_or}
+use Rattle.std.proofs.lemmas.Slice.Eq.{bytes_eq-Decides}
+use Rattle.dsr_tree.specs.Trees.{TreeShape}
 use Rattle.dsr_tree.specs.declared.faults.Condition.TheVariants as conditions
-use Rattle.dsr_tree.specs.declared.faults.Fault.{Fault}
-use Rattle.dsr_text.specs.Declarations.{FieldPosition, is_declared_above, is_bytewise, is_misplaced, width_faults, maybe_expr_faults, content_faults, expr_faults, extent_of, field_faults, position_of, structure_faults, declaration_faults}
-use Rattle.dsr_meaning.specs.Extents.{bit_behind, bit_behind_all}
-use Rattle.dsr_text.specs.Faults.{when}
-use Rattle.dsr_meaning.specs.Lists.{each_at}
-use Rattle.dsr_text.specs.Names.{Names, names_of}
-use Rattle.dsr_text.specs.Tables.{typed_expr, typed_field, typed_structure, typed_pool, typed_set, typed_relation, tables}
-use Rattle.dsr_meaning.specs.Placeable.{HasLegalWidth as IsLegal, begins_byte, plain_extent, AreAligned, IsPlaceableStructure, ArePlaceable}
-use Rattle.dsr_meaning.proofs.Bits.{bit_behind_append}
-use Rattle.dsr_meaning.proofs.Empty.{both_empty, third_empty, each_has}
+use Rattle.dsr_meaning.specs.Typed.{AreDifferent, IsTypedStructure, IsTypedPool, IsTypedSet, IsTypedRel, symbol_names, AreTyped}
+use Rattle.dsr_text.specs.Declarations.{declaration_faults}
+use Rattle.dsr_text.specs.Names.{names_of, structure_number}
+use Rattle.dsr_text.specs.Tables.{typed_structure, typed_pool, typed_set, typed_relation, version_of, tables}
 use Rattle.dsr_text.proofs.Absent.{when_absent}
-use Rattle.dsr_struct.proofs.Extents.{begins_same, legal_field, extent_same}
-use Rattle.dsr_struct.proofs.Faultless.{all_empty, legal_width, fields_empty, few_fields}
+use Rattle.dsr_struct.proofs.Faultless.{AllEmpty, all_empty}
+use Rattle.dsr_struct.proofs.Found.{mapped_is}
+use Rattle.dsr_struct.proofs.Numbered.{structure_named, pool_named, set_named, relation_named, relation_no_set}
+use Rattle.dsr_struct.proofs.PlaceableTables.{placeable_tables}
+use Rattle.dsr_struct.proofs.Sound.{known_is, is_some_and, found_item, made_at, different, in_both}
+use Rattle.dsr_struct.proofs.TypedFields.{structure_is_typed}
+use Rattle.dsr_struct.proofs.TypedSets.{pool_is_typed, set_is_typed, relation_is_typed}
 
--- what has to begin at a byte does, where it isn't so that it has to and doesn't
-begins_there : (must on_byte : Bool) → (must && not on_byte) ≡ false → must ≡ true → on_byte ≡ true
-begins_there true true e h = refl
-begins_there true false e h = absurd cc
-begins_there false on_byte e h = absurd cc
+-- what holds of what each item is made to
+all_mapped : {S T : Type 0} (g : S → T) (P : T → Type 0) (xs : List S) → ((i : ℕ) (x : S) → slice_get xs i ≡ Some x → P (g x)) → All P (map g xs)
+all_mapped g P xs h k d lt = mapped_is g (λ _. P) xs h k _ (slice_get-get_or (map g xs) k d lt)
 
-module _ (names : Names) where
-  -- a field without fault begins at a byte where it has to
-  on_byte : (at : FieldPosition) (f : FieldTree) → field_faults names at f ≡ [] → IsTrue (begins_byte (typed_field names f)) → at.on_byte ≡ true
-  on_byte at (named f) e h =
-      let none = third_empty
-      (when (is_declared_above names at f.name.name) conditions.NameTwice f.name.place)
-      (when (nat_eq at.number 64) conditions.Limit f.name.place)
-      (when ((is_bytewise f.width || is_some f.length) && not at.on_byte) conditions.Align f.name.place)
-      (when (is_some f.fixed && is_misplaced at f) conditions.FixedPlace f.name.place ++ (width_faults f.width ++ (maybe_expr_faults names.fixed f.length ++ content_faults names.pool f.width f.content)))
-      e in
-      begins_there (is_bytewise f.width || is_some f.length) at.on_byte
-      (when_absent ((is_bytewise f.width || is_some f.length) && not at.on_byte) conditions.Align f.name.place none)
-      (sym (begins_same f.width (typed_expr names.fixed) f.length) ∙ h)
-  on_byte at (skipped place l) e h =
-      let behind = both_empty (when (nat_eq at.number 64) conditions.Limit place) (when (not at.on_byte) conditions.Align place ++ expr_faults names.fixed l) e in
-      let none = both_empty (when (not at.on_byte) conditions.Align place) (expr_faults names.fixed l) behind.1 in
-      begins_there true at.on_byte (when_absent (not at.on_byte) conditions.Align place none.0) refl
+version_fits : (n : ℕ) → (1 ≤ version_of n) × (version_of n ≤ 2)
+version_fits n = elim (nat_eq n 2) as (λ b. (1 ≤ (if b then 2 else 1)) × ((if b then 2 else 1) ≤ 2)) [ true ↦ (omega arith, omega arith) | false ↦ (omega arith, omega arith) ]
 
-  module _ (i : ℕ) (s : StructureTree) where
-    abbrev faults_at : ℕ → FieldTree → List Fault
-    faults_at j f = field_faults names (position_of names i s j) f
+module _ (t : TreeShape) (empty : AllEmpty t) where
+  head_is : IsSomeAnd (slice_get (tables t).structures (tables t).head) (λ s. s.name ≡ codes "Head")
+  head_is =
+      let number = structure_number t (codes "Head") in
+      let is = known_is number (when_absent (is_none number) conditions.UnknownName 0 empty.head) in
+      let found = found_item (λ s. bytes_eq s.name.name (codes "Head")) t.structures (tables t).head is in
+      is_some_and (λ s. s.name ≡ codes "Head") _ (typed_structure (names_of t) found.item) (made_at (typed_structure (names_of t)) t.structures (tables t).head found.item found.is) ((bytes_eq-Decides found.item.name.name (codes "Head")).0 found.passes)
 
-    -- the fields behind some of a structure's are aligned
-    aligned : (done rest : List FieldTree) (n bit : ℕ) → s.fields ≡ done ++ rest → length done ≡ n → bit_behind_all 0 (map extent_of done) ≡ bit → each_at faults_at n rest ≡ [] → AreAligned bit (map (typed_field names) rest)
-    aligned done [] n bit is many behind e = tt
-    aligned done (f ∷ rest) n bit is many behind e =
-        let both = both_empty (faults_at n f) (each_at faults_at (suc n) rest) e in
-        let begins : bit_behind_all 0 (map extent_of (take n s.fields)) ≡ bit = ap (λ fs. bit_behind_all 0 (map extent_of fs)) (ap (take n) is ∙ take_at done (f ∷ rest) n many) ∙ behind in
-        let next : bit_behind_all 0 (map extent_of (done ++ f ∷ [])) ≡ bit_behind bit (plain_extent (typed_field names f)) =
-        ap (bit_behind_all 0) (map-append extent_of done (f ∷ []))
-        ∙ bit_behind_append 0 (map extent_of done) (extent_of f)
-        ∙ ap (λ b. bit_behind b (extent_of f)) behind
-        ∙ ap (bit_behind bit) (sym (extent_same names f)) in
-        let more : length (done ++ f ∷ []) ≡ suc n = length-append done (f ∷ []) ∙ omega (arith, many) in (
-          λ h. eqb-true (bit % 8) 0 (subst (λ b. nat_eq (b % 8) 0 ≡ true) begins (on_byte (position_of names i s n) f both.0 h)),
-          aligned (done ++ f ∷ []) rest (suc n) (bit_behind bit (plain_extent (typed_field names f))) (is ∙ sym (append_assoc done (f ∷ []) rest)) more next both.1,
-        )
+  -- ---- names
 
-  -- a structure without fault is typed
-  is_typed : (i : ℕ) (s : StructureTree) → structure_faults names i s ≡ [] → IsPlaceableStructure (typed_structure names s)
-  is_typed i s e =
-      let none = fields_empty names i s e in
-      record {
-        few_fields = rw (length-map s.fields (typed_field names)) (few_fields names i s e);
-        widths = All-map IsLegal (typed_field names) s.fields (each_has (λ j f. field_faults names (position_of names i s j) f) (λ f. IsLegal (typed_field names f)) (λ j f h. legal_field names f (legal_width names (position_of names i s j) f h)) 0 s.fields none);
-        aligned = aligned i s [] s.fields 0 0 refl refl refl none;
-      }
+  structures_differ : AreDifferent (map (λ s. s.name) (tables t).structures)
+  structures_differ = different (names_of t).structure _ (mapped_is (λ s. s.name) (λ i q. (names_of t).structure q ≡ Some i) (tables t).structures (mapped_is (typed_structure (names_of t)) (λ i s. (names_of t).structure s.name ≡ Some i) t.structures (structure_named t empty)))
+
+  pools_differ : AreDifferent (map (λ d. d.name) (tables t).pools)
+  pools_differ = different (names_of t).pool _ (mapped_is (λ d. d.name) (λ i q. (names_of t).pool q ≡ Some i) (tables t).pools (mapped_is (typed_pool (names_of t)) (λ i d. (names_of t).pool d.name ≡ Some i) t.pools (pool_named t empty)))
+
+  -- the number of a set, or behind all sets that of a relation
+  abbrev many_sets : ℕ
+  many_sets = length (map (λ s. s.name) (tables t).sets)
+
+  abbrev symbol : List ℕ → Option ℕ
+  symbol q = if is_some ((names_of t).set q) then (names_of t).set q else option_map (λ k. many_sets + k) ((names_of t).relation q)
+
+  of_set : (i : ℕ) (q : List ℕ) → (names_of t).set q ≡ Some i → symbol q ≡ Some i
+  of_set i q e = ap (λ o. if is_some o then o else option_map (λ k. many_sets + k) ((names_of t).relation q)) e
+
+  of_relation : (i : ℕ) (q : List ℕ) → is_some ((names_of t).set q) ≡ false → (names_of t).relation q ≡ Some i → symbol q ≡ Some (many_sets + i)
+  of_relation i q none e = ap (λ b. if b then (names_of t).set q else option_map (λ k. many_sets + k) ((names_of t).relation q)) none ∙ ap (option_map (λ k. many_sets + k)) e
+
+  symbols_differ : AreDifferent (symbol_names (tables t))
+  symbols_differ = different symbol _ (in_both (λ i q. symbol q ≡ Some i) (map (λ s. s.name) (tables t).sets) (map (λ r. r.name) (tables t).rels)
+      (mapped_is (λ s. s.name) (λ i q. symbol q ≡ Some i) (tables t).sets (mapped_is (typed_set (names_of t)) (λ i s. symbol s.name ≡ Some i) t.sets (λ i s at. of_set i s.name.name (set_named t empty i s at))))
+      (mapped_is (λ r. r.name) (λ i q. symbol q ≡ Some (many_sets + i)) (tables t).rels (mapped_is (typed_relation (names_of t)) (λ i r. symbol r.name ≡ Some (many_sets + i)) t.relations (λ i r at. of_relation i r.name.name (relation_no_set t empty i r at) (relation_named t empty i r at)))))
 
 -- the tables of a tree without faults
-pub typed_tables : (t : TreeShape) → declaration_faults t ≡ [] → ArePlaceable (tables t)
+pub typed_tables : (t : TreeShape) → declaration_faults t ≡ [] → AreTyped (tables t)
 typed_tables t e =
     let names = names_of t in
+    let base = tables t in
     let empty = all_empty t e in
+    let placeable = placeable_tables t e in
     record {
-      structures = All-map IsPlaceableStructure (typed_structure names) t.structures (each_has (structure_faults names) (λ s. IsPlaceableStructure (typed_structure names s)) (is_typed names) 0 t.structures empty.structures);
-      few_structures = rw (length-map t.structures (typed_structure names)) empty.few_structures;
-      few_pools = rw (length-map t.pools (typed_pool names)) empty.few_pools;
-      few_symbols = rw (length-map t.sets (typed_set names), length-map t.relations (typed_relation names)) empty.few_symbols;
+      version = version_fits t.version.number;
+      head = head_is t empty;
+      structures = mapped_is (typed_structure names) (IsTypedStructure base) t.structures (structure_is_typed t empty);
+      pools = mapped_is (typed_pool names) (λ i d. IsTypedPool base (suc i) d) t.pools (pool_is_typed t empty);
+      sets = all_mapped (typed_set names) (IsTypedSet base) t.sets (set_is_typed t empty);
+      rels = all_mapped (typed_relation names) (IsTypedRel base) t.relations (relation_is_typed t empty);
+      structure_names = structures_differ t empty;
+      pool_names = pools_differ t empty;
+      symbol_names = symbols_differ t empty;
+      few_structures = placeable.few_structures;
+      few_pools = placeable.few_pools;
+      few_symbols = placeable.few_symbols;
     }

@@ -4,6 +4,7 @@ ghost use Rattle.dsr_tree.specs.Trees.{tree_shape};
 ghost use Rattle.dsr_text.specs.Declarations.{declaration_faults};
 ghost use Rattle.dsr_text.specs.Tables.{tables, tables_with, version_of};
 ghost use Rattle.dsr_meaning.specs.Placeable.{ArePlaceable};
+ghost use Rattle.dsr_meaning.specs.Typed.{AreTyped};
 ghost use Rattle.dsr_struct.specs.Known.{known_of, AllFit, HasLegalWidths};
 ghost use Rattle.dsr_struct.specs.Refusals.{Tells};
 
@@ -55,6 +56,7 @@ impl Names<'_> {
 pub fn structures(alloc: Global, tree: &Tree) -> Result<Structures, SpecFault>
     ensures no_fault { IfOk result (λ _. declaration_faults (tree_shape tree.now) ≡ []) }
     ensures tables { IfOk result (λ s. s ≡ tables (tree_shape tree.now)) }
+    ensures typed { IfOk result AreTyped }
     ensures placeable { IfOk result ArePlaceable }
     ensures fault { IfErr result (Tells (declaration_faults (tree_shape tree.now))) }
 {

@@ -1,5 +1,7 @@
 // The tables of one text, in which each kind of declaration stands.
-use dsr_ir::{Expr, Field, Kind, NoMemory, Order, Pool, Rel, SetDecl, Structure, Structures, Width};
+use dsr_ir::{
+    Expr, Field, Kind, NoMemory, Order, Pool, Rel, SetDecl, Structure, Structures, Width,
+};
 use dsr_parse::parse;
 use dsr_struct::{SpecFault, structures};
 use std::alloc::Global;

@@ -5,7 +5,9 @@ use Rattle.dsr_text.specs.Tables.{tables_with}
 use Rattle.dsr_struct.specs.Known.{told_by}
 use Rattle.dsr_meaning.specs.Placeable.{ArePlaceable}
 use Rattle.dsr_struct.proofs.Outcome.{fault_told, no_fault, numbers_fit, widths_legal}
+use Rattle.dsr_struct.proofs.PlaceableTables.{placeable_tables}
 use Rattle.dsr_struct.proofs.TypedTables.{typed_tables}
+use Rattle.dsr_meaning.specs.Typed.{AreTyped}
 use Rattle.dsr_struct.proofs.typed.structures.Goals as goal
 
 pub returns-in-Some-clause-fault : goal.returns-in-Some-clause-fault
@@ -32,6 +34,7 @@ returns c =
     record {
       no_fault = empty;
       tables = made;
-      placeable = subst ArePlaceable (sym made) (typed_tables tree empty);
+      typed = subst AreTyped (sym made) (typed_tables tree empty);
+      placeable = subst ArePlaceable (sym made) (placeable_tables tree empty);
       fault = tt;
     }

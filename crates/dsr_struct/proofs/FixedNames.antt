@@ -1,5 +1,5 @@
 -- A name that stands for a number of a fixed field stands for a fixed field of `Head`.
-use Rattle.std.proofs.Common.{◌≡◌, ℕ, Bool, true, false, not, ◌&&◌, ◌||◌, nat_eq, List, [], ◌++◌, map, codes, Option, None, Some, IfSome, is_some, is_none, unwrap_or, slice_get, option_map, option_and_then, All, refl, sym, ap, ◌∙◌, subst}
+use Rattle.std.proofs.Common.{◌≡◌, ℕ, Bool, true, false, not, ◌&&◌, ◌||◌, List, [], map, codes, Option, None, Some, IfSome, is_some, is_none, unwrap_or, slice_get, option_map, option_and_then, All, refl, sym, ap, ◌∙◌, subst}
 use Rattle.std.specs.Prelude.{IsSomeAnd, IsTrue}
 use Rattle.std.specs.List.{position_from}
 use Rattle.std.specs.Str.{bytes_eq}
@@ -8,16 +8,14 @@ use Rattle.dsr_ir.specs.Exprs.{ExprShape}
 use Rattle.dsr_ir.specs.declared.declarations.Structure.{Structure}
 use Rattle.dsr_ir.specs.declared.declarations.Structures.{Structures}
 use Rattle.dsr_tree.specs.Trees.{ExprTree, FieldTree, named, skipped, StructureTree, TreeShape}
-use Rattle.dsr_tree.specs.declared.faults.Condition.TheVariants as conditions
-use Rattle.dsr_text.specs.Declarations.{FieldPosition, is_declared_above, is_bytewise, is_misplaced, width_faults, maybe_expr_faults, content_faults, field_faults, position_of, structure_faults}
-use Rattle.dsr_text.specs.Faults.{when}
+use Rattle.dsr_text.specs.Declarations.{FieldPosition, field_faults, position_of, structure_faults}
 use Rattle.dsr_meaning.specs.FixedFields.{head_fields, is_fixed}
 use Rattle.dsr_text.specs.Names.{Names, names_of, structure_number, fixed_in, has_fixed_name}
 use Rattle.dsr_text.specs.Tables.{typed_expr, typed_field, typed_structure, tables}
-use Rattle.dsr_meaning.proofs.Empty.{both_empty, third_empty, each_has}
-use Rattle.dsr_text.proofs.Absent.{when_absent}
+use Rattle.dsr_meaning.proofs.Empty.{each_has}
 use Rattle.dsr_struct.proofs.Faultless.{AllEmpty, fields_empty}
 use Rattle.dsr_struct.proofs.Found.{item_is, found_passes}
+use Rattle.dsr_struct.proofs.Parts.{sound_field}
 
 -- what is fixed and not misplaced has no length
 fixed_alone : (fixed in_head behind right : Bool) (l : Option ExprTree) (g : ExprTree → ExprShape) → (fixed && (not in_head || is_some l || behind)) ≡ false → (fixed && right) ≡ true → (fixed && is_none (option_map g l)) ≡ true
@@ -52,14 +50,7 @@ module _ (names : Names) where
 
   -- a field without fault is
   fixed_there : (at : FieldPosition) (f : FieldTree) → field_faults names at f ≡ [] → IsFixedThere f
-  fixed_there at (named f) e q h =
-      let rest = width_faults f.width ++ (maybe_expr_faults names.fixed f.length ++ content_faults names.pool f.width f.content) in
-      let twice = when (is_declared_above names at f.name.name) conditions.NameTwice f.name.place in
-      let limit = when (nat_eq at.number 64) conditions.Limit f.name.place in
-      let align = when ((is_bytewise f.width || is_some f.length) && not at.on_byte) conditions.Align f.name.place in
-      let misplaced = when (is_some f.fixed && is_misplaced at f) conditions.FixedPlace f.name.place in
-      let none = third_empty limit align misplaced rest (both_empty twice (limit ++ (align ++ (misplaced ++ rest))) e).1 in
-      fixed_alone (is_some f.fixed) at.in_head at.behind_open (bytes_eq f.name.name q) f.length (typed_expr names.fixed) (when_absent (is_some f.fixed && is_misplaced at f) conditions.FixedPlace f.name.place none) h
+  fixed_there at (named f) e q h = fixed_alone (is_some f.fixed) at.in_head at.behind_open (bytes_eq f.name.name q) f.length (typed_expr names.fixed) (sound_field names at f e).placed h
   fixed_there at (skipped place l) e q h = absurd cc
 
   all_fixed_there : (i : ℕ) (s : StructureTree) → structure_faults names i s ≡ [] → AreFixedThere s

@@ -15,7 +15,7 @@ use Rattle.dsr_text.specs.Tables.{pool_in, typed_structure, typed_pool, tables}
 use Rattle.dsr_text.proofs.Absent.{when_absent}
 use Rattle.dsr_struct.proofs.Faultless.{AllEmpty}
 use Rattle.dsr_struct.proofs.Found.{known_has, IsFound, found_passes, found_within, found_below}
-use Rattle.dsr_struct.proofs.ResolvedExprs.{number_has}
+use Rattle.dsr_struct.proofs.NamesInExprs.{number_has}
 
 -- a structure of both names has one name
 one_name : (ss : List StructureTree) (k : ℕ) (p q : List ℕ) → IsFound (λ s. bytes_eq s.name.name p) ss k → IsFound (λ s. bytes_eq s.name.name q) ss k → p ≡ q
@@ -29,9 +29,6 @@ module _ (t : TreeShape) (empty : AllEmpty t) where
   -- `Head` is declared
   head_known : is_none (structure_number t (codes "Head")) ≡ false
   head_known = when_absent (is_none (structure_number t (codes "Head"))) conditions.UnknownName 0 empty.head
-
-  pub head_below : (tables t).head < length (tables t).structures
-  head_below = rw (length-map t.structures (typed_structure (names_of t))) (known_has (structure_number t (codes "Head")) (λ k. k < length t.structures) head_known (found_below (λ s. bytes_eq s.name.name (codes "Head")) t.structures))
 
   -- the number of a structure that isn't called `Head` isn't that of `Head`
   is_other : (q : List ℕ) → is_head q ≡ false → (k : ℕ) → IsFound (λ s. bytes_eq s.name.name q) t.structures k → k ≢ (tables t).head

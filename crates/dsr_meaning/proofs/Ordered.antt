@@ -7,7 +7,7 @@ use Rattle.dsr_ir.specs.declared.tuples.Binding.{Binding}
 use Rattle.dsr_ir.specs.declared.tuples.Binding.TheVariants.{Once, Each, Pair}
 use Rattle.dsr_ir.specs.declared.tuples.Element.{Element}
 use Rattle.dsr_ir.specs.declared.tuples.Fact.{Fact}
-use Rattle.dsr_meaning.specs.Consistency.{AreInOrder, AreViolations, BoundConstraint, Comes, IsFirstViolated, IsViolated, IsBinding}
+use Rattle.dsr_meaning.specs.Consistency.{AreInOrder, AreViolations, BoundConstraint, Comes, IsFirstViolated, IsViolated}
 use Rattle.dsr_meaning.specs.Orders.{BindingPrecedes, Precedes}
 use Rattle.dsr_meaning.specs.Counting.{IsIn}
 

@@ -1,5 +1,5 @@
 -- The orders of elements and of what is made of them are those by which the types are compared.
-use Rattle.std.proofs.Common.{◌≡◌, ◌<◌, ◌⊎◌, ℕ, Bool, true, false, inl, inr, refl, sym, ap, ◌∙◌, arith}
+use Rattle.std.proofs.Common.{◌≡◌, ◌<◌, ◌⊎◌, ℕ, inl, inr, refl, sym, ap, ◌∙◌, arith}
 use Rattle.std.proofs.lemmas.Bool.{cases_lt}
 use Rattle.std.specs.Cmp.{nat_cmp_is}
 use Rattle.std.specs.Prelude.{◌↔◌}
@@ -11,7 +11,6 @@ use Rattle.dsr_ir.specs.declared.tuples.Binding.TheVariants.{Once, Each, Pair}
 use Rattle.dsr_ir.specs.declared.tuples.Element.{Element}
 use Rattle.dsr_ir.specs.declared.tuples.Fact.{Fact}
 use Rattle.dsr_ir.specs.declared.tuples.Fact.TheVariants as fact
-use Rattle.dsr_ir.specs.declared.tuples.Instance.{Instance}
 use Rattle.dsr_ir.specs.declared.tuples.Target.{Target}
 use Rattle.dsr_ir.specs.declared.tuples.Target.TheVariants.{Elem, Num}
 use Rattle.dsr_ir.specs.contracts.tuples.BindingOrd.TheImpl as binding

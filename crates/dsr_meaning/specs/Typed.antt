@@ -1,6 +1,6 @@
 -- When a specification is typed: each number in it names an entry of the table for which it is used, and no condition
 -- under which a specification is refused holds, as far as tables tell it.
-use Rattle.std.specs.Prelude.{◌≡◌, ◌≢◌, ◌≤◌, ◌<◌, ◌+◌, ◌-◌, ◌^◌, ◌++◌, ℕ, suc, Bool, false, nat_eq, is_some, IsTrue, IsSome, List, [], ◌∷◌, map, reverse, length, take, codes, All, Option, None, Some, IfSome, IsSomeAnd, option_map, option_and_then, MatchBool, if◌then◌else◌, slice_get}
+use Rattle.std.specs.Prelude.{◌≡◌, ◌≢◌, ◌≤◌, ◌<◌, ◌+◌, ◌-◌, ◌^◌, ◌++◌, ℕ, suc, false, nat_eq, IsTrue, IsSome, List, [], ◌∷◌, map, reverse, length, take, codes, All, Option, None, Some, IfSome, IsSomeAnd, option_map, option_and_then, MatchBool, if◌then◌else◌, slice_get}
 use Rattle.std.specs.Option.{option_map_or}
 use Rattle.dsr_ir.specs.Exprs.{ExprShape, NumOf, FixedOf, SumOf, LessOf, TimesOf, OverOf}
 use Rattle.dsr_ir.specs.Rules.{gives, target_of}

@@ -1,7 +1,7 @@
 // What is told of each text.
 use crate::specifications::SPECIFICATIONS;
 use crate::tables::{FAULTS, LIMITS, PRODUCTIONS, Part};
-use dsr_parse::{SyntaxFault, parse, print};
+use dsr_parse::{SyntaxFault, faults_are_unique, parse, print, trees_are_unique};
 use dsr_tree::TryCloneTree;
 use std::alloc::{AllocError, Global};
 use std::test::Fail;
@@ -100,4 +100,10 @@ fn limits_are_kept(rt: HostRuntime) -> Result<(), Fail> {
         assert_eq!(rt; fault, wanted);
     }
     Ok(())
+}
+
+#[test]
+fn laws_are_called() {
+    faults_are_unique();
+    trees_are_unique();
 }

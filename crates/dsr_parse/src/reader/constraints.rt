@@ -5,11 +5,12 @@ ghost use Rattle.dsr_text.specs.Grammar as grammar;
 ghost use Rattle.dsr_text.specs.Phrases.{in_turn};
 ghost use Rattle.dsr_text.specs.Syntax.{Many};
 ghost use Rattle.dsr_text.specs.TreeTexts as texts;
+ghost use Rattle.dsr_parse.specs.Ends as ends;
 ghost use Rattle.dsr_parse.specs.Reading.{Reads, Halts, said_constraint};
 
 use crate::reader::{Reader, Stop};
 use dsr_ir::{Order, Seq};
-use dsr_tree::{Binder, Constraint, Keyword, PlacedNumber, Quantifier, Sign, Tree};
+use dsr_tree::{Binder, Constraint, Formula, Keyword, PlacedNumber, Quantifier, Sign, Tree};
 
 impl<'a> Reader<'a> {
     // Reads the tree of a whole text; what stands behind it is left.
@@ -90,15 +91,24 @@ impl<'a> Reader<'a> {
         let place = self.word(Keyword::Constraint)?;
         let name = self.name()?;
         self.starting_sign(Sign::Colon)?;
-        let quantifier = self.quantifier()?;
-        let formula = self.formula(0)?;
-        self.sign(Sign::Semicolon)?;
+        let (quantifier, formula) = self.constraint_end()?;
         Ok(Constraint {
             place,
             name,
             quantifier,
             formula,
         })
+    }
+
+    // Reads what stands behind the colon of a constraint.
+    fn constraint_end(&mut self) -> Result<(Option<Quantifier>, Formula), Stop>
+        ensures ok { IfOk result (λ c. Reads ends.constraint_end (ends.constraint_end_text c.0 c.1) self.old self.new) }
+        ensures err { IfErr result (λ e. Halts (ends.constraint_end ∷ []) self.old e) }
+    {
+        let quantifier = self.quantifier()?;
+        let formula = self.formula(0)?;
+        self.sign(Sign::Semicolon)?;
+        Ok((quantifier, formula))
     }
 
     // Reads the quantifier of a constraint, where there is one.

@@ -6,11 +6,22 @@ ghost use Rattle.dsr_text.specs.Grammar as grammar;
 ghost use Rattle.dsr_text.specs.Phrases.{in_turn};
 ghost use Rattle.dsr_text.specs.Syntax.{Many, a_word};
 ghost use Rattle.dsr_text.specs.TreeTexts as texts;
+ghost use Rattle.dsr_parse.specs.Ends as ends;
 ghost use Rattle.dsr_parse.specs.Reading.{Reads, Halts, said_pool, said_slot};
 
 use crate::reader::{Reader, Stop};
 use dsr_ir::Seq;
 use dsr_tree::{Expr, Fresh, Keyword, PlacedName, Pool, Relation, Set, Sign, Target, View};
+
+// The expressions of a pool behind its count.
+#[derive(Drop)]
+pub struct PoolEnd {
+    pub slot: Option<Expr>,
+    pub start: Expr,
+    pub code: Expr,
+    pub step: Expr,
+    pub none: Expr,
+}
 
 impl<'a> Reader<'a> {
     pub fn pools(&mut self) -> Result<Vec<Pool>, Stop>
@@ -33,17 +44,32 @@ impl<'a> Reader<'a> {
         self.sign(Sign::Colon)?;
         let structure = self.name()?;
         let count = self.brackets()?;
+        let end = self.pool_end()?;
+        Ok(Pool {
+            place,
+            name,
+            structure,
+            count,
+            slot: end.slot,
+            start: end.start,
+            code: end.code,
+            step: end.step,
+            none: end.none,
+        })
+    }
+
+    // Reads what stands behind the count of a pool.
+    fn pool_end(&mut self) -> Result<PoolEnd, Stop>
+        ensures ok { IfOk result (λ p. Reads ends.pool_end (ends.pool_end_text p) self.old self.new) }
+        ensures err { IfErr result (λ e. Halts (ends.pool_end ∷ []) self.old e) }
+    {
         let slot = self.slot()?;
         let start = self.expr_behind(Keyword::At)?;
         let code = self.expr_behind(Keyword::Codes)?;
         let step = self.expr_behind(Keyword::Step)?;
         let none = self.expr_behind(Keyword::None)?;
         self.sign(Sign::Semicolon)?;
-        Ok(Pool {
-            place,
-            name,
-            structure,
-            count,
+        Ok(PoolEnd {
             slot,
             start,
             code,

@@ -5,6 +5,7 @@ ghost use Rattle.dsr_text.specs.Grammar as grammar;
 ghost use Rattle.dsr_text.specs.Phrases.{in_turn};
 ghost use Rattle.dsr_text.specs.Syntax.{Many, free};
 ghost use Rattle.dsr_text.specs.TreeTexts as texts;
+ghost use Rattle.dsr_parse.specs.Ends as ends;
 ghost use Rattle.dsr_parse.specs.Reading.{Reads, Halts, said_join, said_unit};
 
 use crate::reader::{Reader, Stop};
@@ -71,25 +72,54 @@ impl<'a> Reader<'a> {
         ensures err { IfErr result (λ e. Halts (grammar.unit depth ∷ []) self.old e) }
     {
         if self.is_word(Keyword::Not) {
-            let place = self.opening_word(Keyword::Not, depth)?;
-            let unit = self.unit(depth + 1)?;
-            let unit = Box::new(self.alloc, unit)?;
-            return Ok(Unit::Not { place, unit });
+            self.not_unit(depth)
+        } else if self.is_word(Keyword::Given) {
+            self.given_unit(depth)
+        } else if self.is_sign(Sign::OpenParenthesis) {
+            self.group(depth)
+        } else {
+            Ok(Unit::Atom(self.atom()?))
         }
-        if self.is_word(Keyword::Given) {
-            let place = self.opening_word(Keyword::Given, depth)?;
-            let unit = self.unit(depth + 1)?;
-            let unit = Box::new(self.alloc, unit)?;
-            return Ok(Unit::Given { place, unit });
-        }
-        if self.is_sign(Sign::OpenParenthesis) {
-            let place = self.opening_sign(Sign::OpenParenthesis, depth)?;
-            let formula = self.formula(depth + 1)?;
-            self.sign(Sign::CloseParenthesis)?;
-            let formula = Box::new(self.alloc, formula)?;
-            return Ok(Unit::Group { place, formula });
-        }
-        Ok(Unit::Atom(self.atom()?))
+    }
+
+    // Reads a unit behind `not`.
+    #[cycle(formulas)]
+    fn not_unit(&mut self, depth: u64) -> Result<Unit, Stop>
+        requires { depth ≤ 32 }
+        ensures ok { IfOk result (λ u. Reads (ends.not_unit depth) (texts.unit_text (shapes.unit_shape u)) self.old self.new) }
+        ensures err { IfErr result (λ e. Halts (ends.not_unit depth ∷ []) self.old e) }
+    {
+        let place = self.opening_word(Keyword::Not, depth)?;
+        let unit = self.unit(depth + 1)?;
+        let unit = Box::new(self.alloc, unit)?;
+        Ok(Unit::Not { place, unit })
+    }
+
+    // Reads a unit behind `given`.
+    #[cycle(formulas)]
+    fn given_unit(&mut self, depth: u64) -> Result<Unit, Stop>
+        requires { depth ≤ 32 }
+        ensures ok { IfOk result (λ u. Reads (ends.given_unit depth) (texts.unit_text (shapes.unit_shape u)) self.old self.new) }
+        ensures err { IfErr result (λ e. Halts (ends.given_unit depth ∷ []) self.old e) }
+    {
+        let place = self.opening_word(Keyword::Given, depth)?;
+        let unit = self.unit(depth + 1)?;
+        let unit = Box::new(self.alloc, unit)?;
+        Ok(Unit::Given { place, unit })
+    }
+
+    // Reads a formula in parentheses.
+    #[cycle(formulas)]
+    fn group(&mut self, depth: u64) -> Result<Unit, Stop>
+        requires { depth ≤ 32 }
+        ensures ok { IfOk result (λ u. Reads (ends.group depth) (texts.unit_text (shapes.unit_shape u)) self.old self.new) }
+        ensures err { IfErr result (λ e. Halts (ends.group depth ∷ []) self.old e) }
+    {
+        let place = self.opening_sign(Sign::OpenParenthesis, depth)?;
+        let formula = self.formula(depth + 1)?;
+        self.sign(Sign::CloseParenthesis)?;
+        let formula = Box::new(self.alloc, formula)?;
+        Ok(Unit::Group { place, formula })
     }
 
     fn atom(&mut self) -> Result<Atom, Stop>

@@ -4,6 +4,7 @@ ghost use Rattle.dsr_text.specs.Grammar as grammar;
 ghost use Rattle.dsr_text.specs.Phrases.{in_turn};
 ghost use Rattle.dsr_text.specs.Syntax.{Many};
 ghost use Rattle.dsr_text.specs.TreeTexts as texts;
+ghost use Rattle.dsr_parse.specs.Ends as ends;
 ghost use Rattle.dsr_parse.specs.Reading.{Reads, Halts, Found};
 
 use crate::reader::{Reader, Stop};
@@ -32,10 +33,7 @@ impl<'a> Reader<'a> {
         let place = self.word(Keyword::Rule)?;
         let premise = self.premise()?;
         let span = self.span()?;
-        let guards = self.guards()?;
-        self.sign(Sign::Gives)?;
-        let inclusion = self.inclusion()?;
-        self.sign(Sign::Semicolon)?;
+        let (guards, inclusion) = self.rule_end()?;
         Ok(Rule {
             place,
             premise,
@@ -43,6 +41,18 @@ impl<'a> Reader<'a> {
             guards,
             inclusion,
         })
+    }
+
+    // Reads what stands behind the index of a rule.
+    fn rule_end(&mut self) -> Result<(Option<Guards>, Inclusion), Stop>
+        ensures ok { IfOk result (λ r. Reads ends.rule_end (ends.rule_end_text r.0 r.1) self.old self.new) }
+        ensures err { IfErr result (λ e. Halts (ends.rule_end ∷ []) self.old e) }
+    {
+        let guards = self.guards()?;
+        self.sign(Sign::Gives)?;
+        let inclusion = self.inclusion()?;
+        self.sign(Sign::Semicolon)?;
+        Ok((guards, inclusion))
     }
 
     fn premise(&mut self) -> Result<Premise, Stop>
@@ -192,16 +202,25 @@ impl<'a> Reader<'a> {
         let place = self.sign(Sign::Less)?;
         let term = self.term()?;
         self.sign(Sign::Comma)?;
-        let path = self.path()?;
-        self.sign(Sign::Greater)?;
-        self.word(Keyword::In)?;
-        let relation = self.name()?;
+        let (path, relation) = self.pair_end()?;
         Ok(Inclusion::Pair {
             place,
             term,
             path,
             relation,
         })
+    }
+
+    // Reads what stands behind the comma of a pair.
+    fn pair_end(&mut self) -> Result<(Path, PlacedName), Stop>
+        ensures ok { IfOk result (λ p. Reads ends.pair_end (ends.pair_end_text p.0 p.1) self.old self.new) }
+        ensures err { IfErr result (λ e. Halts (ends.pair_end ∷ []) self.old e) }
+    {
+        let path = self.path()?;
+        self.sign(Sign::Greater)?;
+        self.word(Keyword::In)?;
+        let relation = self.name()?;
+        Ok((path, relation))
     }
 
     // Reads the inclusion of a member.

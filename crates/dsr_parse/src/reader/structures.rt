@@ -6,6 +6,7 @@ ghost use Rattle.dsr_text.specs.Grammar as grammar;
 ghost use Rattle.dsr_text.specs.Phrases.{in_turn};
 ghost use Rattle.dsr_text.specs.Syntax.{Many};
 ghost use Rattle.dsr_text.specs.TreeTexts as texts;
+ghost use Rattle.dsr_parse.specs.Ends as ends;
 ghost use Rattle.dsr_parse.specs.Reading.{Reads, Halts, is_next, said_field, said_structure, said_length};
 
 use crate::reader::{Reader, Stop};
@@ -31,15 +32,24 @@ impl<'a> Reader<'a> {
         let place = self.word(Keyword::Structure)?;
         let name = self.name()?;
         let parent = self.parent()?;
-        self.sign(Sign::OpenBrace)?;
-        let fields = self.fields()?;
-        self.sign(Sign::CloseBrace)?;
+        let fields = self.braced_fields()?;
         Ok(Structure {
             place,
             name,
             parent,
             fields: Seq::new(fields),
         })
+    }
+
+    // Reads the fields of a structure in their braces.
+    fn braced_fields(&mut self) -> Result<Vec<Field>, Stop>
+        ensures ok { IfOk result (λ fields. Reads ends.braced_fields (ends.braced_text (in_turn said_field fields.items)) self.old self.new) }
+        ensures err { IfErr result (λ e. Halts (ends.braced_fields ∷ []) self.old e) }
+    {
+        self.sign(Sign::OpenBrace)?;
+        let fields = self.fields()?;
+        self.sign(Sign::CloseBrace)?;
+        Ok(fields)
     }
 
     fn parent(&mut self) -> Result<Option<PlacedName>, Stop>

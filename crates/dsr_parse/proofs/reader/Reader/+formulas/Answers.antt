@@ -1,7 +1,8 @@
 use Rattle.std.proofs.Common.{refl, sym, ap, ◌∙◌, arith}
 use Rattle.dsr_text.specs.TreeTexts.{unit_text, formula_text}
 use Rattle.dsr_tree.specs.Trees.{unit_shape, formula_shape}
-use Rattle.dsr_parse.proofs.Passing.{passed_on, next_is, other_is, halts_first, halts_rest, halts_left, halts_right, reads_then, reads_left, reads_right, reads_unkept, reads_as, reads_within, says_within, unit_inside, unit_halts, formula_inside, formula_halts, items_none, items_more, items_halt}
+use Rattle.std.proofs.lemmas.Result.{IfOk-weaker}
+use Rattle.dsr_parse.proofs.Passing.{passed_on, err_from, said_shorter, next_is, other_is, halts_first, halts_rest, halts_left, halts_right, reads_then, reads_left, reads_right, reads_unkept, reads_as, reads_within, says_within, unit_inside, unit_halts, formula_inside, formula_halts, items_none, items_more, items_halt}
 use Rattle.dsr_parse.proofs.Staying.{took, took_next, token_shorter}
 use Rattle.dsr_parse.proofs.TreeRows.{formula_made, join_made}
 use Rattle.dsr_parse.proofs.reader.Reader.+formulas.Goals as goal
@@ -72,41 +73,77 @@ more_units-loop-units-smaller t c =
 pub more_units-loop-units-preserved : goal.more_units-loop-units-preserved
 more_units-loop-units-preserved t c = items_more (took_next c.take_word.result c.loop-units-test.ensures c.take_word.ensures.next) c.in_ok-push.ensures.items c.loop-units.invariant (reads_then (took c.take_word.result c.loop-units-test.ensures c.take_word.ensures.some) c.in_ok-unit.ensures.ok)
 
-pub unit-returns-in_err-place-clause-err : goal.unit-returns-in_err-place-clause-err
-unit-returns-in_err-place-clause-err t c = passed_on c.from_residual.result c.from_residual.ensures.1 (halts_left (next_is (sym c.is_word.ensures ∙ c.if-is_word.true)) (halts_first c.in_err-place.ensures.err))
-
-pub unit-returns-in_err-unit-clause-err : goal.unit-returns-in_err-unit-clause-err
-unit-returns-in_err-unit-clause-err t c = passed_on c.from_residual-in_err-unit.result c.from_residual-in_err-unit.ensures.1 (halts_left (next_is (sym c.is_word.ensures ∙ c.if-is_word.true)) (halts_rest c.in_ok-place.ensures.ok (unit_halts c.in_err-unit.ensures.err)))
+pub unit-not_unit-requires : goal.unit-not_unit-requires
+unit-not_unit-requires t c = (omega (arith, c.decreases), c.requires)
 
 pub unit-returns-then-is_word-clause-ok : goal.unit-returns-then-is_word-clause-ok
-unit-returns-then-is_word-clause-ok t c =
-    let inner = ap (λ u. unit_text (unit_shape u)) c.in_ok-unit-2.ensures.ok in
-    reads_left (next_is (sym c.is_word.ensures ∙ c.if-is_word.true)) (reads_then c.in_ok-place.ensures.ok (reads_as inner (unit_inside c.in_ok-unit.ensures.ok)))
+unit-returns-then-is_word-clause-ok t c = IfOk-weaker c.not_unit.result _ _ (λ u r. reads_left (next_is (sym c.is_word.ensures ∙ c.if-is_word.true)) r) c.not_unit.ensures.ok
 
-pub unit-returns-in_err-place-2-clause-err : goal.unit-returns-in_err-place-2-clause-err
-unit-returns-in_err-place-2-clause-err t c = passed_on c.from_residual-in_err-place-2.result c.from_residual-in_err-place-2.ensures.1 (halts_right refl (other_is (sym c.is_word.ensures ∙ c.if-is_word.false)) (halts_left (next_is (sym c.is_word-2.ensures ∙ c.if-is_word-2.true)) (halts_first c.in_err-place-2.ensures.err)))
+pub unit-returns-then-is_word-clause-err : goal.unit-returns-then-is_word-clause-err
+unit-returns-then-is_word-clause-err t c = err_from c.not_unit.result (λ e h. halts_left (next_is (sym c.is_word.ensures ∙ c.if-is_word.true)) h) c.not_unit.ensures.err
 
-pub unit-returns-in_err-unit-3-clause-err : goal.unit-returns-in_err-unit-3-clause-err
-unit-returns-in_err-unit-3-clause-err t c = passed_on c.from_residual-in_err-unit-3.result c.from_residual-in_err-unit-3.ensures.1 (halts_right refl (other_is (sym c.is_word.ensures ∙ c.if-is_word.false)) (halts_left (next_is (sym c.is_word-2.ensures ∙ c.if-is_word-2.true)) (halts_rest c.in_ok-place-2.ensures.ok (unit_halts c.in_err-unit-3.ensures.err))))
+pub unit-given_unit-requires : goal.unit-given_unit-requires
+unit-given_unit-requires t c = (omega (arith, c.decreases), c.requires)
 
 pub unit-returns-then-is_word-2-clause-ok : goal.unit-returns-then-is_word-2-clause-ok
-unit-returns-then-is_word-2-clause-ok t c =
-    let inner = ap (λ u. unit_text (unit_shape u)) c.in_ok-unit-4.ensures.ok in
-    reads_right refl (other_is (sym c.is_word.ensures ∙ c.if-is_word.false)) (reads_left (next_is (sym c.is_word-2.ensures ∙ c.if-is_word-2.true)) (reads_then c.in_ok-place-2.ensures.ok (reads_as inner (unit_inside c.in_ok-unit-3.ensures.ok))))
+unit-returns-then-is_word-2-clause-ok t c = IfOk-weaker c.given_unit.result _ _ (λ u r. reads_right refl (other_is (sym c.is_word.ensures ∙ c.if-is_word.false)) (reads_left (next_is (sym c.is_word-else-is_word.ensures ∙ c.if-is_word-2.true)) r)) c.given_unit.ensures.ok
 
-pub unit-returns-in_err-place-3-clause-err : goal.unit-returns-in_err-place-3-clause-err
-unit-returns-in_err-place-3-clause-err t c = passed_on c.from_residual-in_err-place-3.result c.from_residual-in_err-place-3.ensures.1 (halts_right refl (other_is (sym c.is_word.ensures ∙ c.if-is_word.false)) (halts_right refl (other_is (sym c.is_word-2.ensures ∙ c.if-is_word-2.false)) (halts_left (next_is (sym c.is_sign.ensures ∙ c.if-is_sign.true)) (halts_first c.in_err-place-3.ensures.err))))
+pub unit-returns-then-is_word-2-clause-err : goal.unit-returns-then-is_word-2-clause-err
+unit-returns-then-is_word-2-clause-err t c = err_from c.given_unit.result (λ e h. halts_right refl (other_is (sym c.is_word.ensures ∙ c.if-is_word.false)) (halts_left (next_is (sym c.is_word-else-is_word.ensures ∙ c.if-is_word-2.true)) h)) c.given_unit.ensures.err
 
-pub unit-returns-in_err-formula-clause-err : goal.unit-returns-in_err-formula-clause-err
-unit-returns-in_err-formula-clause-err t c = passed_on c.from_residual-in_err-formula.result c.from_residual-in_err-formula.ensures.1 (halts_right refl (other_is (sym c.is_word.ensures ∙ c.if-is_word.false)) (halts_right refl (other_is (sym c.is_word-2.ensures ∙ c.if-is_word-2.false)) (halts_left (next_is (sym c.is_sign.ensures ∙ c.if-is_sign.true)) (halts_rest c.in_ok-place-3.ensures.ok (halts_first (formula_halts c.in_err-formula.ensures.err))))))
-
-pub unit-returns-in_err-sign-clause-err : goal.unit-returns-in_err-sign-clause-err
-unit-returns-in_err-sign-clause-err t c = passed_on c.from_residual-in_err-sign.result c.from_residual-in_err-sign.ensures.1 (halts_right refl (other_is (sym c.is_word.ensures ∙ c.if-is_word.false)) (halts_right refl (other_is (sym c.is_word-2.ensures ∙ c.if-is_word-2.false)) (halts_left (next_is (sym c.is_sign.ensures ∙ c.if-is_sign.true)) (halts_rest c.in_ok-place-3.ensures.ok (halts_rest (formula_inside c.in_ok-formula.ensures.ok) c.in_err-sign.ensures.err)))))
+pub unit-group-requires : goal.unit-group-requires
+unit-group-requires t c = (omega (arith, c.decreases), c.requires)
 
 pub unit-returns-then-is_sign-clause-ok : goal.unit-returns-then-is_sign-clause-ok
-unit-returns-then-is_sign-clause-ok t c =
-    let inner = ap (λ f. formula_text (formula_shape f)) c.in_ok-formula-2.ensures.ok in
-    reads_right refl (other_is (sym c.is_word.ensures ∙ c.if-is_word.false)) (reads_right refl (other_is (sym c.is_word-2.ensures ∙ c.if-is_word-2.false)) (reads_left (next_is (sym c.is_sign.ensures ∙ c.if-is_sign.true)) (reads_then c.in_ok-place-3.ensures.ok (reads_then (reads_as inner (formula_inside c.in_ok-formula.ensures.ok)) (reads_unkept c.in_ok-sign.ensures.ok)))))
+unit-returns-then-is_sign-clause-ok t c = IfOk-weaker c.group.result _ _ (λ u r. reads_right refl (other_is (sym c.is_word.ensures ∙ c.if-is_word.false)) (reads_right refl (other_is (sym c.is_word-else-is_word.ensures ∙ c.if-is_word-2.false)) (reads_left (next_is (sym c.is_sign.ensures ∙ c.if-is_sign.true)) r))) c.group.ensures.ok
+
+pub unit-returns-then-is_sign-clause-err : goal.unit-returns-then-is_sign-clause-err
+unit-returns-then-is_sign-clause-err t c = err_from c.group.result (λ e h. halts_right refl (other_is (sym c.is_word.ensures ∙ c.if-is_word.false)) (halts_right refl (other_is (sym c.is_word-else-is_word.ensures ∙ c.if-is_word-2.false)) (halts_left (next_is (sym c.is_sign.ensures ∙ c.if-is_sign.true)) h))) c.group.ensures.err
 
 pub unit-returns-in_err-atom-clause-err : goal.unit-returns-in_err-atom-clause-err
-unit-returns-in_err-atom-clause-err t c = passed_on c.from_residual-in_err-atom.result c.from_residual-in_err-atom.ensures.1 (halts_right refl (other_is (sym c.is_word.ensures ∙ c.if-is_word.false)) (halts_right refl (other_is (sym c.is_word-2.ensures ∙ c.if-is_word-2.false)) (halts_right refl (other_is (sym c.is_sign.ensures ∙ c.if-is_sign.false)) c.in_err-atom.ensures.err)))
+unit-returns-in_err-atom-clause-err t c = passed_on c.from_residual.result c.from_residual.ensures.1 (halts_right refl (other_is (sym c.is_word.ensures ∙ c.if-is_word.false)) (halts_right refl (other_is (sym c.is_word-else-is_word.ensures ∙ c.if-is_word-2.false)) (halts_right refl (other_is (sym c.is_sign.ensures ∙ c.if-is_sign.false)) c.in_err-atom.ensures.err)))
+
+pub not_unit-returns-in_err-place-clause-err : goal.not_unit-returns-in_err-place-clause-err
+not_unit-returns-in_err-place-clause-err t c = passed_on c.from_residual.result c.from_residual.ensures.1 (halts_first c.in_err-place.ensures.err)
+
+pub not_unit-unit-requires : goal.not_unit-unit-requires
+not_unit-unit-requires t c = let less = said_shorter c.in_ok-place.ensures.ok in (omega (arith, c.decreases), omega (arith, c.in_ok-place.ensures.below))
+
+pub not_unit-returns-in_err-unit-clause-err : goal.not_unit-returns-in_err-unit-clause-err
+not_unit-returns-in_err-unit-clause-err t c = passed_on c.from_residual-in_err-unit.result c.from_residual-in_err-unit.ensures.1 (halts_rest c.in_ok-place.ensures.ok (unit_halts c.in_err-unit.ensures.err))
+
+pub not_unit-returns-clause-ok : goal.not_unit-returns-clause-ok
+not_unit-returns-clause-ok t c =
+    let inner = ap (λ u. unit_text (unit_shape u)) c.in_ok-unit-2.ensures.ok in
+    reads_then c.in_ok-place.ensures.ok (reads_as inner (unit_inside c.in_ok-unit.ensures.ok))
+
+pub given_unit-returns-in_err-place-clause-err : goal.given_unit-returns-in_err-place-clause-err
+given_unit-returns-in_err-place-clause-err t c = passed_on c.from_residual.result c.from_residual.ensures.1 (halts_first c.in_err-place.ensures.err)
+
+pub given_unit-unit-requires : goal.given_unit-unit-requires
+given_unit-unit-requires t c = let less = said_shorter c.in_ok-place.ensures.ok in (omega (arith, c.decreases), omega (arith, c.in_ok-place.ensures.below))
+
+pub given_unit-returns-in_err-unit-clause-err : goal.given_unit-returns-in_err-unit-clause-err
+given_unit-returns-in_err-unit-clause-err t c = passed_on c.from_residual-in_err-unit.result c.from_residual-in_err-unit.ensures.1 (halts_rest c.in_ok-place.ensures.ok (unit_halts c.in_err-unit.ensures.err))
+
+pub given_unit-returns-clause-ok : goal.given_unit-returns-clause-ok
+given_unit-returns-clause-ok t c =
+    let inner = ap (λ u. unit_text (unit_shape u)) c.in_ok-unit-2.ensures.ok in
+    reads_then c.in_ok-place.ensures.ok (reads_as inner (unit_inside c.in_ok-unit.ensures.ok))
+
+pub group-returns-in_err-place-clause-err : goal.group-returns-in_err-place-clause-err
+group-returns-in_err-place-clause-err t c = passed_on c.from_residual.result c.from_residual.ensures.1 (halts_first c.in_err-place.ensures.err)
+
+pub group-formula-requires : goal.group-formula-requires
+group-formula-requires t c = let less = said_shorter c.in_ok-place.ensures.ok in (omega (arith, c.decreases), omega (arith, c.in_ok-place.ensures.below))
+
+pub group-returns-in_err-formula-clause-err : goal.group-returns-in_err-formula-clause-err
+group-returns-in_err-formula-clause-err t c = passed_on c.from_residual-in_err-formula.result c.from_residual-in_err-formula.ensures.1 (halts_rest c.in_ok-place.ensures.ok (halts_first (formula_halts c.in_err-formula.ensures.err)))
+
+pub group-returns-in_err-sign-clause-err : goal.group-returns-in_err-sign-clause-err
+group-returns-in_err-sign-clause-err t c = passed_on c.from_residual-in_err-sign.result c.from_residual-in_err-sign.ensures.1 (halts_rest c.in_ok-place.ensures.ok (halts_rest (formula_inside c.in_ok-formula.ensures.ok) c.in_err-sign.ensures.err))
+
+pub group-returns-clause-ok : goal.group-returns-clause-ok
+group-returns-clause-ok t c =
+    let inner = ap (λ f. formula_text (formula_shape f)) c.in_ok-formula-2.ensures.ok in
+    reads_then c.in_ok-place.ensures.ok (reads_then (reads_as inner (formula_inside c.in_ok-formula.ensures.ok)) (reads_unkept c.in_ok-sign.ensures.ok))

@@ -12,6 +12,15 @@ decreases-join l = 8 * length l.self.now.rest + 3
 abbrev pub decreases-unit : goal.decreases-unit
 decreases-unit l = 8 * length l.self.now.rest + 2
 
+abbrev pub decreases-not_unit : goal.decreases-not_unit
+decreases-not_unit l = 8 * length l.self.now.rest + 1
+
+abbrev pub decreases-given_unit : goal.decreases-given_unit
+decreases-given_unit l = 8 * length l.self.now.rest + 1
+
+abbrev pub decreases-group : goal.decreases-group
+decreases-group l = 8 * length l.self.now.rest + 1
+
 abbrev pub decreases-more_joins : goal.decreases-more_joins
 decreases-more_joins l = 8 * length l.self.now.rest + 1
 

@@ -1,4 +1,4 @@
-use Rattle.dsr_parse.proofs.Passing.{passed_on, halts_first, halts_rest, formula_whole, formula_stops, reads_then, reads_unkept}
+use Rattle.dsr_parse.proofs.Passing.{passed_on, halts_first, halts_rest, reads_then, reads_unkept}
 use Rattle.dsr_parse.proofs.reader.Reader.constraint.Goals as goal
 
 pub returns-in_err-place-clause-err : goal.returns-in_err-place-clause-err
@@ -11,13 +11,7 @@ pub returns-in_err-starting_sign-clause-err : goal.returns-in_err-starting_sign-
 returns-in_err-starting_sign-clause-err c = passed_on c.from_residual-in_err-starting_sign.result c.from_residual-in_err-starting_sign.ensures.1 (halts_rest c.in_ok-place.ensures.ok (halts_rest c.in_ok-name.ensures.ok (halts_first c.in_err-starting_sign.ensures.err)))
 
 pub returns-in_err-quantifier-clause-err : goal.returns-in_err-quantifier-clause-err
-returns-in_err-quantifier-clause-err c = passed_on c.from_residual-in_err-quantifier.result c.from_residual-in_err-quantifier.ensures.1 (halts_rest c.in_ok-place.ensures.ok (halts_rest c.in_ok-name.ensures.ok (halts_rest c.in_ok-starting_sign.ensures.ok (halts_first c.in_err-quantifier.ensures.err))))
-
-pub returns-in_err-formula-clause-err : goal.returns-in_err-formula-clause-err
-returns-in_err-formula-clause-err c = passed_on c.from_residual-in_err-formula.result c.from_residual-in_err-formula.ensures.1 (halts_rest c.in_ok-place.ensures.ok (halts_rest c.in_ok-name.ensures.ok (halts_rest c.in_ok-starting_sign.ensures.ok (halts_rest c.in_ok-quantifier.ensures.ok (halts_first (formula_stops c.in_err-formula.ensures.err))))))
-
-pub returns-in_err-sign-clause-err : goal.returns-in_err-sign-clause-err
-returns-in_err-sign-clause-err c = passed_on c.from_residual-in_err-sign.result c.from_residual-in_err-sign.ensures.1 (halts_rest c.in_ok-place.ensures.ok (halts_rest c.in_ok-name.ensures.ok (halts_rest c.in_ok-starting_sign.ensures.ok (halts_rest c.in_ok-quantifier.ensures.ok (halts_rest (formula_whole c.in_ok-formula.ensures.ok) c.in_err-sign.ensures.err)))))
+returns-in_err-quantifier-clause-err c = passed_on c.from_residual-in_err-quantifier.result c.from_residual-in_err-quantifier.ensures.1 (halts_rest c.in_ok-place.ensures.ok (halts_rest c.in_ok-name.ensures.ok (halts_rest c.in_ok-starting_sign.ensures.ok c.in_err-quantifier.ensures.err)))
 
 pub returns-clause-ok : goal.returns-clause-ok
-returns-clause-ok c = reads_then c.in_ok-place.ensures.ok (reads_then c.in_ok-name.ensures.ok (reads_then (reads_unkept c.in_ok-starting_sign.ensures.ok) (reads_then c.in_ok-quantifier.ensures.ok (reads_then (formula_whole c.in_ok-formula.ensures.ok) (reads_unkept c.in_ok-sign.ensures.ok)))))
+returns-clause-ok c = reads_then c.in_ok-place.ensures.ok (reads_then c.in_ok-name.ensures.ok (reads_then (reads_unkept c.in_ok-starting_sign.ensures.ok) c.in_ok-quantifier.ensures.ok))

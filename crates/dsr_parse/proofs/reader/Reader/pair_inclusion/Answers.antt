@@ -11,16 +11,7 @@ pub returns-in_err-sign-clause-err : goal.returns-in_err-sign-clause-err
 returns-in_err-sign-clause-err c = passed_on c.from_residual-in_err-sign.result c.from_residual-in_err-sign.ensures.1 (halts_rest c.in_ok-place.ensures.ok (halts_rest c.in_ok-term.ensures.ok (halts_first c.in_err-sign.ensures.err)))
 
 pub returns-in_err-path-clause-err : goal.returns-in_err-path-clause-err
-returns-in_err-path-clause-err c = passed_on c.from_residual-in_err-path.result c.from_residual-in_err-path.ensures.1 (halts_rest c.in_ok-place.ensures.ok (halts_rest c.in_ok-term.ensures.ok (halts_rest c.in_ok-sign.ensures.ok (halts_first c.in_err-path.ensures.err))))
-
-pub returns-in_err-sign-2-clause-err : goal.returns-in_err-sign-2-clause-err
-returns-in_err-sign-2-clause-err c = passed_on c.from_residual-in_err-sign-2.result c.from_residual-in_err-sign-2.ensures.1 (halts_rest c.in_ok-place.ensures.ok (halts_rest c.in_ok-term.ensures.ok (halts_rest c.in_ok-sign.ensures.ok (halts_rest c.in_ok-path.ensures.ok (halts_first c.in_err-sign-2.ensures.err)))))
-
-pub returns-in_err-word-clause-err : goal.returns-in_err-word-clause-err
-returns-in_err-word-clause-err c = passed_on c.from_residual-in_err-word.result c.from_residual-in_err-word.ensures.1 (halts_rest c.in_ok-place.ensures.ok (halts_rest c.in_ok-term.ensures.ok (halts_rest c.in_ok-sign.ensures.ok (halts_rest c.in_ok-path.ensures.ok (halts_rest c.in_ok-sign-2.ensures.ok (halts_first c.in_err-word.ensures.err))))))
-
-pub returns-in_err-relation-clause-err : goal.returns-in_err-relation-clause-err
-returns-in_err-relation-clause-err c = passed_on c.from_residual-in_err-relation.result c.from_residual-in_err-relation.ensures.1 (halts_rest c.in_ok-place.ensures.ok (halts_rest c.in_ok-term.ensures.ok (halts_rest c.in_ok-sign.ensures.ok (halts_rest c.in_ok-path.ensures.ok (halts_rest c.in_ok-sign-2.ensures.ok (halts_rest c.in_ok-word.ensures.ok c.in_err-relation.ensures.err))))))
+returns-in_err-path-clause-err c = passed_on c.from_residual-in_err-path.result c.from_residual-in_err-path.ensures.1 (halts_rest c.in_ok-place.ensures.ok (halts_rest c.in_ok-term.ensures.ok (halts_rest c.in_ok-sign.ensures.ok c.in_err-path.ensures.err)))
 
 pub returns-clause-ok : goal.returns-clause-ok
-returns-clause-ok c = reads_then c.in_ok-place.ensures.ok (reads_then c.in_ok-term.ensures.ok (reads_then (reads_unkept c.in_ok-sign.ensures.ok) (reads_then c.in_ok-path.ensures.ok (reads_then (reads_unkept c.in_ok-sign-2.ensures.ok) (reads_then (reads_unkept c.in_ok-word.ensures.ok) c.in_ok-relation.ensures.ok)))))
+returns-clause-ok c = reads_then c.in_ok-place.ensures.ok (reads_then c.in_ok-term.ensures.ok (reads_then (reads_unkept c.in_ok-sign.ensures.ok) c.in_ok-path.ensures.ok))

@@ -1,4 +1,6 @@
-use Rattle.dsr_parse.proofs.Passing.{passed_on, halts_first, halts_rest, reads_then, reads_unkept, reads_as}
+use Rattle.dsr_parse.proofs.Passing.{passed_on, halts_first, halts_rest, reads_then, reads_as}
+use Rattle.std.proofs.Common.{ap}
+use Rattle.dsr_parse.specs.Ends.{braced_text}
 use Rattle.dsr_parse.proofs.PartTexts.{fields_said}
 use Rattle.dsr_parse.proofs.reader.Reader.structure.Goals as goal
 
@@ -11,14 +13,8 @@ returns-in_err-name-clause-err c = passed_on c.from_residual-in_err-name.result 
 pub returns-in_err-parent-clause-err : goal.returns-in_err-parent-clause-err
 returns-in_err-parent-clause-err c = passed_on c.from_residual-in_err-parent.result c.from_residual-in_err-parent.ensures.1 (halts_rest c.in_ok-place.ensures.ok (halts_rest c.in_ok-name.ensures.ok (halts_first c.in_err-parent.ensures.err)))
 
-pub returns-in_err-sign-clause-err : goal.returns-in_err-sign-clause-err
-returns-in_err-sign-clause-err c = passed_on c.from_residual-in_err-sign.result c.from_residual-in_err-sign.ensures.1 (halts_rest c.in_ok-place.ensures.ok (halts_rest c.in_ok-name.ensures.ok (halts_rest c.in_ok-parent.ensures.ok (halts_first c.in_err-sign.ensures.err))))
-
 pub returns-in_err-fields-clause-err : goal.returns-in_err-fields-clause-err
-returns-in_err-fields-clause-err c = passed_on c.from_residual-in_err-fields.result c.from_residual-in_err-fields.ensures.1 (halts_rest c.in_ok-place.ensures.ok (halts_rest c.in_ok-name.ensures.ok (halts_rest c.in_ok-parent.ensures.ok (halts_rest c.in_ok-sign.ensures.ok (halts_first c.in_err-fields.ensures.err)))))
-
-pub returns-in_err-sign-2-clause-err : goal.returns-in_err-sign-2-clause-err
-returns-in_err-sign-2-clause-err c = passed_on c.from_residual-in_err-sign-2.result c.from_residual-in_err-sign-2.ensures.1 (halts_rest c.in_ok-place.ensures.ok (halts_rest c.in_ok-name.ensures.ok (halts_rest c.in_ok-parent.ensures.ok (halts_rest c.in_ok-sign.ensures.ok (halts_rest c.in_ok-fields.ensures.ok c.in_err-sign-2.ensures.err)))))
+returns-in_err-fields-clause-err c = passed_on c.from_residual-in_err-fields.result c.from_residual-in_err-fields.ensures.1 (halts_rest c.in_ok-place.ensures.ok (halts_rest c.in_ok-name.ensures.ok (halts_rest c.in_ok-parent.ensures.ok c.in_err-fields.ensures.err)))
 
 pub returns-clause-ok : goal.returns-clause-ok
-returns-clause-ok c = reads_then c.in_ok-place.ensures.ok (reads_then c.in_ok-name.ensures.ok (reads_then c.in_ok-parent.ensures.ok (reads_then (reads_unkept c.in_ok-sign.ensures.ok) (reads_then (reads_as (fields_said c.new.ensures) c.in_ok-fields.ensures.ok) (reads_unkept c.in_ok-sign-2.ensures.ok)))))
+returns-clause-ok c = reads_then c.in_ok-place.ensures.ok (reads_then c.in_ok-name.ensures.ok (reads_then c.in_ok-parent.ensures.ok (reads_as (ap braced_text (fields_said c.new.ensures)) c.in_ok-fields.ensures.ok)))

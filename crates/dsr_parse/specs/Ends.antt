@@ -1,0 +1,63 @@
+-- Parts of productions that a reader's functions read.
+use Rattle.std.specs.Prelude.{ℕ, suc, [], ◌∷◌, Option, option_map}
+use Rattle.dsr_tree.specs.Trees.{expr_shape, formula_shape}
+use Rattle.dsr_tree.specs.declared.tokens.Keyword.TheVariants as keyword
+use Rattle.dsr_tree.specs.declared.tokens.Sign.TheVariants as sign
+use Rattle.dsr_tree.specs.declared.tree.Field.{Field}
+use Rattle.dsr_tree.specs.declared.tree.Formula.{Formula}
+use Rattle.dsr_tree.specs.declared.tree.Guards.{Guards}
+use Rattle.dsr_tree.specs.declared.tree.Inclusion.{Inclusion}
+use Rattle.dsr_tree.specs.declared.tree.Path.{Path}
+use Rattle.dsr_tree.specs.declared.tree.PlacedName.{PlacedName}
+use Rattle.dsr_tree.specs.declared.tree.Quantifier.{Quantifier}
+use Rattle.dsr_text.specs.Grammar.{row, maybe, word, mark, name, nesting, expr_behind, field, path, guards, inclusion, quantifier}
+use Rattle.dsr_text.specs.Phrases.{Phrase, ◌▸◌, in_turn}
+use Rattle.dsr_text.specs.Syntax.{a_word, a_mark, a_formula, a_unit, Syntax, Then, Many, The}
+use Rattle.dsr_text.specs.TreeTexts.{word as word_of, mark as mark_of, name_text, maybe_text, formula_text, behind_text, path_text, guards_text, inclusion_text, quantifier_text}
+use Rattle.dsr_parse.specs.Reading.{said_field}
+use Rattle.dsr_parse.specs.declared.reader.declarations.PoolEnd.{PoolEnd}
+
+-- the fields of a structure, in braces
+abbrev pub braced_fields : Syntax
+braced_fields = row (mark sign.OpenBrace ∷ Many field ∷ mark sign.CloseBrace ∷ [])
+
+abbrev pub braced_text : Phrase → Phrase
+braced_text fields = mark_of sign.OpenBrace ▸ fields ▸ mark_of sign.CloseBrace
+
+-- what stands behind the count of a pool
+abbrev pub pool_end : Syntax
+pool_end = row (maybe (expr_behind (a_word keyword.Slot)) ∷ expr_behind (a_word keyword.At) ∷ expr_behind (a_word keyword.Codes) ∷ expr_behind (a_word keyword.Step) ∷ expr_behind (a_word keyword.None) ∷ mark sign.Semicolon ∷ [])
+
+abbrev pub pool_end_text : PoolEnd → Phrase
+pool_end_text p = maybe_text (behind_text keyword.Slot) (option_map expr_shape p.slot) ▸ behind_text keyword.At (expr_shape p.start) ▸ behind_text keyword.Codes (expr_shape p.code) ▸ behind_text keyword.Step (expr_shape p.step) ▸ behind_text keyword.None (expr_shape p.none) ▸ mark_of sign.Semicolon
+
+-- what stands behind the index of a rule
+abbrev pub rule_end : Syntax
+rule_end = row (maybe guards ∷ mark sign.Gives ∷ inclusion ∷ mark sign.Semicolon ∷ [])
+
+abbrev pub rule_end_text : Option Guards → Inclusion → Phrase
+rule_end_text g i = maybe_text guards_text g ▸ mark_of sign.Gives ▸ inclusion_text i ▸ mark_of sign.Semicolon
+
+-- what stands behind the comma of a pair
+abbrev pub pair_end : Syntax
+pair_end = row (path ∷ mark sign.Greater ∷ word keyword.In ∷ name ∷ [])
+
+abbrev pub pair_end_text : Path → PlacedName → Phrase
+pair_end_text p relation = path_text p ▸ mark_of sign.Greater ▸ word_of keyword.In ▸ name_text relation
+
+-- what stands behind the colon of a constraint
+abbrev pub constraint_end : Syntax
+constraint_end = row (maybe quantifier ∷ The (a_formula 0) ∷ mark sign.Semicolon ∷ [])
+
+abbrev pub constraint_end_text : Option Quantifier → Formula → Phrase
+constraint_end_text q f = maybe_text quantifier_text q ▸ formula_text (formula_shape f) ▸ mark_of sign.Semicolon
+
+-- the units that open a construct
+abbrev pub not_unit : ℕ → Syntax
+not_unit depth = Then (nesting depth (a_word keyword.Not)) (The (a_unit (suc depth)))
+
+abbrev pub given_unit : ℕ → Syntax
+given_unit depth = Then (nesting depth (a_word keyword.Given)) (The (a_unit (suc depth)))
+
+abbrev pub group : ℕ → Syntax
+group depth = row (nesting depth (a_mark sign.OpenParenthesis) ∷ The (a_formula (suc depth)) ∷ mark sign.CloseParenthesis ∷ [])

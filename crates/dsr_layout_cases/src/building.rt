@@ -1,11 +1,12 @@
 // Specifications and images of the cases, and what is told of their layouts.
 ghost use Rattle.std.specs.Prelude.{◌≡◌, ◌≤◌, IfSome, IfOk, length};
-
 ghost use Rattle.dsr_meaning.specs.Legal.{IsLegalLayout};
 ghost use Rattle.dsr_meaning.specs.Placeable.{ArePlaceable, IsPlaceable};
 
 use crate::rule_tables::{ConstraintRow, RuleRow};
-use dsr_ir::{Conj, Constraint, Layout, Literal, Name, NoMemory, PoolNumbers, Rule, Seq, Spec, Structures};
+use dsr_ir::{
+    Conj, Constraint, Layout, Literal, Name, NoMemory, PoolNumbers, Rule, Seq, Spec, Structures,
+};
 use dsr_layout::{LayoutFault, layout};
 use dsr_parse::parse;
 use dsr_struct::{SpecFault, structures};

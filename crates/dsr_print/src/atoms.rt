@@ -4,9 +4,8 @@ ghost use Rattle.dsr_text.specs.TreeTexts.{var_text, bound_text, compare_text, m
 ghost use Rattle.dsr_print.specs.Writing.{Adds, pair_text};
 
 use crate::marks::{add_keyword, add_name, add_number, add_sign};
-use dsr_tree::{Atom, Bound, Compare, Measure, PlacedName, Size, Var};
 use dsr_ir::NoMemory;
-use dsr_tree::{Keyword, Sign};
+use dsr_tree::{Atom, Bound, Compare, Keyword, Measure, PlacedName, Sign, Size, Var};
 
 pub fn add_var(text: &mut Vec<u8>, var: &Var) -> Result<(), NoMemory>
     ensures { OnOk result (Adds (var_text var.now) text.old.items text.new.items) }

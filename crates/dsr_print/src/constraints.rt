@@ -6,9 +6,8 @@ ghost use Rattle.dsr_print.specs.Writing.{Adds};
 use crate::formulas::add_formula;
 use crate::lines::Declaration;
 use crate::marks::{add_keyword, add_name, add_sign, begin_line, end_line};
-use dsr_tree::{Binder, Constraint, Quantifier};
 use dsr_ir::NoMemory;
-use dsr_tree::{Keyword, Sign};
+use dsr_tree::{Binder, Constraint, Keyword, Quantifier, Sign};
 
 fn add_binder(text: &mut Vec<u8>, binder: &Binder) -> Result<(), NoMemory>
     ensures { OnOk result (Adds (binder_text binder.now) text.old.items text.new.items) }

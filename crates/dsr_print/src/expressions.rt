@@ -6,9 +6,8 @@ ghost use Rattle.dsr_text.specs.TreeTexts.{expr_text, term2_text, factor_text, m
 ghost use Rattle.dsr_print.specs.Writing.{Adds, group_text};
 
 use crate::marks::{add_name, add_number, add_sign};
-use dsr_tree::{Expr, Factor, MoreFactor, MoreTerm, ProductSign, SumSign, Term2};
 use dsr_ir::NoMemory;
-use dsr_tree::Sign;
+use dsr_tree::{Expr, Factor, MoreFactor, MoreTerm, ProductSign, Sign, SumSign, Term2};
 
 fn add_sum_sign(text: &mut Vec<u8>, sum: SumSign) -> Result<(), NoMemory>
     ensures { OnOk result (Adds (sum_text sum) text.old.items text.new.items) }

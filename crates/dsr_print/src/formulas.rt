@@ -7,9 +7,8 @@ ghost use Rattle.dsr_print.specs.Writing.{Adds, behind_or, behind_and, not_text,
 
 use crate::atoms::add_atom;
 use crate::marks::{add_keyword, add_sign};
-use dsr_tree::{Formula, Join, Unit};
 use dsr_ir::NoMemory;
-use dsr_tree::{Keyword, Sign};
+use dsr_tree::{Formula, Join, Keyword, Sign, Unit};
 
 #[cycle(formula)]
 pub fn add_formula(text: &mut Vec<u8>, formula: &Formula) -> Result<(), NoMemory>

@@ -20,9 +20,8 @@ ghost use Rattle.dsr_print.specs.Writing.{Adds, AddsLine};
 
 use crate::lines::add_lines;
 use crate::marks::{add_keyword, add_number, add_sign, begin_line, end_line};
-use dsr_tree::Tree;
 use dsr_ir::{NoMemory, Order};
-use dsr_tree::{Keyword, Sign};
+use dsr_tree::{Keyword, Sign, Tree};
 use std::alloc::Global;
 
 fn add_version(text: &mut Vec<u8>, tree: &Tree) -> Result<(), NoMemory>

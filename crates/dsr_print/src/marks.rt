@@ -4,10 +4,9 @@ ghost use Rattle.dsr_tree.specs.declared.tokens.Token.TheVariants as token;
 ghost use Rattle.dsr_text.specs.TreeTexts.{word, mark, name_text, number_text};
 ghost use Rattle.dsr_print.specs.Writing.{Adds, Begins, Ends};
 
-use dsr_tree::{PlacedName, PlacedNumber};
 use dsr_ir::NoMemory;
-use dsr_tree::{Keyword, Sign};
 use dsr_tokens::{keyword_bytes, sign_bytes};
+use dsr_tree::{Keyword, PlacedName, PlacedNumber, Sign};
 use itoa::Buffer;
 
 // The keyword that begins a line.

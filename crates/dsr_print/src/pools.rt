@@ -11,9 +11,8 @@ use crate::expressions::add_expr;
 use crate::lines::Declaration;
 use crate::marks::{add_keyword, add_name, add_sign, begin_line, end_line};
 use crate::structures::add_brackets;
-use dsr_tree::{Expr, Fresh, PlacedName, Pool, Relation, Set, Target, View};
 use dsr_ir::NoMemory;
-use dsr_tree::{Keyword, Sign};
+use dsr_tree::{Expr, Fresh, Keyword, PlacedName, Pool, Relation, Set, Sign, Target, View};
 
 // An expression behind a keyword.
 fn add_behind(text: &mut Vec<u8>, keyword: Keyword, expr: &Expr) -> Result<(), NoMemory>

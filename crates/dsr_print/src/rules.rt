@@ -7,12 +7,11 @@ ghost use Rattle.dsr_print.specs.Writing.{Adds};
 use crate::atoms::{add_compare, add_var};
 use crate::lines::Declaration;
 use crate::marks::{add_keyword, add_name, add_number, add_sign, begin_line, end_line};
-use dsr_tree::{
-    Guard, Guards, Inclusion, Index, Member, MemberPart, Path, PlacedName, Premise, RefTest, Rule,
-    Span, Term,
-};
 use dsr_ir::NoMemory;
-use dsr_tree::{Keyword, Sign};
+use dsr_tree::{
+    Guard, Guards, Inclusion, Index, Keyword, Member, MemberPart, Path, PlacedName, Premise,
+    RefTest, Rule, Sign, Span, Term,
+};
 
 fn add_some_index(text: &mut Vec<u8>, index: &PlacedName) -> Result<(), NoMemory>
     ensures { OnOk result (Adds (index_text index.now) text.old.items text.new.items) }

@@ -8,9 +8,8 @@ ghost use Rattle.dsr_print.specs.Writing.{Adds, skipped_text};
 use crate::expressions::add_expr;
 use crate::lines::Declaration;
 use crate::marks::{add_keyword, add_name, add_number, add_sign, begin_line, end_line};
-use dsr_tree::{Content, Expr, Field, NamedField, PlacedName, Structure, Width};
 use dsr_ir::NoMemory;
-use dsr_tree::{Keyword, Sign};
+use dsr_tree::{Content, Expr, Field, Keyword, NamedField, PlacedName, Sign, Structure, Width};
 
 fn add_width(text: &mut Vec<u8>, width: Width) -> Result<(), NoMemory>
     ensures { OnOk result (Adds (width_text width) text.old.items text.new.items) }

@@ -1,11 +1,12 @@
 // Specifications and images of the cases, and what is told of their layouts.
-ghost use Rattle.std.specs.Prelude.{◌≡◌, ◌≤◌, IfSome, IfOk, length};
-
+ghost use Rattle.std.specs.Prelude.{IfSome, IfOk};
 ghost use Rattle.dsr_meaning.specs.Legal.{IsLegalLayout};
 ghost use Rattle.dsr_meaning.specs.Placeable.{ArePlaceable, IsPlaceable};
 
 use crate::rule_tables::{ConstraintRow, RuleRow};
-use dsr_ir::{Conj, Constraint, Layout, Literal, Name, NoMemory, PoolNumbers, Rule, Seq, Spec, Structures};
+use dsr_ir::{
+    Conj, Constraint, Layout, Literal, Name, NoMemory, PoolNumbers, Rule, Seq, Spec, Structures,
+};
 use dsr_layout::{LayoutFault, layout};
 use dsr_parse::parse;
 use dsr_struct::{SpecFault, structures};
@@ -58,9 +59,9 @@ fn constraints_of(alloc: Global, rows: &[ConstraintRow]) -> Result<Vec<Constrain
     Ok(constraints)
 }
 
-// The typed tables of a text without rules and constraints; none where it has a fault.
+// The tables of a text without rules and constraints; none where it has a fault.
 fn base_of(alloc: Global, text: &str) -> Result<Option<Structures>, Fail>
-    ensures { IfOk result (λ base. IfSome base (λ b. ArePlaceable b)) }
+    ensures { IfOk result (λ base. IfSome base ArePlaceable) }
 {
     let tree = parse(alloc, text.as_bytes())?;
     match structures(alloc, &tree) {
@@ -71,7 +72,7 @@ fn base_of(alloc: Global, text: &str) -> Result<Option<Structures>, Fail>
 }
 
 // The specification of these parts, where its rules and constraints are few.
-fn typed(base: Structures, rules: Vec<Rule>, constraints: Vec<Constraint>) -> Option<Spec>
+fn spec_with(base: Structures, rules: Vec<Rule>, constraints: Vec<Constraint>) -> Option<Spec>
     requires { ArePlaceable base }
     ensures { IfSome result IsPlaceable }
 {
@@ -99,7 +100,7 @@ pub fn spec_of(
     };
     let rules = rules_of(alloc, rules)?;
     let constraints = constraints_of(alloc, constraints)?;
-    Ok(typed(base, rules, constraints))
+    Ok(spec_with(base, rules, constraints))
 }
 
 /// The image of some bytes and so many of 0 behind them.
@@ -152,7 +153,7 @@ fn layout_text(alloc: Global, layout: &Layout) -> Result<String, Fail> {
 
 /// What is told of a specification on an image, or the numbers of the pools there.
 pub fn told_of(alloc: Global, spec: &Spec, bytes: &[u8]) -> Result<String, Fail>
-    requires typed { IsPlaceable spec.now }
+    requires placeable { IsPlaceable spec.now }
 {
     if bytes.len() > 67_108_864 {
         return Ok(format!(in alloc; "large")?);

@@ -47,11 +47,11 @@ item_below xs i lt = elim (slice_get_cases xs i).1 [
 
 -- the count of a pool's numbers is the one that was computed
 numbers_count : (count slot start code step none : Option ℕ) (n : PoolNumbers) → option_and_then (λ count. option_and_then (λ slot. option_and_then (λ start. option_and_then (λ code. option_and_then (λ step. option_map (λ none. record { start = start; slot = slot; count = count; code = code; step = step; none = none }) none) step) code) start) slot) count ≡ Some n → count ≡ Some n.count
-numbers_count None slot start code step none n is = absurd cc
-numbers_count (Some c) None start code step none n is = absurd cc
-numbers_count (Some c) (Some l) None code step none n is = absurd cc
-numbers_count (Some c) (Some l) (Some s) None step none n is = absurd cc
-numbers_count (Some c) (Some l) (Some s) (Some k) None none n is = absurd cc
+numbers_count None slot start code step nothing n is = absurd cc
+numbers_count (Some c) None start code step nothing n is = absurd cc
+numbers_count (Some c) (Some l) None code step nothing n is = absurd cc
+numbers_count (Some c) (Some l) (Some s) None step nothing n is = absurd cc
+numbers_count (Some c) (Some l) (Some s) (Some k) None nothing n is = absurd cc
 numbers_count (Some c) (Some l) (Some s) (Some k) (Some t) None n is = absurd cc
 numbers_count (Some c) (Some l) (Some s) (Some k) (Some t) (Some o) n is =
     let made : ◌≡◌ {A = PoolNumbers} (record { start = s; slot = l; count = c; code = k; step = t; none = o }) n = cc in

@@ -1,5 +1,5 @@
 // Specifications and images of the cases, and what is told of their layouts.
-ghost use Rattle.std.specs.Prelude.{◌≡◌, ◌≤◌, IfSome, IfOk, length};
+ghost use Rattle.std.specs.Prelude.{IfSome, IfOk};
 ghost use Rattle.dsr_meaning.specs.Legal.{IsLegalLayout};
 ghost use Rattle.dsr_meaning.specs.Placeable.{ArePlaceable, IsPlaceable};
 
@@ -59,9 +59,9 @@ fn constraints_of(alloc: Global, rows: &[ConstraintRow]) -> Result<Vec<Constrain
     Ok(constraints)
 }
 
-// The typed tables of a text without rules and constraints; none where it has a fault.
-fn base_of(alloc: Global, text: &str) -> Result<Option<Structures>, Fail>
-    ensures { IfOk result (λ base. IfSome base (λ b. ArePlaceable b)) }
+// The tables of a text without rules and constraints; none where it has a fault.
+fn declared(alloc: Global, text: &str) -> Result<Option<Structures>, Fail>
+    ensures { IfOk result (λ base. IfSome base ArePlaceable) }
 {
     let tree = parse(alloc, text.as_bytes())?;
     match structures(alloc, &tree) {
@@ -72,7 +72,7 @@ fn base_of(alloc: Global, text: &str) -> Result<Option<Structures>, Fail>
 }
 
 // The specification of these parts, where its rules and constraints are few.
-fn typed(base: Structures, rules: Vec<Rule>, constraints: Vec<Constraint>) -> Option<Spec>
+fn spec_with(base: Structures, rules: Vec<Rule>, constraints: Vec<Constraint>) -> Option<Spec>
     requires { ArePlaceable base }
     ensures { IfSome result IsPlaceable }
 {
@@ -95,12 +95,12 @@ pub fn spec_of(
 ) -> Result<Option<Spec>, Fail>
     ensures { IfOk result (λ spec. IfSome spec IsPlaceable) }
 {
-    let Some(base) = base_of(alloc, text)? else {
+    let Some(base) = declared(alloc, text)? else {
         return Ok(None);
     };
     let rules = rules_of(alloc, rules)?;
     let constraints = constraints_of(alloc, constraints)?;
-    Ok(typed(base, rules, constraints))
+    Ok(spec_with(base, rules, constraints))
 }
 
 /// The image of some bytes and so many of 0 behind them.
@@ -153,7 +153,7 @@ fn layout_text(alloc: Global, layout: &Layout) -> Result<String, Fail> {
 
 /// What is told of a specification on an image, or the numbers of the pools there.
 pub fn told_of(alloc: Global, spec: &Spec, bytes: &[u8]) -> Result<String, Fail>
-    requires typed { IsPlaceable spec.now }
+    requires placeable { IsPlaceable spec.now }
 {
     if bytes.len() > 67_108_864 {
         return Ok(format!(in alloc; "large")?);

@@ -102,13 +102,13 @@ fn told(alloc: Global, layout: &Layout, image: &Whole, row: &Row) -> Result<Stri
 }
 
 // The first row of which something else is told, with that; nothing where there is none.
-fn first_wrong(alloc: Global, layout: &Layout, image: &Whole, rows: &[Row]) -> Result<String, Fail>
+fn first_wrong(alloc: Global, layout: &Layout, image: &Whole, table: &Table) -> Result<String, Fail>
     requires legal { IsLegalLayout layout.now }
 {
-    for (number, row) in rows.iter().enumerate() {
+    for (number, row) in table.rows.iter().enumerate() {
         let found = told(alloc, layout, image, row)?;
         if found.as_str() != row.3 {
-            return Ok(format!(in alloc; "row {number} gives {found}")?);
+            return Ok(format!(in alloc; "{} row {number} gives {found}", table.text)?);
         }
     }
     Ok(String::new(alloc))
@@ -119,26 +119,15 @@ fn wrong(alloc: Global, table: &Table) -> Result<String, Fail> {
         return Ok(format!(in alloc; "no layout")?);
     };
     let image = Whole::new(Vec::from_slice(alloc, table.image)?);
-    first_wrong(alloc, &layout, &image, table.rows)
+    first_wrong(alloc, &layout, &image, table)
 }
 
-#[test]
-fn cells_of_nodes(rt: HostRuntime) -> Result<(), Fail> {
-    assert_eq!(rt; wrong(rt.alloc(), &NODES)?.as_str(), "");
-    assert_eq!(rt; wrong(rt.alloc(), &SMALL_NODES)?.as_str(), "");
-    Ok(())
-}
+const TABLES: [&Table; 6] = [&NODES, &SMALL_NODES, &RECORDS, &BIG_RECORDS, &PARTS, &HEADS];
 
 #[test]
-fn cells_of_records(rt: HostRuntime) -> Result<(), Fail> {
-    assert_eq!(rt; wrong(rt.alloc(), &RECORDS)?.as_str(), "");
-    assert_eq!(rt; wrong(rt.alloc(), &BIG_RECORDS)?.as_str(), "");
-    Ok(())
-}
-
-#[test]
-fn cells_of_parts(rt: HostRuntime) -> Result<(), Fail> {
-    assert_eq!(rt; wrong(rt.alloc(), &PARTS)?.as_str(), "");
-    assert_eq!(rt; wrong(rt.alloc(), &HEADS)?.as_str(), "");
+fn cells_and_their_values(rt: HostRuntime) -> Result<(), Fail> {
+    for table in &TABLES {
+        assert_eq!(rt; wrong(rt.alloc(), table)?.as_str(), "");
+    }
     Ok(())
 }

@@ -27,79 +27,36 @@ fn first_wrong(alloc: Global, start: &str, rows: &[Row]) -> Result<String, Fail>
     Ok(String::new(alloc))
 }
 
-fn wrong(alloc: Global, rows: &[Row]) -> Result<String, Fail> {
-    first_wrong(alloc, "version 1;order little;", rows)
-}
+const PLAIN: &str = "version 1;order little;";
+
+const EXAMPLE: &str = "version 1;order little;structure Head{fixed u8 n;}structure R{u8 a;}";
+
+// The tables, and what stands before the declarations of their rows. A test goes over all of them, since
+// each use of a table in a test is proved anew.
+const TABLES: [(&str, &[Row]); 17] = [
+    ("", &WHOLE),
+    (EXAMPLE, &EXAMPLES),
+    (PLAIN, &SHORT),
+    (PLAIN, &ARITH),
+    (PLAIN, &ARITH_ENDS),
+    (PLAIN, &ARITH_CODES),
+    (PLAIN, &ENDS),
+    (PLAIN, &NUMBERS),
+    (PLAIN, &OUTSIDE),
+    (PLAIN, &OVERLAP),
+    (PLAIN, &SUBTYPE),
+    (PLAIN, &SUBTYPE_ORDER),
+    (PLAIN, &ZERO),
+    (PLAIN, &NONE),
+    (PLAIN, &CODE),
+    (PLAIN, &CODE_WIDTHS),
+    (PLAIN, &CODE_ORDER),
+];
 
 #[test]
-fn whole_texts(rt: HostRuntime) -> Result<(), Fail> {
-    assert_eq!(rt; first_wrong(rt.alloc(), "", &WHOLE)?.as_str(), "");
-    Ok(())
-}
-
-#[test]
-fn examples_for_users(rt: HostRuntime) -> Result<(), Fail> {
-    let start = "version 1;order little;structure Head{fixed u8 n;}structure R{u8 a;}";
-    assert_eq!(rt; first_wrong(rt.alloc(), start, &EXAMPLES)?.as_str(), "");
-    Ok(())
-}
-
-#[test]
-fn images_are_not_short(rt: HostRuntime) -> Result<(), Fail> {
-    assert_eq!(rt; wrong(rt.alloc(), &SHORT)?.as_str(), "");
-    Ok(())
-}
-
-#[test]
-fn expressions_have_values(rt: HostRuntime) -> Result<(), Fail> {
-    assert_eq!(rt; wrong(rt.alloc(), &ARITH)?.as_str(), "");
-    Ok(())
-}
-
-#[test]
-fn sizes_and_ends_have_values(rt: HostRuntime) -> Result<(), Fail> {
-    assert_eq!(rt; wrong(rt.alloc(), &ARITH_ENDS)?.as_str(), "");
-    assert_eq!(rt; wrong(rt.alloc(), &ARITH_CODES)?.as_str(), "");
-    Ok(())
-}
-
-#[test]
-fn numbers_go_up_to_64_bits(rt: HostRuntime) -> Result<(), Fail> {
-    assert_eq!(rt; wrong(rt.alloc(), &ENDS)?.as_str(), "");
-    assert_eq!(rt; wrong(rt.alloc(), &NUMBERS)?.as_str(), "");
-    Ok(())
-}
-
-#[test]
-fn pools_lie_in_the_image(rt: HostRuntime) -> Result<(), Fail> {
-    assert_eq!(rt; wrong(rt.alloc(), &OUTSIDE)?.as_str(), "");
-    Ok(())
-}
-
-#[test]
-fn pools_lie_apart(rt: HostRuntime) -> Result<(), Fail> {
-    assert_eq!(rt; wrong(rt.alloc(), &OVERLAP)?.as_str(), "");
-    Ok(())
-}
-
-#[test]
-fn slots_hold_their_structures(rt: HostRuntime) -> Result<(), Fail> {
-    assert_eq!(rt; wrong(rt.alloc(), &SUBTYPE)?.as_str(), "");
-    assert_eq!(rt; wrong(rt.alloc(), &SUBTYPE_ORDER)?.as_str(), "");
-    assert_eq!(rt; wrong(rt.alloc(), &ZERO)?.as_str(), "");
-    Ok(())
-}
-
-#[test]
-fn codes_are_told_apart(rt: HostRuntime) -> Result<(), Fail> {
-    assert_eq!(rt; wrong(rt.alloc(), &NONE)?.as_str(), "");
-    Ok(())
-}
-
-#[test]
-fn codes_fit_their_fields(rt: HostRuntime) -> Result<(), Fail> {
-    assert_eq!(rt; wrong(rt.alloc(), &CODE)?.as_str(), "");
-    assert_eq!(rt; wrong(rt.alloc(), &CODE_WIDTHS)?.as_str(), "");
-    assert_eq!(rt; wrong(rt.alloc(), &CODE_ORDER)?.as_str(), "");
+fn what_is_told_of_declarations(rt: HostRuntime) -> Result<(), Fail> {
+    for (start, rows) in &TABLES {
+        assert_eq!(rt; first_wrong(rt.alloc(), start, rows)?.as_str(), "");
+    }
     Ok(())
 }

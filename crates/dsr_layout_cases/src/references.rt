@@ -5,7 +5,7 @@ ghost use Rattle.dsr_ir.specs.Layouts.{pool_numbers};
 ghost use Rattle.dsr_meaning.specs.Legal.{IsLegalLayout};
 
 use crate::building::plain_layout;
-use crate::cell_tables::{CodeRow, NODE_CODES, POOL_CODES, RefRow, References};
+use crate::cell_tables::{NODE_CODES, POOL_CODES, References};
 use dsr_ir::Layout;
 use dsr_layout::{Ref, code_of, slot_of};
 use std::alloc::Global;
@@ -58,25 +58,25 @@ fn code_told(alloc: Global, layout: &Layout, pool: u32, slot: u32) -> Result<Str
 }
 
 // The first row of which something else is told, with that; nothing where there is none.
-fn first_wrong_ref(alloc: Global, layout: &Layout, rows: &[RefRow]) -> Result<String, Fail>
+fn first_wrong_ref(alloc: Global, layout: &Layout, table: &References) -> Result<String, Fail>
     requires legal { IsLegalLayout layout.now }
 {
-    for (number, row) in rows.iter().enumerate() {
+    for (number, row) in table.refs.iter().enumerate() {
         let found = ref_told(alloc, layout, row.0, row.1)?;
         if found.as_str() != row.2 {
-            return Ok(format!(in alloc; "reference {number} gives {found}")?);
+            return Ok(format!(in alloc; "{} reference {number} gives {found}", table.text)?);
         }
     }
     Ok(String::new(alloc))
 }
 
-fn first_wrong_code(alloc: Global, layout: &Layout, rows: &[CodeRow]) -> Result<String, Fail>
+fn first_wrong_code(alloc: Global, layout: &Layout, table: &References) -> Result<String, Fail>
     requires legal { IsLegalLayout layout.now }
 {
-    for (number, row) in rows.iter().enumerate() {
+    for (number, row) in table.codes.iter().enumerate() {
         let found = code_told(alloc, layout, row.0, row.1)?;
         if found.as_str() != row.2 {
-            return Ok(format!(in alloc; "code {number} gives {found}")?);
+            return Ok(format!(in alloc; "{} code {number} gives {found}", table.text)?);
         }
     }
     Ok(String::new(alloc))
@@ -84,28 +84,25 @@ fn first_wrong_code(alloc: Global, layout: &Layout, rows: &[CodeRow]) -> Result<
 
 fn wrong_refs(alloc: Global, table: &References) -> Result<String, Fail> {
     match plain_layout(alloc, table.text, table.image)? {
-        Some(layout) => first_wrong_ref(alloc, &layout, table.refs),
+        Some(layout) => first_wrong_ref(alloc, &layout, table),
         None => Ok(format!(in alloc; "no layout")?),
     }
 }
 
 fn wrong_codes(alloc: Global, table: &References) -> Result<String, Fail> {
     match plain_layout(alloc, table.text, table.image)? {
-        Some(layout) => first_wrong_code(alloc, &layout, table.codes),
+        Some(layout) => first_wrong_code(alloc, &layout, table),
         None => Ok(format!(in alloc; "no layout")?),
     }
 }
 
-#[test]
-fn values_of_references(rt: HostRuntime) -> Result<(), Fail> {
-    assert_eq!(rt; wrong_refs(rt.alloc(), &NODE_CODES)?.as_str(), "");
-    assert_eq!(rt; wrong_refs(rt.alloc(), &POOL_CODES)?.as_str(), "");
-    Ok(())
-}
+const TABLES: [&References; 2] = [&NODE_CODES, &POOL_CODES];
 
 #[test]
-fn codes_of_slots(rt: HostRuntime) -> Result<(), Fail> {
-    assert_eq!(rt; wrong_codes(rt.alloc(), &NODE_CODES)?.as_str(), "");
-    assert_eq!(rt; wrong_codes(rt.alloc(), &POOL_CODES)?.as_str(), "");
+fn values_and_codes(rt: HostRuntime) -> Result<(), Fail> {
+    for table in &TABLES {
+        assert_eq!(rt; wrong_refs(rt.alloc(), table)?.as_str(), "");
+        assert_eq!(rt; wrong_codes(rt.alloc(), table)?.as_str(), "");
+    }
     Ok(())
 }

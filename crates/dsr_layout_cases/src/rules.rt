@@ -21,48 +21,34 @@ fn first_wrong(alloc: Global, table: &Table) -> Result<String, Fail> {
     for (number, row) in table.rows.iter().enumerate() {
         let found = told(alloc, table.text, &image, row)?;
         if found.as_str() != row.2 {
-            return Ok(format!(in alloc; "row {number} gives {found}")?);
+            return Ok(format!(in alloc; "{} row {number} gives {found}", table.text)?);
         }
     }
     Ok(String::new(alloc))
 }
 
+const TABLES: [&Table; 12] = [
+    &SIZES,
+    &COMPARISONS,
+    &PLACES,
+    &CODE_FIRST,
+    &COUNT_FIRST,
+    &RULES,
+    &LONG_ARRAYS,
+    &NO_INDEX,
+    &NO_RECORDS,
+    &QUANTIFIERS,
+    &SECOND,
+    &FIRST,
+];
+
 #[test]
-fn counts_of_lists(rt: HostRuntime) -> Result<(), Fail> {
+fn what_is_told_of_rules(rt: HostRuntime) -> Result<(), Fail> {
     for table in &LISTS {
         assert_eq!(rt; first_wrong(rt.alloc(), table)?.as_str(), "");
     }
-    Ok(())
-}
-
-#[test]
-fn sizes_fit_values(rt: HostRuntime) -> Result<(), Fail> {
-    assert_eq!(rt; first_wrong(rt.alloc(), &SIZES)?.as_str(), "");
-    assert_eq!(rt; first_wrong(rt.alloc(), &COMPARISONS)?.as_str(), "");
-    assert_eq!(rt; first_wrong(rt.alloc(), &PLACES)?.as_str(), "");
-    Ok(())
-}
-
-#[test]
-fn the_lesser_kind_is_told(rt: HostRuntime) -> Result<(), Fail> {
-    assert_eq!(rt; first_wrong(rt.alloc(), &CODE_FIRST)?.as_str(), "");
-    assert_eq!(rt; first_wrong(rt.alloc(), &COUNT_FIRST)?.as_str(), "");
-    Ok(())
-}
-
-#[test]
-fn instances_of_rules(rt: HostRuntime) -> Result<(), Fail> {
-    assert_eq!(rt; first_wrong(rt.alloc(), &RULES)?.as_str(), "");
-    assert_eq!(rt; first_wrong(rt.alloc(), &LONG_ARRAYS)?.as_str(), "");
-    assert_eq!(rt; first_wrong(rt.alloc(), &NO_INDEX)?.as_str(), "");
-    assert_eq!(rt; first_wrong(rt.alloc(), &NO_RECORDS)?.as_str(), "");
-    Ok(())
-}
-
-#[test]
-fn instances_of_constraints(rt: HostRuntime) -> Result<(), Fail> {
-    assert_eq!(rt; first_wrong(rt.alloc(), &QUANTIFIERS)?.as_str(), "");
-    assert_eq!(rt; first_wrong(rt.alloc(), &SECOND)?.as_str(), "");
-    assert_eq!(rt; first_wrong(rt.alloc(), &FIRST)?.as_str(), "");
+    for table in &TABLES {
+        assert_eq!(rt; first_wrong(rt.alloc(), table)?.as_str(), "");
+    }
     Ok(())
 }

@@ -10,7 +10,7 @@ use Rattle.dsr_tree.specs.declared.tree.View.{View}
 use Rattle.dsr_tree.specs.declared.tree.View.TheVariants as views
 use Rattle.dsr_text.specs.Bare.{bare_name, bare_expr, bare_pool, bare_view, bare_set, bare_target, bare_relation, bare_fresh}
 use Rattle.dsr_text.specs.TreeTexts.{maybe_text, expr_text, brackets_text, behind_text, pool_text, view_text, set_text, target_text, relation_text, more_name_text, fresh_text}
-use Rattle.dsr_print.proofs.After.{after, begins, Once, OnceBefore, maybe_once, maybe_once_open, in_turn_once, either, not_first, rest}
+use Rattle.dsr_print.proofs.After.{after, begins, Once, OnceBefore, maybe_once, maybe_once_open, in_turn_once, either, not_first, rest, past_four}
 use Rattle.dsr_print.proofs.OnceAtoms.{var_once}
 use Rattle.dsr_print.proofs.OnceExprs.{name_once, is_operator, expr_once, expr_then}
 use Rattle.dsr_print.proofs.OnceStructures.{brackets_once}
@@ -37,10 +37,6 @@ from_start p r = after (expr_text p.start) (token.Keyword keyword.Codes ∷ from
 
 abbrev from_count : PoolTree → List Token → List Token
 from_count p r = after (brackets_text p.count) (after (maybe_text (behind_text keyword.Slot) p.slot) (token.Keyword keyword.At ∷ from_start p r))
-
--- what follows four tokens
-past_four : {a b c d x y z w : Token} (r s : List Token) → a ∷ b ∷ c ∷ d ∷ r ≡ x ∷ y ∷ z ∷ w ∷ s → r ≡ s
-past_four r s e = cc
 
 pub pool_once : Once pool_text bare_pool
 pool_once a b r s e =

@@ -73,3 +73,7 @@ behind (t ∷ ts) = ts
 
 pub rest : {t u : Token} {r s : List Token} → t ∷ r ≡ u ∷ s → r ≡ s
 rest e = ap behind e
+
+-- what follows four tokens
+pub past_four : {a b c d x y z w : Token} (r s : List Token) → a ∷ b ∷ c ∷ d ∷ r ≡ x ∷ y ∷ z ∷ w ∷ s → r ≡ s
+past_four r s e = cc

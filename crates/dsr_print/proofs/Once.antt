@@ -14,7 +14,7 @@ use Rattle.dsr_tree.specs.declared.tree.Var.TheVariants as vars
 use Rattle.dsr_text.specs.Bare.{bare_structure, bare_pool, bare_set, bare_relation, bare_fresh, bare_rule, bare_binder, bare_quantifier, bare_constraint, bare_tree}
 use Rattle.dsr_text.specs.Phrases.{tokens_of, in_turn}
 use Rattle.dsr_text.specs.TreeTexts.{var_text, atom_text, unit_text, formula_text, structure_text, pool_text, set_text, relation_text, fresh_text, rule_text, binder_text, quantifier_text, constraint_text, endian_text, tree_text}
-use Rattle.dsr_print.proofs.After.{after, spoken, begins, Once, maybe_once, past, in_turn_once, rest}
+use Rattle.dsr_print.proofs.After.{after, spoken, begins, Once, maybe_once, past, in_turn_once, rest, past_four}
 use Rattle.dsr_print.proofs.OnceExprs.{name_once}
 use Rattle.dsr_print.proofs.OnceFormulas.{formula_once}
 use Rattle.dsr_print.proofs.OncePools.{pool_once, set_once, relation_once, fresh_once}
@@ -141,10 +141,13 @@ no_pool t = past set_text is_pool (λ z r. refl) t.sets _ (past relation_text is
 no_structure : (t : TreeShape) → begins is_structure (from_pools t) ≡ false
 no_structure t = past pool_text is_structure (λ z r. refl) t.pools _ (past set_text is_structure (λ z r. refl) t.sets _ (past relation_text is_structure (λ z r. refl) t.relations _ (past fresh_text is_structure (λ z r. refl) t.supplies _ (past rule_text is_structure (λ z r. refl) t.rules _ (past constraint_text is_structure (λ z r. refl) t.constraints _ refl)))))
 
+abbrev from_order : TreeShape → List Token
+from_order t = after (endian_text t.order) (token.Sign sign.Semicolon ∷ after (in_turn structure_text t.structures) (from_pools t))
+
 after_once : (t u : TreeShape) → after (tree_text t) [] ≡ after (tree_text u) [] → bare_tree t ≡ bare_tree u
 after_once t u e =
     let n : t.version.number ≡ u.version.number = cc in
-    let o = endian_once t.order u.order _ _ (rest (rest (rest (rest e)))) in
+    let o = endian_once t.order u.order _ _ (past_four (from_order t) (from_order u) e) in
     let a = in_turn_once structure_text bare_structure is_structure structure_once (λ z r. refl) t.structures u.structures (from_pools t) (from_pools u) (no_structure t) (no_structure u) (rest o.1) in
     let b = in_turn_once pool_text bare_pool is_pool pool_once (λ z r. refl) t.pools u.pools (from_sets t) (from_sets u) (no_pool t) (no_pool u) a.1 in
     let c = in_turn_once set_text bare_set is_set set_once (λ z r. refl) t.sets u.sets (from_relations t) (from_relations u) (no_set t) (no_set u) b.1 in

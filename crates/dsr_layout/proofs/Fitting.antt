@@ -16,13 +16,13 @@ use Rattle.dsr_ir.specs.declared.layouts.PoolNumbers.{PoolNumbers}
 use Rattle.dsr_meaning.proofs.Empty.{both_empty, second_empty, third_empty, fourth_empty}
 use Rattle.dsr_meaning.specs.Cells.{width_bits}
 use Rattle.dsr_meaning.specs.Lists.{each_at}
-use Rattle.dsr_meaning.specs.Instances.{kind_pool}
+use Rattle.dsr_meaning.specs.Instances.{kind_pool, declared_field}
 use Rattle.dsr_meaning.specs.FixedFields.{head_fields, fixed_cell, fixed_value}
 use Rattle.dsr_meaning.specs.Layouts.{bytes_of, last_code, pool_of, layout_with, layout_of}
 use Rattle.dsr_meaning.specs.Legal.{IsByteOf}
 use Rattle.dsr_meaning.specs.Places.{lineage, size_of}
 use Rattle.dsr_meaning.specs.References.{IsNoneOf}
-use Rattle.dsr_meaning.specs.Typed.{declared_field, pool_at}
+use Rattle.dsr_meaning.specs.Typed.{pool_at}
 use Rattle.dsr_layout.specs.Laws.{IsByteOfHead}
 use Rattle.dsr_meaning.specs.Refusals.{Arith, CodeTooWide, fits, codes_fit, reference_refusals, refused_when, Short, Subtype, ends_behind, cut_refusals, head_range, head_refusals, size_refusals, value_refusals, is_larger, view_refusals, set_refusals, outside_refusals, overlap_refusals, subtype_refusals, zero_refusals, none_refusals, code_refusals, count_refusals, instance_refusals, layout_refusals, refusals}
 use Rattle.dsr_layout.proofs.Collecting.{IsOf, collected_item}

@@ -19,10 +19,10 @@ use Rattle.dsr_meaning.specs.Cells.{width_bits}
 use Rattle.dsr_meaning.specs.Expressions.{value_of}
 use Rattle.dsr_meaning.specs.Extents.{bit_behind}
 use Rattle.dsr_meaning.specs.FixedFields.{fixed_value}
-use Rattle.dsr_meaning.specs.Instances.{record_count, index_count}
+use Rattle.dsr_meaning.specs.Instances.{record_count, index_count, declared_field}
 use Rattle.dsr_meaning.specs.Layouts.{slot_bytes, pool_of, layout_of}
 use Rattle.dsr_meaning.specs.Places.{lineage, entries_of, placed, end_of, size_of, own_places}
-use Rattle.dsr_meaning.specs.Typed.{IsPoolNumber, CountsSlots, declared_field, pool_at, span_length}
+use Rattle.dsr_meaning.specs.Typed.{IsPoolNumber, CountsSlots, pool_at, span_length}
 use Rattle.dsr_layout.proofs.Collecting.{collected_item}
 use Rattle.dsr_layout.proofs.Fitting.{pool_found, field_found}
 use Rattle.dsr_layout.proofs.LegalLayout.{built, as_many}

@@ -23,13 +23,13 @@ use Rattle.dsr_layout.specs.Kinds.{kind_of}
 use Rattle.dsr_meaning.specs.Cells.{width_bits}
 use Rattle.dsr_meaning.specs.Counting.{IsIn}
 use Rattle.dsr_meaning.specs.FixedFields.{fixed_value}
-use Rattle.dsr_meaning.specs.Instances.{kind_pool}
+use Rattle.dsr_meaning.specs.Instances.{kind_pool, declared_field}
 use Rattle.dsr_meaning.specs.Layouts.{bytes_of}
 use Rattle.dsr_meaning.specs.Legal.{IsByteOf, entry_count}
 use Rattle.dsr_meaning.specs.Places.{size_of}
 use Rattle.dsr_meaning.specs.References.{IsCodeOf, IsNoneOf}
 use Rattle.dsr_meaning.specs.Refusals.{ByteRange, Refusal, IsLayoutOf, greatest_size, given_path, reaches_bound, first_of}
-use Rattle.dsr_meaning.specs.Typed.{HasAtom, declared_field, pool_at}
+use Rattle.dsr_meaning.specs.Typed.{HasAtom, pool_at}
 
 -- what holds wherever an image has a layout under a specification
 abbrev pub OfEachLayout : (Spec → List ℕ → Layout → Type 0) → Type 0

@@ -43,7 +43,7 @@ use Rattle.dsr_ir.specs.declared.updates.Symbol.TheVariants as symbols
 use Rattle.dsr_meaning.specs.Cells.{width_bits}
 use Rattle.dsr_meaning.specs.Counting.{IsIn, AreMany}
 use Rattle.dsr_meaning.specs.FixedFields.{head_fields, is_fixed}
-use Rattle.dsr_meaning.specs.Instances.{kind_pool}
+use Rattle.dsr_meaning.specs.Instances.{kind_pool, declared_field, pool_of_premise}
 use Rattle.dsr_meaning.specs.Placeable.{IsLegalWidth, AreAligned}
 
 -- ---- numbers of tables
@@ -191,16 +191,9 @@ pub record AreTyped (base : Structures) : Type 0 where
 
 -- ---- rules
 
--- the structure by which the premise's record is read, and its pool
+-- the structure by which the premise's record is read
 abbrev pub premise_structure : Structures → Option ℕ → ℕ
 premise_structure base premise = option_map_or (λ n. option_map_or (λ s. s.structure) (slice_get base.sets n) base.head) premise base.head
-
-abbrev pub pool_of_premise : Structures → Option ℕ → ℕ
-pool_of_premise base premise = option_map_or (λ n. option_map_or (λ s. s.pool) (slice_get base.sets n) 0) premise 0
-
--- the field that is declared at a place
-abbrev pub declared_field : Structures → FieldRef → Option Field
-declared_field base place = option_and_then (λ s. slice_get s.fields place.field) (slice_get base.structures place.structure)
 
 -- a field of the premise's record
 pub record IsFieldOf (base : Structures) (premise : Option ℕ) (place : FieldRef) (f : Field) : Type 0 where

@@ -1,4 +1,6 @@
 use Rattle.std.proofs.Common.{Bool, ap, ◌∙◌}
+use Rattle.std.proofs.lemmas.List.{take_all}
+use Rattle.std.specs.List.{position_from}
 use Rattle.std.specs.Str.{bytes_eq}
 use Rattle.indexmap.specs.IndexMap.{get}
 use Rattle.dsr_struct.specs.Known.{is_named}
@@ -16,3 +18,8 @@ loop-number-preserved g c = λ q.
       | in-Some+in_ok-enter w ↦ ap (λ m. get bytes_eq m q) w.table-is ∙ w.in_ok-enter.ensures q ∙ position_next test items i x c.loop-number-test.true c.index-items-number.is (c.loop-number.invariant q) (ap (λ o. is_named o q) w.in-Some.ensures)
       | in_default w ↦ ap (λ m. get bytes_eq m q) w.table-is ∙ position_stays test items i x c.loop-number-test.true c.index-items-number.is (c.loop-number.invariant q) (ap (λ o. is_named o q) w.in_default.ensures)
     ]
+
+pub returns : goal.returns
+returns g c = λ q.
+    c.loop-number.invariant q
+    ∙ ap (position_from (λ x. is_named (g.T.Named.own_name x) q) 0) (take_all c.loop-number.number c.args.items.now c.loop-number-test.false)

@@ -68,17 +68,21 @@ fn expression(alloc: Global) -> Result<Expr, NoMemory> {
 }
 
 fn structure(alloc: Global) -> Result<Structure, NoMemory> {
+    let length = expression(alloc)?;
+    let next = name(alloc, b"next")?;
     let field = Field {
-        name: name(alloc, b"next")?,
+        name: next,
         fixed: false,
         width: Width::U16,
-        len: Some(expression(alloc)?),
+        len: Some(length),
         kind: Kind::Refers { pool: 1 },
     };
+    let fields = one(alloc, field)?;
+    let name = name(alloc, b"Head")?;
     Ok(Structure {
-        name: name(alloc, b"Head")?,
+        name,
         parent: None,
-        fields: one(alloc, field)?,
+        fields,
     })
 }
 
@@ -325,32 +329,46 @@ fn inclusions_have_symbols_and_targets(rt: HostRuntime) {
 }
 
 #[test]
-fn numbers_and_orders(rt: HostRuntime) -> Result<(), Fail> {
-    let alloc = rt.alloc();
-    let layout = layout(alloc)?;
-    assert_eq!(rt; layout.length(), 112);
-    assert!(rt; layout.order() == Order::Big);
-    let numbers = [layout.start(1), layout.slot(1), layout.count(1)];
-    assert_eq!(rt; numbers, [16, 12, 8]);
-    let codes = [layout.code(1), layout.step(1), layout.none(1)];
-    assert_eq!(rt; codes, [1, 3, 0]);
-    assert_eq!(rt; layout.bit_offset(FIELD), 5);
+fn layouts_tell_numbers(rt: HostRuntime) -> Result<(), Fail> {
+    let layout = layout(rt.alloc())?;
+    assert!(rt; layout.length() == 112 && layout.order() == Order::Big);
+    assert!(rt; layout.start(1) == 16 && layout.slot(1) == 12 && layout.count(1) == 8);
+    assert!(rt; layout.code(1) == 1 && layout.step(1) == 3 && layout.none(1) == 0);
+    assert!(rt; layout.bit_offset(FIELD) == 5);
     assert!(rt; layout.width(FIELD) == Width::Bits(3));
-    assert_eq!(rt; layout.array_length(FIELD), Some(9));
+    assert!(rt; layout.array_length(FIELD) == Some(9));
+    Ok(())
+}
+
+#[test]
+fn bindings_are_ordered(rt: HostRuntime) {
     for (less, more) in BINDINGS {
         assert!(rt; less < more);
     }
+}
+
+#[test]
+fn facts_are_ordered(rt: HostRuntime) {
     for (less, more) in FACTS {
         assert!(rt; less < more);
     }
+}
+
+#[test]
+fn names_are_ordered(rt: HostRuntime) -> Result<(), Fail> {
+    let alloc = rt.alloc();
     for (less, more) in [("B", "a"), ("a", "a1"), ("a1", "aa"), ("a9", "b")] {
         let less = name(alloc, less.as_bytes())?;
         let more = name(alloc, more.as_bytes())?;
-        assert!(rt; less < more);
-        assert!(rt; less.bytes() != more.bytes());
+        assert!(rt; less < more && less.bytes() != more.bytes());
     }
-    let (low, high) = (one(alloc, LOW)?, one(alloc, HIGH)?);
-    assert!(rt; low < high);
-    assert_eq!(rt; low.items().len(), 1);
+    Ok(())
+}
+
+#[test]
+fn lists_are_ordered(rt: HostRuntime) -> Result<(), Fail> {
+    let low = one(rt.alloc(), LOW)?;
+    let high = one(rt.alloc(), HIGH)?;
+    assert!(rt; low < high && low.items().len() == 1);
     Ok(())
 }

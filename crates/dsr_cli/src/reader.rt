@@ -11,8 +11,6 @@ mod names;
 mod parts;
 mod sameness;
 mod statements;
-#[cfg(test)]
-mod texts;
 mod typed;
 mod written;
 

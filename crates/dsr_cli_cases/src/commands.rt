@@ -57,14 +57,14 @@ fn add_file(
 }
 
 // A specification under `s` and an image under `i`.
-fn two_files(alloc: Global, spec: &[u8], image: &[u8]) -> Result<Vec<Held>, AllocError> {
+pub(crate) fn two_files(alloc: Global, spec: &[u8], image: &[u8]) -> Result<Vec<Held>, AllocError> {
     let mut files = Vec::new(alloc);
     add_file(alloc, &mut files, "s", spec)?;
     add_file(alloc, &mut files, "i", image)?;
     Ok(files)
 }
 
-fn words_of(alloc: Global, words: &[&str]) -> Result<Vec<String>, AllocError> {
+pub(crate) fn words_of(alloc: Global, words: &[&str]) -> Result<Vec<String>, AllocError> {
     let mut all = Vec::new(alloc);
     for word in words {
         all.push(word.to_string(alloc)?)?;
@@ -72,7 +72,7 @@ fn words_of(alloc: Global, words: &[&str]) -> Result<Vec<String>, AllocError> {
     Ok(all)
 }
 
-const CHECK: [&str; 3] = ["check", "s", "i"];
+pub(crate) const CHECK: [&str; 3] = ["check", "s", "i"];
 
 const CONSISTENT: &str = "consistent\n";
 
@@ -237,7 +237,7 @@ fn text<'a>(spec: &'a [u8], status: Status, text: &'a str) -> Case<'a> {
     }
 }
 
-const SPEC_0: &str = "spec 0 0\n";
+pub(crate) const SPEC_0: &str = "spec 0 0\n";
 
 #[test]
 fn texts_are_printed(rt: HostRuntime) -> Result<(), Fail> {

@@ -1,6 +1,8 @@
-// Texts that are of the form, and texts that aren't, each with one part changed.
-use crate::reader::read_spec;
-use std::alloc::Global;
+// Texts that are of the small form, and texts that aren't, each with one part changed.
+use crate::commands::{CHECK, SPEC_0, two_files, words_of};
+use dsr_cli::run;
+use dsr_store::{SureShelf, SureSink};
+use std::alloc::{AllocError, Global};
 use std::test::Fail;
 
 const PARTS: [&str; 9] = [
@@ -101,13 +103,26 @@ const CASES: [(usize, &str, bool); 30] = [
     (8, "constraint Counted : head.Used = size(Live)", false),
 ];
 
-// Whether the text with one part in the place of another is of the form.
-fn is_read(alloc: Global, place: usize, part: &str) -> Result<bool, Fail> {
-    let mut text = String::new(alloc);
+// A head without slots.
+const EMPTY: [u8; 8] = [0; 8];
+
+// Whether the text with one part in the place of another is of the form: any other answer is given to it
+// than to a text that isn't.
+fn is_read(alloc: Global, place: usize, part: &str) -> Result<bool, AllocError> {
+    let mut spec = String::new(alloc);
     for (i, own) in PARTS.iter().enumerate() {
-        text.push_str(if i == place { part } else { own })?;
+        spec.push_str(if i == place { part } else { own })?;
     }
-    Ok(read_spec(alloc, text.as_bytes())?.is_some())
+    let mut shelf = SureShelf {
+        files: two_files(alloc, spec.as_bytes(), &EMPTY)?,
+        last: None,
+    };
+    let mut out = SureSink {
+        bytes: Vec::new(alloc),
+    };
+    let words = words_of(alloc, &CHECK)?;
+    run(alloc, &words, &mut shelf, &mut out);
+    Ok(out.bytes.as_slice() != SPEC_0.as_bytes())
 }
 
 #[test]

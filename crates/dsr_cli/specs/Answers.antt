@@ -16,9 +16,9 @@ use Rattle.dsr_text.specs.Parsing.{IsTreeOf}
 use Rattle.dsr_parse.specs.Faults.{HasFault}
 use Rattle.dsr_parse.specs.declared.parser.SyntaxFault.{SyntaxFault}
 use Rattle.dsr_parse.specs.declared.parser.SyntaxFault.TheVariants as faults
-use Rattle.dsr_struct.specs.Refusals.{Tells}
-use Rattle.dsr_struct.specs.declared.refusals.SpecFault.{SpecFault}
-use Rattle.dsr_struct.specs.declared.refusals.SpecFault.TheVariants as spec_faults
+use Rattle.dsr_faults.specs.Refusals.{Tells}
+use Rattle.dsr_faults.specs.declared.refusals.SpecFault.{SpecFault}
+use Rattle.dsr_faults.specs.declared.refusals.SpecFault.TheVariants as spec_faults
 use Rattle.dsr_store.specs.Causes.{Rose}
 use Rattle.dsr_store.specs.Files.{Files, IsFrontOf, Lacks}
 use Rattle.dsr_store.specs.declared.outside.Missed.{Missed}

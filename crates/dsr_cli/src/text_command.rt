@@ -5,7 +5,7 @@ ghost use Rattle.dsr_text.specs.Canonical.{canonical};
 ghost use Rattle.dsr_cli.specs.Answers.{IsPrintAnswer, has_rules, refused_at, syntax_at, syntax_refused, declarations_refused};
 ghost use Rattle.dsr_cli.specs.Loads.{shown};
 ghost use Rattle.dsr_parse.specs.declared.parser.SyntaxFault.TheVariants as faults;
-ghost use Rattle.dsr_struct.specs.declared.refusals.SpecFault.TheVariants as spec_faults;
+ghost use Rattle.dsr_faults.specs.declared.refusals.SpecFault.TheVariants as spec_faults;
 
 use crate::Status;
 use crate::answers::{Told, tell};

@@ -12,8 +12,8 @@ use Rattle.dsr_tree.specs.Trees.{TermTree, expr_tree, term_tree, FactorTree, Mor
 use Rattle.dsr_tree.proofs.TreeRows.{expr_is, term_is}
 use Rattle.dsr_text.specs.Declarations.{more_terms_faults, term_faults, more_factors_faults, factor_faults, is_number, is_number_term, is_number_factor}
 use Rattle.dsr_text.specs.Tables.{sum_of, product_of, typed_expr, typed_sum, typed_term, typed_product, typed_factor}
-use Rattle.dsr_struct.specs.Telling.{Finds}
-use Rattle.dsr_struct.proofs.Finding.{finds_same, finds_then}
+use Rattle.dsr_faults.specs.Telling.{Finds}
+use Rattle.dsr_faults.proofs.Finding.{finds_same, finds_then}
 
 -- the shape of a term behind its sign, by its two parts
 abbrev parts_of : MoreTerm → MoreTermTree

@@ -11,8 +11,8 @@ use Rattle.dsr_meaning.specs.Extents.{bit_behind, bit_behind_all}
 use Rattle.dsr_meaning.specs.Lists.{each_at}
 use Rattle.dsr_text.specs.Names.{Names, is_head}
 use Rattle.dsr_meaning.proofs.Bits.{bit_behind_next}
-use Rattle.dsr_struct.proofs.Finding.{finds_nothing, finds_same, finds_next}
-use Rattle.dsr_struct.specs.Telling.{Finds}
+use Rattle.dsr_faults.proofs.Finding.{finds_nothing, finds_same, finds_next}
+use Rattle.dsr_faults.specs.Telling.{Finds}
 
 -- what is known before the j-th field: the faults of those up to it, the bit of a byte at which it begins, and whether a length that isn't a number stands before it
 pub record IsBefore (names : Names) (number : ℕ) (s : StructureTree) (fields : List Field) (j bit : ℕ) (behind_open : Bool) (old new : Option Fault) : Type 0 where

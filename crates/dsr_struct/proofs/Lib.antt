@@ -4,12 +4,10 @@ pub mod ExprSteps
 pub mod Extents
 pub mod Faultless
 pub mod Fields
-pub mod Finding
 pub mod FixedNames
 pub mod Found
 pub mod Growing
 pub mod KnownNames
-pub mod Least
 pub mod Lineage
 pub mod Mapped
 pub mod NamesInExprs

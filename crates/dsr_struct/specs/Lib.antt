@@ -1,4 +1,2 @@
 pub mod FieldNames
 pub mod Known
-pub mod Refusals
-pub mod Telling

@@ -2,10 +2,10 @@
 ghost use Rattle.dsr_text.specs.Declarations.{head_faults, faults_with};
 ghost use Rattle.std.specs.Prelude.{◌≡◌, None, codes};
 ghost use Rattle.dsr_struct.specs.Known.{known_of};
-ghost use Rattle.dsr_struct.specs.Telling.{Finds};
+ghost use Rattle.dsr_faults.specs.Telling.{Finds};
 
 use crate::lookups::Names;
-use crate::telling::Told;
+use dsr_faults::Told;
 use dsr_ir::Name;
 use dsr_tree::{Condition, Fault};
 

@@ -7,12 +7,12 @@ ghost use Rattle.dsr_text.specs.Declarations.{entry_bits, is_bytewise, width_fau
 ghost use Rattle.dsr_meaning.specs.Extents.{bit_behind};
 ghost use Rattle.dsr_meaning.specs.Lists.{each_at};
 ghost use Rattle.dsr_struct.specs.Known.{known_of, place_of};
-ghost use Rattle.dsr_struct.specs.Telling.{Finds};
+ghost use Rattle.dsr_faults.specs.Telling.{Finds};
 
 use crate::expr_checks::{check_expr, check_maybe_expr, has_open_length, is_number};
 use crate::lookups::{Names, is_at};
 use crate::names::is_head;
-use crate::telling::Told;
+use dsr_faults::Told;
 use dsr_ir::Name;
 use dsr_tree::{Condition, Content, Field, NamedField, Structure, Width};
 

@@ -7,14 +7,12 @@ mod expr_checks;
 mod field_checks;
 mod lookups;
 mod names;
-mod refusals;
 mod set_checks;
 mod structure_checks;
-mod telling;
 mod typed;
 mod typed_exprs;
 mod typed_sets;
 mod typed_structures;
 
-pub use refusals::SpecFault;
+pub use dsr_faults::SpecFault;
 pub use typed::structures;

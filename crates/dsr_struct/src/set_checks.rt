@@ -4,10 +4,10 @@ ghost use Rattle.dsr_text.specs.Declarations.{disagree, is_unrelated, view_fault
 ghost use Rattle.dsr_meaning.specs.Lists.{any_of, each_at};
 ghost use Rattle.dsr_text.specs.Names.{plain_set, pool_structure, set_pool};
 ghost use Rattle.dsr_struct.specs.Known.{known_of};
-ghost use Rattle.dsr_struct.specs.Telling.{Finds};
+ghost use Rattle.dsr_faults.specs.Telling.{Finds};
 
 use crate::lookups::{Names, is_at};
-use crate::telling::Told;
+use dsr_faults::Told;
 use dsr_tree::{Condition, Fresh, PlacedName, Relation, Set, Target, Var, View};
 
 // Whether two numbers are known and differ.

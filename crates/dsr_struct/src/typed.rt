@@ -6,11 +6,11 @@ ghost use Rattle.dsr_text.specs.Tables.{tables, tables_with, version_of};
 ghost use Rattle.dsr_meaning.specs.Placeable.{ArePlaceable};
 ghost use Rattle.dsr_meaning.specs.Typed.{AreTyped};
 ghost use Rattle.dsr_struct.specs.Known.{known_of, AllFit, HasLegalWidths};
-ghost use Rattle.dsr_struct.specs.Refusals.{Tells};
+ghost use Rattle.dsr_faults.specs.Refusals.{Tells};
 
 use crate::lookups::Names;
 use crate::names::{head_name, name_tables};
-use crate::refusals::SpecFault;
+use dsr_faults::SpecFault;
 use dsr_ir::{Name, NoMemory, Structures};
 use dsr_tree::Tree;
 use std::alloc::Global;

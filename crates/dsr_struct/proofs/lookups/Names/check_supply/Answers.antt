@@ -3,7 +3,7 @@ use Rattle.dsr_text.specs.Declarations.{unknown_name}
 use Rattle.dsr_meaning.specs.Lists.{each_at}
 use Rattle.dsr_text.specs.Names.{is_at, plain_set}
 use Rattle.dsr_struct.specs.Known.{known_of}
-use Rattle.dsr_struct.proofs.Finding.{finds_same, finds_then, finds_when}
+use Rattle.dsr_faults.proofs.Finding.{finds_same, finds_then, finds_when}
 use Rattle.dsr_struct.proofs.lookups.Names.check_supply.Goals as goal
 
 pub returns : goal.returns

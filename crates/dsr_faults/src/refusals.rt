@@ -21,7 +21,7 @@ pub enum SpecFault {
 }
 
 impl From<NoMemory> for SpecFault {
-    ghost use Rattle.dsr_struct.specs.declared.refusals.SpecFault.TheVariants as faults;
+    ghost use Rattle.dsr_faults.specs.declared.refusals.SpecFault.TheVariants as faults;
 
     ghost from_gives = { λ _ e. e ≡ faults.NoMemory };
 

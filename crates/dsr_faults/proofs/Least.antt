@@ -5,7 +5,7 @@ use Rattle.dsr_tree.specs.Faults.{kind_number, is_before}
 use Rattle.dsr_tree.specs.declared.faults.Fault.{Fault}
 use Rattle.dsr_meaning.specs.Counting.{IsIn}
 use Rattle.dsr_text.specs.Faults.{IsToldOf}
-use Rattle.dsr_struct.specs.Telling.{told_after}
+use Rattle.dsr_faults.specs.Telling.{told_after}
 
 -- by place, then by kind
 abbrev earlier : ℕ → ℕ → ℕ → ℕ → Bool

@@ -6,7 +6,7 @@ use Rattle.dsr_tree.specs.declared.faults.Condition.{Condition}
 use Rattle.dsr_tree.specs.declared.faults.Fault.{Fault}
 use Rattle.dsr_text.specs.Faults.{when}
 use Rattle.dsr_meaning.specs.Lists.{each_at}
-use Rattle.dsr_struct.specs.Telling.{told_of, told_after, Finds}
+use Rattle.dsr_faults.specs.Telling.{told_of, told_after, Finds}
 
 told_after-append : (o : Option Fault) (xs ys : List Fault) → told_after o (xs ++ ys) ≡ told_after (told_after o xs) ys
 told_after-append o [] ys = refl

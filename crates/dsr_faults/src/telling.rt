@@ -1,9 +1,12 @@
 // The fault that is to be told, among those that were found so far.
-ghost use Rattle.std.specs.Prelude.{◌≡◌, is_none};
+ghost use Rattle.std.specs.Prelude.{◌≡◌, is_none, List, [], None, IfSome};
 ghost use Rattle.dsr_tree.specs.declared.faults.Condition.TheVariants as conditions;
 ghost use Rattle.dsr_text.specs.Faults.{when};
-ghost use Rattle.dsr_struct.specs.Telling.{Finds, told_of};
+ghost use Rattle.dsr_tree.specs.declared.faults.Fault.{Fault};
+ghost use Rattle.dsr_faults.specs.Refusals.{Tells};
+ghost use Rattle.dsr_faults.specs.Telling.{Finds, told_of};
 
+use crate::SpecFault;
 use dsr_tree::{Condition, Fault, PlacedName};
 
 /// The fault with the least place of those that were found, and of those the least condition.
@@ -27,6 +30,18 @@ impl Told {
         ensures { Finds (when (is_none number) conditions.UnknownName name.now.place) self.old.fault self.new.fault }
     {
         self.note_if(number.is_none(), Condition::UnknownName, name.place);
+    }
+
+    /// The refusal that tells the fault, where one was found.
+    pub fn refusal(&self) -> Option<SpecFault>
+        ensures told { (faults : List Fault) → Finds faults None self.now.fault → IfSome result (Tells faults) }
+        ensures none { (faults : List Fault) → Finds faults None self.now.fault → result ≡ None → faults ≡ [] }
+    {
+        let fault = self.fault?;
+        Some(SpecFault::At {
+            kind: fault.condition.kind(),
+            place: fault.place,
+        })
     }
 
     fn note(&mut self, found: Fault)

@@ -4,8 +4,8 @@ use Rattle.dsr_tree.specs.Faults.{kind_number}
 use Rattle.dsr_tree.specs.declared.faults.Condition.{Condition}
 use Rattle.dsr_tree.specs.declared.faults.Fault.{Fault}
 use Rattle.dsr_text.specs.Faults.{IsToldOf}
-use Rattle.dsr_struct.specs.declared.refusals.SpecFault.{SpecFault}
-use Rattle.dsr_struct.specs.declared.refusals.SpecFault.TheVariants as spec_faults
+use Rattle.dsr_faults.specs.declared.refusals.SpecFault.{SpecFault}
+use Rattle.dsr_faults.specs.declared.refusals.SpecFault.TheVariants as spec_faults
 
 -- the refusal tells the kind and the place of the fault of a list that is told; want of memory says nothing
 abbrev pub Tells : List Fault → SpecFault → Type 0

@@ -1,0 +1,92 @@
+// What the names of declared tables stand for.
+ghost use Rattle.std.specs.Prelude.{◌≡◌, ◌<◌, ◌^◌, ℕ, List, [], map, length, option_map, slice_index_or, IfOk, All};
+ghost use Rattle.std.specs.List.{position_from};
+ghost use Rattle.std.specs.Option.{option_map_or};
+ghost use Rattle.std.specs.Str.{bytes_eq};
+ghost use Rattle.indexmap.specs.IndexMap.{get};
+ghost use Rattle.dsr_meaning.specs.Lists.{each_at};
+ghost use Rattle.dsr_meaning.specs.Typed.{ancestors, AreTyped};
+ghost use Rattle.dsr_typing.specs.Known.{has_field_name, known_in};
+ghost use Rattle.dsr_names.specs.Tables.{told_by};
+
+use crate::numbers::numbers_from;
+use dsr_ir::{Name, NoMemory, Structure, Structures};
+use indexmap::IndexMap;
+use std::alloc::Global;
+
+/// What the names of declared tables stand for, by the numbers of their entries.
+#[derive(Drop)]
+pub struct NameTables {
+    /// The pools, counted from 1.
+    pub pools: IndexMap<Name, u32>,
+    pub sets: IndexMap<Name, u32>,
+    pub relations: IndexMap<Name, u32>,
+    /// For each structure the fields that it declares itself.
+    pub fields: Vec<IndexMap<Name, u32>>,
+    /// For each structure its ancestors, the nearest first.
+    pub ancestors: Vec<Vec<u32>>,
+}
+
+// For each structure the fields that it declares itself.
+fn own_fields(
+    alloc: Global,
+    structures: &[Structure],
+) -> Result<Vec<IndexMap<Name, u32>>, NoMemory>
+    requires { All (λ s. length s.fields ≤ 64) structures.now }
+    ensures { IfOk result (λ tables. map (get bytes_eq) tables.items ≡ map (λ s q. position_from (has_field_name q) 0 s.fields) structures.now) }
+{
+    let mut tables = Vec::new(alloc);
+    for structure in structures {
+        tables.push(numbers_from(alloc, 0, structure.fields.items())?)?;
+    }
+    Ok(tables)
+}
+
+// A structure's parent and the parent's ancestors.
+fn line_of(
+    alloc: Global,
+    earlier: &[Vec<u32>],
+    parent: Option<u32>,
+) -> Result<Vec<u32>, NoMemory>
+    ensures { IfOk result (λ line. line.items ≡ option_map_or (λ p. p ∷ slice_index_or (map (λ v. v.items) earlier.now) p []) parent []) }
+{
+    let mut line = Vec::new(alloc);
+    if let Some(parent) = parent {
+        line.push(parent)?;
+        if let Some(above) = earlier.get(parent as usize) {
+            line.extend_from_slice(above)?;
+        }
+    }
+    Ok(line)
+}
+
+// The ancestors of each structure.
+fn lines_of(alloc: Global, structures: &[Structure]) -> Result<Vec<Vec<u32>>, NoMemory>
+    ensures { IfOk result (λ lines. map (λ v. v.items) lines.items ≡ each_at (λ i _. ancestors structures.now i ∷ []) 0 structures.now) }
+{
+    let mut lines = Vec::new(alloc);
+    for structure in structures {
+        let line = line_of(alloc, &lines, structure.parent)?;
+        lines.push(line)?;
+    }
+    Ok(lines)
+}
+
+/// What the names of declared tables stand for.
+pub fn name_tables(alloc: Global, base: &Structures) -> Result<NameTables, NoMemory>
+    requires typed { AreTyped base.now }
+    ensures { IfOk result (λ tables. told_by base.now tables ≡ known_in base.now) }
+{
+    let pools = numbers_from(alloc, 1, base.pools.items())?;
+    let sets = numbers_from(alloc, 0, base.sets.items())?;
+    let relations = numbers_from(alloc, 0, base.rels.items())?;
+    let fields = own_fields(alloc, base.structures.items())?;
+    let ancestors = lines_of(alloc, base.structures.items())?;
+    Ok(NameTables {
+        pools,
+        sets,
+        relations,
+        fields,
+        ancestors,
+    })
+}

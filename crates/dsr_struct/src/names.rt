@@ -261,14 +261,20 @@ pub fn name_tables(alloc: Global, tree: &Tree) -> Result<NameTables, NoMemory>
     let structures = numbers_of(alloc, items)?;
     let head = head_name(alloc)?;
     let fixed = fixed_of_head(alloc, tree, structures.get(&head).copied())?;
+    let fields = own_fields(alloc, items)?;
+    let ancestors = ancestors_of(alloc, &structures, &items[..items.len().min(65)])?;
+    let pools = numbers_of(alloc, tree.pools.items())?;
+    let sets = numbers_of(alloc, tree.sets.items())?;
+    let relations = numbers_of(alloc, tree.relations.items())?;
+    let supplies = numbers_of(alloc, tree.supplies.items())?;
     Ok(NameTables {
-        fields: own_fields(alloc, items)?,
-        ancestors: ancestors_of(alloc, &structures, &items[..items.len().min(65)])?,
-        fixed,
-        pools: numbers_of(alloc, tree.pools.items())?,
-        sets: numbers_of(alloc, tree.sets.items())?,
-        relations: numbers_of(alloc, tree.relations.items())?,
-        supplies: numbers_of(alloc, tree.supplies.items())?,
         structures,
+        fields,
+        ancestors,
+        fixed,
+        pools,
+        sets,
+        relations,
+        supplies,
     })
 }

@@ -1,5 +1,5 @@
 -- What tables tell is what the names of declared tables stand for, where each table is right.
-use Rattle.std.proofs.Common.{◌≡◌, ◌≤◌, ◌<◌, ℕ, List, [], ◌∷◌, map, length, Option, None, Some, All, is_some, if◌then◌else◌, get_or, slice_get, option_map, refl, sym, ap, ◌∙◌, arith}
+use Rattle.std.proofs.Common.{◌≡◌, ◌≤◌, ℕ, List, [], ◌∷◌, map, length, Option, None, Some, All, is_some, if◌then◌else◌, get_or, slice_get, option_map, refl, sym, ap, ◌∙◌}
 use Rattle.std.proofs.lemmas.Option.{slice_get-map, slice_get-get_or}
 use Rattle.std.specs.List.{position_from}
 use Rattle.std.specs.Option.{option_and_then}
@@ -7,7 +7,7 @@ use Rattle.std.specs.Str.{bytes_eq}
 use Rattle.indexmap.specs.IndexMap.{get}
 use Rattle.dsr_ir.specs.declared.declarations.FieldRef.{FieldRef}
 use Rattle.dsr_ir.specs.declared.declarations.Structures.{Structures}
-use Rattle.dsr_meaning.specs.Typed.{AreTyped, ancestors}
+use Rattle.dsr_meaning.specs.Typed.{AreTyped}
 use Rattle.dsr_typing.specs.Known.{has_field_name, known_in, record_field}
 use Rattle.dsr_typing.specs.Known.{own_field as own_field_of, first_field as first_field_of}
 use Rattle.dsr_names.specs.Tables.{told_by, own_field, first_field, line_of}

@@ -1,0 +1,8 @@
+mod AtomLists
+mod Conjunctions
+mod Joining
+mod Pushes
+mod Rows
+mod Saying
+mod Sizing
+mod Steps

@@ -1,7 +1,7 @@
 -- Atoms are told apart, and the different ones of a list are all its atoms, each once.
-use Rattle.std.proofs.Common.{◌≡◌, ◌≢◌, ◌<◌, ◌≤◌, ◌+◌, ℕ, Bool, true, false, eqb, List, [], ◌∷◌, ◌++◌, drop, length, length-append, get_or, ◌⊎◌, inl, inr, refl, ap, sym, subst, ◌∙◌, arith}
+use Rattle.std.proofs.Common.{◌≡◌, ◌<◌, ◌≤◌, ◌+◌, ℕ, Bool, true, false, eqb, List, [], ◌∷◌, ◌++◌, drop, length, length-append, get_or, ◌⊎◌, inl, inr, refl, ap, sym, subst, ◌∙◌, arith}
 use Rattle.std.specs.Prelude.{if◌then◌else◌, ◌↔◌, ◌&&◌, IsTrue}
-use Rattle.std.proofs.lemmas.Bool.{eqb-true, eq-eqb, and_parts, and_from}
+use Rattle.std.proofs.lemmas.Bool.{eqb-true, eq-eqb, and_parts, and_from, lt-ltb}
 use Rattle.std.proofs.lemmas.List.{drop_more}
 use Rattle.dsr_ir.specs.declared.constraints.Atom.{Atom}
 use Rattle.dsr_ir.specs.declared.constraints.Atom.TheVariants as atoms
@@ -14,7 +14,7 @@ use Rattle.dsr_ir.specs.declared.constraints.Var.TheVariants as vars
 use Rattle.dsr_ir.specs.declared.rules.Op.{Op}
 use Rattle.dsr_ir.specs.declared.rules.Op.TheVariants as ops
 use Rattle.dsr_meaning.specs.Counting.{IsIn, IsDistinct, Enumerates}
-use Rattle.dsr_typing.specs.NormalForms.{is_same_var, is_same_op, is_same_measure, is_same_bound, is_same_atom, has_atom, different}
+use Rattle.dsr_typing.specs.NormalForms.{is_same_var, is_same_op, is_same_measure, is_same_bound, is_same_atom, has_atom, different, has_many_atoms}
 
 -- ---- what is told to be the same is the same
 
@@ -217,8 +217,18 @@ seen_count seen (a ∷ rest) = elim (has_atom seen a) as (λ t. length seen ≤ 
 ]
 
 -- a loop over the atoms takes one more, which is known or not
-pub different_next : (seen atoms : List Atom) (i : ℕ) (a : Atom) (b : Bool) → i < length atoms → a ≡ get_or atoms i a → has_atom seen a ≡ b → different seen (drop i atoms) ≡ different (if b then seen else seen ++ (a ∷ [])) (drop (i + 1) atoms)
-different_next seen atoms i a b lt is e =
-    ap (different seen) (drop_more atoms i a lt)
-    ∙ ap (λ (x : Atom). different (if has_atom seen x then seen else seen ++ (x ∷ [])) (drop (i + 1) atoms)) (sym is)
-    ∙ ap (λ t. different (if t then seen else seen ++ (a ∷ [])) (drop (i + 1) atoms)) e
+different_next : (seen atoms : List Atom) (i : ℕ) (d : Atom) (b : Bool) → i < length atoms → has_atom seen (get_or atoms i d) ≡ b → different seen (drop i atoms) ≡ different (if b then seen else seen ++ (get_or atoms i d ∷ [])) (drop (i + 1) atoms)
+different_next seen atoms i d b lt e =
+    ap (different seen) (drop_more atoms i d lt)
+    ∙ ap (λ t. different (if t then seen else seen ++ (get_or atoms i d ∷ [])) (drop (i + 1) atoms)) e
+
+-- beyond 8 that were seen, one more is too many
+pub one_too_many : (seen known atoms : List Atom) (i : ℕ) (d : Atom) (told : Bool) → i < length atoms → length seen ≡ 8 → known ≡ seen → told ≡ has_atom known (get_or atoms i d) → told ≡ false → different seen (drop i atoms) ≡ different [] atoms → true ≡ has_many_atoms atoms
+one_too_many seen known atoms i d told lt full is asked absent same =
+    let news : has_atom seen (get_or atoms i d) ≡ false = ap (λ s. has_atom s (get_or atoms i d)) (sym is) ∙ sym asked ∙ absent in
+    let next = different_next seen atoms i d false lt news in
+    let kept = seen_count (seen ++ (get_or atoms i d ∷ [])) (drop (i + 1) atoms) in
+    let more = length-append seen (get_or atoms i d ∷ []) in
+    let all : length (different (seen ++ (get_or atoms i d ∷ [])) (drop (i + 1) atoms)) ≡ length (different [] atoms) = ap length (sym next ∙ same) in
+    let many : 8 < length (different [] atoms) = omega (arith, kept, more, all, full) in
+    sym (lt-ltb 8 (length (different [] atoms)) many)

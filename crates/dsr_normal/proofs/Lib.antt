@@ -1,5 +1,6 @@
 mod AtomLists
 mod Conjunctions
+mod Derived
 mod Joining
 mod Pushes
 mod Rows

@@ -159,9 +159,10 @@ in_either (y ∷ xs) a x (inr h) = elim (in_either xs a x h) as (λ _. IsIn x (y
 
 more_distinct : (seen : List Atom) (a : Atom) → IsDistinct seen → (IsIn a seen → ⊥) → IsDistinct (seen ++ (a ∷ []))
 more_distinct [] a d h = (λ i. i, tt)
-more_distinct (x ∷ seen) a d h =
-    (λ i. elim (in_either seen a x i) as (λ _. ⊥) [ inl j ↦ d.0 j | inr e ↦ h (inl (sym e)) ],
-    more_distinct seen a d.1 (λ i. h (inr i)))
+more_distinct (x ∷ seen) a d h = (
+  λ i. elim (in_either seen a x i) as (λ _. ⊥) [ inl j ↦ d.0 j | inr e ↦ h (inl (sym e)) ],
+  more_distinct seen a d.1 (λ i. h (inr i)),
+)
 
 not_in : (seen : List Atom) (a : Atom) → has_atom seen a ≡ false → IsIn a seen → ⊥
 not_in seen a e h = let k = in_has seen a h in cc

@@ -1,4 +1,4 @@
-use Rattle.std.proofs.Common.{false, map, sym, ap, ◌∙◌}
+use Rattle.std.proofs.Common.{false, map, ap, ◌∙◌}
 use Rattle.dsr_typing.specs.NormalForms.{conj_of, distributed, one_holds}
 use Rattle.dsr_normal.proofs.Conjunctions.{restored}
 use Rattle.dsr_normal.proofs.Saying.{says}

@@ -6,9 +6,12 @@ ghost use Rattle.dsr_typing.specs.NormalForms.{is_same_atom, atoms_of, row_atoms
 use dsr_ir::{Atom, FormulaNode, NoMemory};
 use std::alloc::Global;
 
+// The most different atoms of a formula.
+const MOST_ATOMS: usize = 8;
+
 // The atoms of a formula, in order, each as often as it stands there.
 #[cycle(atoms)]
-pub(crate) fn formula_atoms(alloc: Global, node: &FormulaNode) -> Result<Vec<Atom>, NoMemory>
+fn formula_atoms(alloc: Global, node: &FormulaNode) -> Result<Vec<Atom>, NoMemory>
     ensures { IfOk result (λ atoms. atoms.items ≡ atoms_of (formula_shape node.now)) }
 {
     match node {
@@ -62,17 +65,25 @@ fn is_among(atoms: &[Atom], atom: Atom) -> bool
 }
 
 // Whether more than 8 of these atoms are different.
-pub(crate) fn has_many(alloc: Global, atoms: &[Atom]) -> Result<bool, NoMemory>
+fn are_many(alloc: Global, atoms: &[Atom]) -> Result<bool, NoMemory>
     ensures { IfOk result (λ many. many ≡ has_many_atoms atoms.now) }
 {
     let mut seen = Vec::new(alloc);
     for atom in atoms {
         if !is_among(&seen, *atom) {
-            if seen.len() == 8 {
+            if seen.len() == MOST_ATOMS {
                 return Ok(true);
             }
             seen.push(*atom)?;
         }
     }
     Ok(false)
+}
+
+// Whether more than 8 of the formula's atoms are different.
+pub(crate) fn has_many(alloc: Global, node: &FormulaNode) -> Result<bool, NoMemory>
+    ensures { IfOk result (λ many. many ≡ has_many_atoms (atoms_of (formula_shape node.now))) }
+{
+    let atoms = formula_atoms(alloc, node)?;
+    are_many(alloc, &atoms)
 }

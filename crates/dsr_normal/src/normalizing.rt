@@ -6,7 +6,7 @@ ghost use Rattle.dsr_normal.specs.Telling.{IsTold};
 ghost use Rattle.dsr_normal.specs.declared.faults.NormalFault.TheVariants as faults;
 
 use crate::NormalFault;
-use crate::atoms::{formula_atoms, has_many};
+use crate::atoms::has_many;
 use crate::building::formula_conjs;
 use crate::sizes::formula_size;
 use crate::values::negates_value;
@@ -32,8 +32,7 @@ pub fn normal(alloc: Global, formula: &Formula) -> Result<Vec<Conj>, NormalFault
     if formula_size(false, false, node).is_large() {
         return Err(NormalFault::TooManyConjunctions);
     }
-    let atoms = formula_atoms(alloc, node)?;
-    if has_many(alloc, &atoms)? {
+    if has_many(alloc, node)? {
         return Err(NormalFault::TooManyAtoms);
     }
     let conjs = formula_conjs(alloc, false, false, node)?;

@@ -1,0 +1,9 @@
+mod AtomLists
+mod Conjunctions
+mod Derived
+mod Joining
+mod Pushes
+mod Rows
+mod Saying
+mod Sizing
+mod Steps

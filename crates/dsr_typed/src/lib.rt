@@ -4,6 +4,8 @@
 //! typed tables of declarations and without faults, mean what a typed specification may have.
 #![tactic(auto)]
 
+mod constraints;
 mod rules;
 
+pub use constraints::constraints_without_faults_are_typed;
 pub use rules::rules_without_faults_are_typed;

@@ -1,0 +1,6 @@
+use Rattle.dsr_typed.proofs.FormulaLiterals.{each_from}
+use Rattle.dsr_typed.proofs.SameAtoms.{few_images}
+use Rattle.dsr_typed.proofs.constraints.constraints_without_faults_are_typed.Goals as goal
+
+pub returns : goal.returns
+returns c = record { typed = ?; few = ?; names = ? }

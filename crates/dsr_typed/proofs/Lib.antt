@@ -1,3 +1,5 @@
+pub mod BoundVariables
+pub mod FormulaAtoms
 pub mod FormulaLiterals
 pub mod FoundNames
 pub mod Items

@@ -1,4 +1,5 @@
 pub mod BoundVariables
+pub mod Constants
 pub mod FormulaAtoms
 pub mod FormulaLiterals
 pub mod FoundNames
@@ -8,3 +9,4 @@ pub mod RuleScopes
 pub mod SameAtoms
 pub mod TypedInclusions
 pub mod TypedRules
+pub mod TypedSizes

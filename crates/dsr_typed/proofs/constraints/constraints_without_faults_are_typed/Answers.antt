@@ -1,3 +1,5 @@
+use Rattle.dsr_typed.proofs.Constants.{fits_values}
+use Rattle.dsr_typed.proofs.TypedSizes.{size_is_typed}
 use Rattle.dsr_typed.proofs.BoundVariables.{variable_known}
 use Rattle.dsr_typed.proofs.FormulaAtoms.{not_negated}
 use Rattle.dsr_typed.proofs.FormulaLiterals.{each_from}

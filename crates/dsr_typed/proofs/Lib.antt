@@ -7,6 +7,8 @@ pub mod Items
 pub mod RulePaths
 pub mod RuleScopes
 pub mod SameAtoms
+pub mod TypedAtoms
+pub mod TypedConstraints
 pub mod TypedInclusions
 pub mod TypedRules
 pub mod TypedSizes

@@ -1,15 +1,12 @@
 -- What is bound by a quantifier without fault, and the pools of its variables.
-use Rattle.std.proofs.Common.{◌≡◌, ◌<◌, ℕ, Bool, true, false, List, [], ◌∷◌, length, Option, None, Some, is_some, is_none, unwrap_or, cond, slice_get, option_map, option_and_then, refl, sym, ap, ◌∙◌, subst, true≢false}
-use Rattle.std.specs.Prelude.{IsSomeAnd, IsSome}
+use Rattle.std.proofs.Common.{◌≡◌, ℕ, true, false, List, [], Option, None, Some, is_some, is_none, unwrap_or, cond, slice_get, option_map, option_and_then, refl, sym, ap, ◌∙◌, subst, true≢false}
+use Rattle.std.specs.Prelude.{IsSome}
 use Rattle.std.specs.Option.{option_map_or}
 use Rattle.std.specs.Str.{bytes_eq}
 use Rattle.std.proofs.lemmas.Option.{slice_get_within}
-use Rattle.dsr_ir.specs.declared.constraints.Quant.{Quant}
 use Rattle.dsr_ir.specs.declared.constraints.Quant.TheVariants as quants
 use Rattle.dsr_ir.specs.declared.constraints.Var.{Var}
 use Rattle.dsr_ir.specs.declared.constraints.Var.TheVariants as vars
-use Rattle.dsr_ir.specs.declared.declarations.Rel.{Rel}
-use Rattle.dsr_ir.specs.declared.declarations.SetDecl.{SetDecl}
 use Rattle.dsr_ir.specs.declared.declarations.Structures.{Structures}
 use Rattle.dsr_tree.specs.declared.faults.Condition.TheVariants as conditions
 use Rattle.dsr_tree.specs.declared.tree.Binder.{Binder}
@@ -21,12 +18,16 @@ use Rattle.dsr_tree.specs.declared.tree.Var.TheVariants as var_trees
 use Rattle.dsr_meaning.specs.Typed.{IsTypedQuant, pool_of_var}
 use Rattle.dsr_meaning.proofs.Empty.{both_empty}
 use Rattle.dsr_text.proofs.Absent.{when_absent}
-use Rattle.dsr_typing.specs.Known.{known_in, relation_named}
-use Rattle.dsr_typing.specs.Constraints.{var_pool, variable_faults, gives_numbers, binder_faults, symbol_faults, quantifier_faults}
-use Rattle.dsr_typing.specs.TypedConstraints.{Scope, bound_symbol, scope_of, named_variable, variable, typed_quant}
+use Rattle.dsr_typing.specs.Known.{known_in}
+use Rattle.dsr_typing.specs.Constraints.{var_pool, variable_faults, gives_numbers, binder_faults, quantifier_faults}
+use Rattle.dsr_typing.specs.TypedConstraints.{Scope, scope_of, named_variable, variable, typed_quant}
 use Rattle.dsr_typed.proofs.FoundNames.{known_value, FoundItem, found_set, found_relation, relation_is}
 use Rattle.dsr_typed.proofs.RulePaths.{some_value}
 use Rattle.dsr_typed.proofs.RuleScopes.{is_some_and}
+
+-- what the variables of a quantifier stand for
+abbrev pub binding_in : Structures → Option Quantifier → Scope
+binding_in base quantifier = scope_of (known_in base) quantifier
 
 -- a variable that is bound, with its pool
 pub record VarOf (base : Structures) (scope : Scope) (o : Option Var) : Type 0 where
@@ -36,8 +37,8 @@ pub record VarOf (base : Structures) (scope : Scope) (o : Option Var) : Type 0 w
 
 -- a quantifier that binds something
 pub record Bound (base : Structures) (quantifier : Option Quantifier) : Type 0 where
-  pub typed : IsTypedQuant base (typed_quant (scope_of (known_in base) quantifier))
-  pub variables : (q : List ℕ) → is_some (named_variable (scope_of (known_in base) quantifier).binder q) ≡ true → VarOf base (scope_of (known_in base) quantifier) (named_variable (scope_of (known_in base) quantifier).binder q)
+  pub typed : IsTypedQuant base (typed_quant (binding_in base quantifier))
+  pub variables : (q : List ℕ) → is_some (named_variable (binding_in base quantifier).binder q) ≡ true → VarOf base (binding_in base quantifier) (named_variable (binding_in base quantifier).binder q)
 
 module _ (base : Structures) (place : ℕ) (symbol : PlacedName) where
   abbrev over : Binder → Option Quantifier
@@ -109,12 +110,12 @@ bound base (Some q) e = bound_by base q.place q.symbol q.binder e
 -- ---- variables of formulas
 
 module _ (base : Structures) (quantifier : Option Quantifier) (b : Bound base quantifier) where
-  pub variable_there : (v : VarTree) → is_some (variable (scope_of (known_in base) quantifier) v) ≡ true → VarOf base (scope_of (known_in base) quantifier) (variable (scope_of (known_in base) quantifier) v)
+  pub variable_there : (v : VarTree) → is_some (variable (binding_in base quantifier) v) ≡ true → VarOf base (binding_in base quantifier) (variable (binding_in base quantifier) v)
   variable_there (var_trees.Head place) e = record { pool = 0; asked = refl; typed = refl }
   variable_there (var_trees.Name q) e = b.variables q.name e
 
-  pub variable_known : (v : VarTree) → variable_faults (scope_of (known_in base) quantifier) v ≡ [] → VarOf base (scope_of (known_in base) quantifier) (variable (scope_of (known_in base) quantifier) v)
+  pub variable_known : (v : VarTree) → variable_faults (binding_in base quantifier) v ≡ [] → VarOf base (binding_in base quantifier) (variable (binding_in base quantifier) v)
   variable_known (var_trees.Head place) e = record { pool = 0; asked = refl; typed = refl }
   variable_known (var_trees.Name q) e =
-      let o = named_variable (scope_of (known_in base) quantifier).binder q.name in
+      let o = named_variable (binding_in base quantifier).binder q.name in
       b.variables q.name (some_value o (when_absent (is_none o) conditions.UnknownName q.place e))

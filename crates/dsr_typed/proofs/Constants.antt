@@ -1,5 +1,5 @@
 -- A constant without fault fits each field that gives a value of its relation.
-use Rattle.std.proofs.Common.{◌≡◌, ◌<◌, ◌^◌, ℕ, Bool, true, false, ◌&&◌, nat_eq, nat_le, List, [], Option, None, Some, is_none, cond, refl, sym, ap, ◌∙◌, subst, true≢false}
+use Rattle.std.proofs.Common.{◌≡◌, ◌<◌, ◌^◌, ℕ, true, false, ◌&&◌, nat_eq, List, [], Option, None, Some, is_none, cond, refl, sym, ap, ◌∙◌, subst, true≢false}
 use Rattle.std.proofs.lemmas.Bool.{or_parts, leb-false}
 use Rattle.dsr_ir.specs.Rules.{gives, target_of}
 use Rattle.dsr_ir.specs.declared.declarations.Field.{Field}
@@ -26,14 +26,14 @@ use Rattle.dsr_text.specs.Names.{is_at}
 use Rattle.dsr_text.proofs.Absent.{when_absent}
 use Rattle.dsr_typing.specs.Known.{known_in, is_nil, relation_named, field_is}
 use Rattle.dsr_typing.specs.Constraints.{inclusion_field, value_field, is_too_narrow, is_too_great}
-use Rattle.dsr_typing.specs.Rules.{Scope, scope_of, premise_set, path_field}
+use Rattle.dsr_typing.specs.Rules.{Scope, path_field}
 use Rattle.dsr_typing.specs.RuleFaults.{is_other_head, path_names, term_names, is_no_pair, relates_others, inclusion_names, inclusion_indexes, inclusion_mismatches, inclusion_faults, rule_faults, rules_faults}
-use Rattle.dsr_typing.specs.TypedRules.{number_of, field_in, path_in, typed_pair, typed_member, typed_inclusion, typed_rule}
+use Rattle.dsr_typing.specs.TypedRules.{number_of, path_in, typed_pair, typed_member, typed_inclusion, typed_rule}
 use Rattle.dsr_typed.specs.Meant.{meant}
 use Rattle.dsr_typed.proofs.FoundNames.{FoundItem, found_relation}
 use Rattle.dsr_typed.proofs.Items.{made_in, none_of, each_in}
 use Rattle.dsr_typed.proofs.RulePaths.{second_fails, path_here}
-use Rattle.dsr_typed.proofs.RuleScopes.{FieldHere, tested, place_here, Grounded}
+use Rattle.dsr_typed.proofs.RuleScopes.{FieldHere, tested, place_here, Grounded, scope_in, premise_in}
 use Rattle.dsr_typed.proofs.TypedRules.{sound_rule}
 
 some_same : {A : Type 0} (o : Option A) (a b : A) → o ≡ Some a → o ≡ Some b → a ≡ b
@@ -59,11 +59,11 @@ member_gives scope set rel var (Some (parts.Slot k)) = refl
 -- the relation of a pair, and the field that its path reads
 record KnownPair (base : Structures) (r : Rule) (path : Path) (relation : PlacedName) : Type 0 where
   pub found : FoundItem base.rels ((known_in base).relation relation.name)
-  pub here : FieldHere base (premise_set (known_in base) r.premise) (path_field (scope_of (known_in base) r) path.var path.field)
+  pub here : FieldHere base (premise_in base r) (path_field (scope_in base r) path.var path.field)
 
-known_pair : (base : Structures) (r : Rule) (g : Grounded base r) (place : ℕ) (term : Term) (path : Path) (relation : PlacedName) → inclusion_faults (scope_of (known_in base) r) (inclusions.Pair place term path relation) ≡ [] → KnownPair base r path relation
+known_pair : (base : Structures) (r : Rule) (g : Grounded base r) (place : ℕ) (term : Term) (path : Path) (relation : PlacedName) → inclusion_faults (scope_in base r) (inclusions.Pair place term path relation) ≡ [] → KnownPair base r path relation
 known_pair base r g place term path relation e =
-    let scope = scope_of (known_in base) r in
+    let scope = scope_in base r in
     let inc = inclusions.Pair place term path relation in
     let all = both_empty (inclusion_names scope inc) _ e in
     let rest = both_empty (inclusion_indexes scope inc) _ all.1 in
@@ -77,19 +77,19 @@ known_pair base r g place term path relation e =
     }
 
 module _ (base : Structures) (rel k : ℕ) (path : TypedPath) (f : Field) (r : Rule) (g : Grounded base r) where
-  fits_inclusion : (inc : Inclusion) → inclusion_faults (scope_of (known_in base) r) inc ≡ [] → field_is base (is_too_narrow k) (inclusion_field (known_in base) rel (scope_of (known_in base) r) inc) ≡ false → gives (symbols.Rel rel) (typed_inclusion (scope_of (known_in base) r) inc) ≡ true → target_of (typed_inclusion (scope_of (known_in base) r) inc) ≡ Some path → declared_field base path.field ≡ Some f → k < 2 ^ width_bits f.width
-  fits_inclusion (inclusions.Member member set) e small gives_it target declared = absurd (true≢false (sym gives_it ∙ member_gives (scope_of (known_in base) r) _ rel member.var member.part))
+  fits_inclusion : (inc : Inclusion) → inclusion_faults (scope_in base r) inc ≡ [] → field_is base (is_too_narrow k) (inclusion_field (known_in base) rel (scope_in base r) inc) ≡ false → gives (symbols.Rel rel) (typed_inclusion (scope_in base r) inc) ≡ true → target_of (typed_inclusion (scope_in base r) inc) ≡ Some path → declared_field base path.field ≡ Some f → k < 2 ^ width_bits f.width
+  fits_inclusion (inclusions.Member member set) e small gives_it target declared = absurd (true≢false (sym gives_it ∙ member_gives (scope_in base r) _ rel member.var member.part))
   fits_inclusion (inclusions.Pair place term tree relation) e small gives_it target declared =
-      let scope = scope_of (known_in base) r in
+      let scope = scope_in base r in
       let number = (known_in base).relation relation.name in
       let o = path_field scope tree.var tree.field in
       let pair = known_pair base r g place term tree relation e in
       let same : nat_eq (number_of number) rel ≡ true = sym (pair_gives scope term (number_of number) rel (path_in scope tree)) ∙ gives_it in
       let at : is_at rel number ≡ true = ap (is_at rel) pair.found.found ∙ (sym (ap (λ n. nat_eq (number_of n) rel) pair.found.found) ∙ same) in
       let fails : field_is base (is_too_narrow k) o ≡ false = sym (ap (λ b. field_is base (is_too_narrow k) (cond b o None)) at) ∙ small in
-      let fits = leb-false (2 ^ width_bits pair.here.field.width) k (sym (tested base (premise_set (known_in base) r.premise) o pair.here (is_too_narrow k)) ∙ fails) in
+      let fits = leb-false (2 ^ width_bits pair.here.field.width) k (sym (tested base (premise_in base r) o pair.here (is_too_narrow k)) ∙ fails) in
       let is : path_in scope tree ≡ path = some_same (target_of (typed_pair scope term (number_of number) (path_in scope tree))) (path_in scope tree) path (pair_target scope term (number_of number) (path_in scope tree)) target in
-      let there : path.field ≡ pair.here.place = sym (ap (λ p. p.field) is) ∙ place_here base (premise_set (known_in base) r.premise) o pair.here in
+      let there : path.field ≡ pair.here.place = sym (ap (λ p. p.field) is) ∙ place_here base (premise_in base r) o pair.here in
       let field : pair.here.field ≡ f = some_same (declared_field base path.field) pair.here.field f (ap (declared_field base) there ∙ pair.here.is_field.declared) declared in
       subst (λ x. k < 2 ^ width_bits x.width) field fits
 

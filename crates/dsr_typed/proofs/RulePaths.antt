@@ -19,12 +19,12 @@ use Rattle.dsr_meaning.specs.Instances.{kind_pool}
 use Rattle.dsr_meaning.specs.Typed.{RunsOver, IsTypedTest, IsTypedGuard, Reads}
 use Rattle.dsr_meaning.proofs.Empty.{both_empty}
 use Rattle.dsr_text.proofs.Absent.{when_absent}
-use Rattle.dsr_typing.specs.Known.{known_in, is_this, field_length, differ, field_is}
-use Rattle.dsr_typing.specs.Rules.{scope_of, premise_set, field_of, path_field, var_place}
+use Rattle.dsr_typing.specs.Known.{is_this, field_length, differ, field_is}
+use Rattle.dsr_typing.specs.Rules.{field_of, path_field, var_place}
 use Rattle.dsr_typing.specs.RuleFaults.{is_number, is_reference, is_array, is_scalar, is_too_narrow, is_other_head, field_faults, variable_faults, path_names, is_foreign, is_misread, has_other_length, index_faults, path_faults, guard_faults}
 use Rattle.dsr_typing.specs.TypedRules.{typed_test, typed_path, typed_guard, typed_span, rule_in}
 use Rattle.dsr_typed.proofs.FoundNames.{known_value}
-use Rattle.dsr_typed.proofs.RuleScopes.{FieldHere, tested, is_field_here, field_here, Grounded}
+use Rattle.dsr_typed.proofs.RuleScopes.{FieldHere, tested, is_field_here, field_here, Grounded, scope_in, premise_in}
 
 -- ---- tests
 
@@ -66,35 +66,35 @@ fits k f number wide =
 
 module _ (base : Structures) (r : Rule) (g : Grounded base r) where
   -- the field of a path whose names are known
-  pub path_here : (var : Var) (field : PlacedName) → path_names (scope_of (known_in base) r) var field ≡ [] → is_other_head (scope_of (known_in base) r) var ≡ false → FieldHere base (premise_set (known_in base) r.premise) (path_field (scope_of (known_in base) r) var field)
+  pub path_here : (var : Var) (field : PlacedName) → path_names (scope_in base r) var field ≡ [] → is_other_head (scope_in base r) var ≡ false → FieldHere base (premise_in base r) (path_field (scope_in base r) var field)
   path_here (vars.Head place) field e own =
-      let scope = scope_of (known_in base) r in
-      let premise = premise_set (known_in base) r.premise in
+      let scope = scope_in base r in
+      let premise = premise_in base r in
       elim (is_none scope.name) as (λ b. is_none scope.name ≡ b → cond b (field_faults scope field) [] ≡ [] → FieldHere base premise (cond b (field_of scope field.name) None)) [
         | true ↦ λ _ h. field_here base r g.premise field h
         | false ↦ λ none _. absurd (some_or_none scope.name none own)
       ] refl e
   path_here (vars.Name q) field e own =
-      let scope = scope_of (known_in base) r in
-      let premise = premise_set (known_in base) r.premise in
+      let scope = scope_in base r in
+      let premise = premise_in base r in
       elim (is_this scope.name q.name) as (λ b. is_this scope.name q.name ≡ b → cond b (field_faults scope field) (variable_faults scope q) ≡ [] → FieldHere base premise (cond b (field_of scope field.name) None)) [
         | true ↦ λ _ h. field_here base r g.premise field h
         | false ↦ λ other h. absurd (both_ways (is_this scope.name q.name) other (not-false (is_this scope.name q.name) (when_absent (not (is_this scope.name q.name)) conditions.UnknownName q.place h)))
       ] refl e
 
   -- an array is read at the index, and a scalar without one
-  pub index_here : (o : Option FieldRef) (a : FieldHere base (premise_set (known_in base) r.premise) o) (index : Option PlacedName) → index_faults (scope_of (known_in base) r) o index ≡ [] → MatchBool (is_some index) (RunsOver base (typed_span (scope_of (known_in base) r) r.span) a.field.len) (a.field.len ≡ None)
+  pub index_here : (o : Option FieldRef) (a : FieldHere base (premise_in base r) o) (index : Option PlacedName) → index_faults (scope_in base r) o index ≡ [] → MatchBool (is_some index) (RunsOver base (typed_span (scope_in base r) r.span) a.field.len) (a.field.len ≡ None)
   index_here o a None e =
-      let scope = scope_of (known_in base) r in
+      let scope = scope_in base r in
       let read = (or_parts (is_foreign scope None) (is_misread scope o None) (when_absent (is_foreign scope None || is_misread scope o None) conditions.BadIndex r.place (both_empty _ _ e).0)).1 in
-      no_value a.field.len (sym (tested base (premise_set (known_in base) r.premise) o a is_array) ∙ read)
+      no_value a.field.len (sym (tested base (premise_in base r) o a is_array) ∙ read)
   index_here o a (Some k) e =
-      let scope = scope_of (known_in base) r in
+      let scope = scope_in base r in
       let both = both_empty _ _ e in
       let read = or_parts (is_foreign scope (Some k)) (is_misread scope o (Some k)) (when_absent (is_foreign scope (Some k) || is_misread scope o (Some k)) conditions.BadIndex r.place both.0) in
       let own = not-false (is_this scope.index k.name) read.0 in
       let over = g.index (name_there scope.index k.name own) in
-      let parts = or_parts (is_scalar a.field) scope.over_pool (sym (tested base (premise_set (known_in base) r.premise) o a (λ f. is_scalar f || scope.over_pool)) ∙ read.1) in
+      let parts = or_parts (is_scalar a.field) scope.over_pool (sym (tested base (premise_in base r) o a (λ f. is_scalar f || scope.over_pool)) ∙ read.1) in
       let len = known_value a.field.len parts.0 in
       let test = when_absent (has_other_length scope o (Some k)) conditions.LengthMismatch r.place both.1 in
       let at_place = ap (λ p. has_other_length scope p (Some k)) (sym a.found) ∙ test in
@@ -106,19 +106,19 @@ module _ (base : Structures) (r : Rule) (g : Grounded base r) where
       subst (RunsOver base (typed_span scope r.span)) (ap Some same ∙ sym len.is) (over.array parts.1)
 
   -- a path that refers to a pool, or reads a number
-  pub reads_here : (var : Var) (field : PlacedName) (index : Option PlacedName) (a : FieldHere base (premise_set (known_in base) r.premise) (path_field (scope_of (known_in base) r) var field)) (pool : Option ℕ) → index_faults (scope_of (known_in base) r) (path_field (scope_of (known_in base) r) var field) index ≡ [] → kind_pool a.field.kind ≡ pool → Reads base (rule_in (scope_of (known_in base) r) r) (typed_path (scope_of (known_in base) r) var field index) pool
+  pub reads_here : (var : Var) (field : PlacedName) (index : Option PlacedName) (a : FieldHere base (premise_in base r) (path_field (scope_in base r) var field)) (pool : Option ℕ) → index_faults (scope_in base r) (path_field (scope_in base r) var field) index ≡ [] → kind_pool a.field.kind ≡ pool → Reads base (rule_in (scope_in base r) r) (typed_path (scope_in base r) var field index) pool
   reads_here var field index a pool e kind =
-      let o = path_field (scope_of (known_in base) r) var field in
+      let o = path_field (scope_in base r) var field in
       record {
-        typed = record { field = a.field; is_field = is_field_here base (premise_set (known_in base) r.premise) o a; index = index_here o a index e };
+        typed = record { field = a.field; is_field = is_field_here base (premise_in base r) o a; index = index_here o a index e };
         kind = kind;
       }
 
   -- a guard
-  pub guard_here : (guard : Guard) → guard_faults (scope_of (known_in base) r) guard ≡ [] → IsTypedGuard base (rule_in (scope_of (known_in base) r) r) (typed_guard (scope_of (known_in base) r) guard)
+  pub guard_here : (guard : Guard) → guard_faults (scope_in base r) guard ≡ [] → IsTypedGuard base (rule_in (scope_in base r) r) (typed_guard (scope_in base r) guard)
   guard_here (guards.Tested place test path) e =
-      let scope = scope_of (known_in base) r in
-      let premise = premise_set (known_in base) r.premise in
+      let scope = scope_in base r in
+      let premise = premise_in base r in
       let o = path_field scope path.var path.field in
       let both = both_empty (path_faults scope path) _ e in
       let names = both_empty (path_names scope path.var path.field) (index_faults scope o path.index) both.0 in
@@ -129,8 +129,8 @@ module _ (base : Structures) (r : Rule) (g : Grounded base r) where
         test = ref_test test a.field (sym (tested base premise o a is_number) ∙ kinds.1);
       }
   guard_here (guards.Compared path compare number) e =
-      let scope = scope_of (known_in base) r in
-      let premise = premise_set (known_in base) r.premise in
+      let scope = scope_in base r in
+      let premise = premise_in base r in
       let o = path_field scope path.var path.field in
       let both = both_empty (path_faults scope path) _ e in
       let names = both_empty (path_names scope path.var path.field) (index_faults scope o path.index) both.0 in

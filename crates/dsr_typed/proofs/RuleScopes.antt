@@ -20,13 +20,20 @@ use Rattle.dsr_meaning.specs.Typed.{IsPoolNumber, ancestors, pool_at, premise_st
 use Rattle.dsr_meaning.proofs.Empty.{both_empty}
 use Rattle.dsr_text.proofs.Absent.{when_absent}
 use Rattle.dsr_typing.specs.Known.{known_in, record_field, plain_set, field_length, field_is}
-use Rattle.dsr_typing.specs.Rules.{scope_of, premise_set, record_name, record_structure, record_pool, index_name, field_of}
+use Rattle.dsr_typing.specs.Rules.{Scope, scope_of, premise_set, record_name, record_structure, record_pool, index_name, field_of}
 use Rattle.dsr_typing.specs.RuleFaults.{is_scalar, field_faults, premise_faults, span_faults}
 use Rattle.dsr_typing.specs.TypedRules.{number_of, field_in, typed_span}
 use Rattle.dsr_typed.proofs.FoundNames.{known_value, FoundField, found_field, found_plain, plain_is, found_pool, pool_is}
 
 pub is_some_and : {T : Type 0} (P : T → Type 0) (o : Option T) (x : T) → o ≡ Some x → P x → IsSomeAnd o P
 is_some_and P o x e p = subst (λ y. IsSomeAnd y P) (sym e) p
+
+-- what the names of a rule stand for, and the number of its premise's set
+abbrev pub scope_in : Structures → Rule → Scope
+scope_in base r = scope_of (known_in base) r
+
+abbrev pub premise_in : Structures → Rule → Option ℕ
+premise_in base r = premise_set (known_in base) r.premise
 
 -- ---- the record
 
@@ -82,11 +89,11 @@ found_in base q (Some j) i is e =
 
 module _ (base : Structures) (r : Rule) (p : KnownPremise base r.premise) where
   -- the field of a name that is no unknown one
-  pub field_here : (q : PlacedName) → field_faults (scope_of (known_in base) r) q ≡ [] → FieldHere base (premise_set (known_in base) r.premise) (field_of (scope_of (known_in base) r) q.name)
+  pub field_here : (q : PlacedName) → field_faults (scope_in base r) q ≡ [] → FieldHere base (premise_in base r) (field_of (scope_in base r) q.name)
   field_here q e =
-      let scope = scope_of (known_in base) r in
+      let scope = scope_in base r in
       let fails = when_absent (is_some scope.structure && is_none (field_of scope q.name)) conditions.UnknownName q.place e in
-      let f = found_in base q.name scope.structure (premise_structure base (premise_set (known_in base) r.premise)) p.structure fails in
+      let f = found_in base q.name scope.structure (premise_structure base (premise_in base r)) p.structure fails in
       record { place = f.place; field = f.field; found = f.found; is_field = record { declared = f.declared; named = f.named; of_record = f.among } }
 
 -- ---- the index
@@ -94,14 +101,14 @@ module _ (base : Structures) (r : Rule) (p : KnownPremise base r.premise) where
 -- what the index runs over
 pub record KnownIndex (base : Structures) (r : Rule) : Type 0 where
   pub count : ExprShape
-  pub entries : (scope_of (known_in base) r).entries ≡ Some count
-  pub same : span_length base (typed_span (scope_of (known_in base) r) r.span) ≡ Some count
-  pub array : (scope_of (known_in base) r).over_pool ≡ false → RunsOver base (typed_span (scope_of (known_in base) r) r.span) (Some count)
+  pub entries : (scope_in base r).entries ≡ Some count
+  pub same : span_length base (typed_span (scope_in base r) r.span) ≡ Some count
+  pub array : (scope_in base r).over_pool ≡ false → RunsOver base (typed_span (scope_in base r) r.span) (Some count)
 
 -- a rule whose record and index are known
 pub record Grounded (base : Structures) (r : Rule) : Type 0 where
   pub premise : KnownPremise base r.premise
-  pub span : IsTypedSpan base (premise_set (known_in base) r.premise) (typed_span (scope_of (known_in base) r) r.span)
+  pub span : IsTypedSpan base (premise_in base r) (typed_span (scope_in base r) r.span)
   pub index : is_some (index_name r.span) ≡ true → KnownIndex base r
 
 abbrev with_span : Rule → Option Span → Rule
@@ -125,7 +132,7 @@ ground_index base r name (indexes.Pool place q) p e =
 ground_index base r name (indexes.Array q) p e =
     let shape = with_span r (Some (record { name = name; index = indexes.Array q })) in
     let scope = scope_of (known_in base) shape in
-    let premise = premise_set (known_in base) r.premise in
+    let premise = premise_in base r in
     let both = both_empty _ _ (both_empty _ _ e).1 in
     let a = field_here base shape p q both.0 in
     let o = field_of scope q.name in
@@ -147,5 +154,5 @@ ground_span : (base : Structures) (r : Rule) (o : Option Span) → KnownPremise 
 ground_span base r None p e = record { premise = p; span = tt; index = λ h. absurd cc }
 ground_span base r (Some span) p e = ground_index base r span.name span.index p e
 
-pub grounded : (base : Structures) (r : Rule) → premise_faults (known_in base) r.premise ≡ [] → span_faults (scope_of (known_in base) r) r.span ≡ [] → Grounded base r
+pub grounded : (base : Structures) (r : Rule) → premise_faults (known_in base) r.premise ≡ [] → span_faults (scope_in base r) r.span ≡ [] → Grounded base r
 grounded base r e f = ground_span base r r.span (known_premise base r.premise e) f

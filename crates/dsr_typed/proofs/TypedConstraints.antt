@@ -1,18 +1,15 @@
 -- Constraints without faults are typed.
-use Rattle.std.proofs.Common.{◌≡◌, ◌≤◌, ◌+◌, ℕ, Bool, true, false, not, ◌||◌, nat_eq, nat_lt, List, [], ◌∷◌, ◌++◌, map, length, Option, None, Some, cond, slice_get, All, refl, sym, ap, ◌∙◌, subst, true≢false, arith}
+use Rattle.std.proofs.Common.{◌≡◌, ◌≤◌, ℕ, Bool, true, false, not, nat_eq, nat_lt, List, [], map, length, Option, None, Some, cond, All, refl, sym, ap, ◌∙◌, subst, true≢false, arith}
 use Rattle.std.proofs.lemmas.Bool.{not-false, or_parts, both_ways, ltb-false, eqb-true, eq-eqb}
 use Rattle.std.proofs.lemmas.List.{length-map}
 use Rattle.std.proofs.lemmas.List.Elements.{All-map}
 use Rattle.dsr_ir.specs.Formulas.{FormulaShape}
-use Rattle.dsr_ir.specs.declared.constraints.Atom.{Atom}
-use Rattle.dsr_ir.specs.declared.constraints.Conj.{Conj}
 use Rattle.dsr_ir.specs.declared.constraints.Literal.{Literal}
 use Rattle.dsr_ir.specs.declared.declarations.Structures.{Structures}
 use Rattle.dsr_tree.specs.Trees.{ConstraintTree}
 use Rattle.dsr_tree.specs.declared.faults.Condition.TheVariants as conditions
 use Rattle.dsr_tree.specs.declared.tree.Rule.{Rule}
-use Rattle.dsr_meaning.specs.Counting.{IsIn, AreMany}
-use Rattle.dsr_meaning.specs.Lists.{each_at}
+use Rattle.dsr_meaning.specs.Counting.{IsIn}
 use Rattle.dsr_meaning.specs.Typed.{AreDifferent, AreTyped, IsTypedAtom, IsTypedConj, IsTypedConstraint, IsTypedLiteral, HasAtom, constraint_limit}
 use Rattle.dsr_meaning.proofs.Empty.{both_empty, each_has, few}
 use Rattle.dsr_text.specs.Names.{is_at}
@@ -21,10 +18,10 @@ use Rattle.dsr_typing.specs.Known.{known_in}
 use Rattle.dsr_typing.specs.Constraints.{quantifier_faults, formula_faults, negations, constraint_number, own_faults, refusal_faults, form_faults, constraint_faults, constraints_faults}
 use Rattle.dsr_typing.specs.NormalForms.{distributed, conj_of, atoms_of, negates, longest, is_too_large, has_many_atoms, negated_value, too_many_conjunctions, too_many_atoms, refusal_of}
 use Rattle.dsr_typing.specs.RuleFaults.{rules_faults}
-use Rattle.dsr_typing.specs.TypedConstraints.{Scope, scope_of, typed_formula, without_complement, without_complements, typed_quant, typed_constraint, typed_constraints}
+use Rattle.dsr_typing.specs.TypedConstraints.{Scope, typed_formula, without_complement, without_complements, typed_quant, typed_constraint, typed_constraints}
 use Rattle.dsr_typed.specs.Meant.{meant}
-use Rattle.dsr_typed.proofs.BoundVariables.{Bound, bound}
-use Rattle.dsr_typed.proofs.FormulaAtoms.{IsSound, sound_formula, not_negated}
+use Rattle.dsr_typed.proofs.BoundVariables.{bound, binding_in}
+use Rattle.dsr_typed.proofs.FormulaAtoms.{sound_formula, not_negated}
 use Rattle.dsr_typed.proofs.FormulaLiterals.{each_from, below_longest}
 use Rattle.dsr_typed.proofs.Items.{all_in, made_in, mapped_is, each_is, different_names}
 use Rattle.dsr_typed.proofs.SameAtoms.{few_images}
@@ -62,8 +59,8 @@ has_form scope c e =
 record SoundConstraint (base : Structures) (rs : List Rule) (number : List ℕ → Option ℕ) (i : ℕ) (c : ConstraintTree) : Type 0 where
   pub named : number c.name.name ≡ Some i
   pub quantifier : quantifier_faults (known_in base) c.quantifier ≡ []
-  pub formula : formula_faults (scope_of (known_in base) c.quantifier) rs c.formula ≡ []
-  pub form : HasForm (typed_formula (scope_of (known_in base) c.quantifier) c.formula)
+  pub formula : formula_faults (binding_in base c.quantifier) rs c.formula ≡ []
+  pub form : HasForm (typed_formula (binding_in base c.quantifier) c.formula)
 
 -- a number that is found, and that is this one
 at_is : (n : ℕ) (o : Option ℕ) → not (is_at n o) ≡ false → o ≡ Some n
@@ -82,7 +79,7 @@ module _ (base : Structures) (rs : List Rule) (number : List ℕ → Option ℕ)
         named = at_is i (number c.name.name) (when_absent (not (is_at i (number c.name.name))) conditions.NameTwice c.name.place name.0);
         quantifier = rest.0;
         formula = rest.1;
-        form = has_form (scope_of (known_in base) c.quantifier) c (sym (ap (λ faults. form_faults (known_in base) faults c) both.0) ∙ both.1);
+        form = has_form (binding_in base c.quantifier) c (sym (ap (λ faults. form_faults (known_in base) faults c) both.0) ∙ both.1);
       }
 
   -- one that is one too many has a fault
@@ -94,7 +91,7 @@ module _ (base : Structures) (rs : List Rule) (number : List ℕ → Option ℕ)
 module _ (base : Structures) (typed : AreTyped base) (rs : List Rule) (constraints : List ConstraintTree) (empty : rules_faults (known_in base) rs ≡ []) where
   constraint_is_typed : (number : List ℕ → Option ℕ) (i : ℕ) (c : ConstraintTree) → constraint_faults (known_in base) rs number i c ≡ [] → IsTypedConstraint (meant base rs constraints) (typed_constraint (known_in base) c)
   constraint_is_typed number i c e =
-      let scope = scope_of (known_in base) c.quantifier in
+      let scope = binding_in base c.quantifier in
       let f = typed_formula scope c.formula in
       let conjs = distributed false false f in
       let sound = sound_constraint base rs number i c e in
@@ -104,16 +101,16 @@ module _ (base : Structures) (typed : AreTyped base) (rs : List Rule) (constrain
       let few_literals = ltb-false 8 (longest conjs) few_of.1 in
       let from = each_from false false false f (λ h. h) sound.form.negated in
       let literal : (d : List Literal) → IsIn d conjs → (l : Literal) → IsIn l d → IsTypedLiteral (meant base rs constraints) (typed_quant scope) (without_complement base l) = λ d is_conj l is_literal.
-          let l_from = from d l is_conj is_literal in
-          let a = sound_formula scope rs c.formula sound.formula l.atom l_from.stands in
-          literal_is_typed base typed rs constraints empty c.quantifier b l (atoms_of f) l_from (subst (λ x. IsTypedAtom (meant base rs constraints) (typed_quant scope) (base_atom base x)) (sym a.made) (atom_is_typed base typed rs constraints empty c.quantifier b a.tree a.no_fault)) in
+      let l_from = from d l is_conj is_literal in
+      let a = sound_formula scope rs c.formula sound.formula l.atom l_from.stands in
+      literal_is_typed base typed rs constraints empty c.quantifier b l (atoms_of f) l_from (subst (λ x. IsTypedAtom (meant base rs constraints) (typed_quant scope) (base_atom base x)) (sym a.made) (atom_is_typed base typed rs constraints empty c.quantifier b a.tree a.no_fault)) in
       let conj : (d : List Literal) → IsIn d conjs → IsTypedConj (meant base rs constraints) (typed_quant scope) (without_complements base (conj_of d)) = λ d is_conj.
-          let same = length-map d (without_complement base) in
-          let below = below_longest conjs d is_conj in
-          record {
-            few_literals = omega (arith, same, below, few_literals);
-            literals = All-map (IsTypedLiteral (meant base rs constraints) (typed_quant scope)) (without_complement base) d (all_in (λ l. IsTypedLiteral (meant base rs constraints) (typed_quant scope) (without_complement base l)) d (literal d is_conj));
-          } in
+      let same = length-map d (without_complement base) in
+      let below = below_longest conjs d is_conj in
+      record {
+        few_literals = omega (arith, same, below, few_literals);
+        literals = All-map (IsTypedLiteral (meant base rs constraints) (typed_quant scope)) (without_complement base) d (all_in (λ l. IsTypedLiteral (meant base rs constraints) (typed_quant scope) (without_complement base l)) d (literal d is_conj));
+      } in
       let outer = length-map (map conj_of conjs) (without_complements base) in
       let inner = length-map conjs conj_of in
       record {
@@ -121,10 +118,10 @@ module _ (base : Structures) (typed : AreTyped base) (rs : List Rule) (constrain
         few_conjs = omega (arith, outer, inner, few_conjs);
         conjs = All-map (IsTypedConj (meant base rs constraints) (typed_quant scope)) (without_complements base) (map conj_of conjs) (All-map (λ x. IsTypedConj (meant base rs constraints) (typed_quant scope) (without_complements base x)) conj_of conjs (all_in (λ d. IsTypedConj (meant base rs constraints) (typed_quant scope) (without_complements base (conj_of d))) conjs conj));
         few_atoms = few_images (atoms_of f) (base_atom base) sound.form.many (HasAtom (typed_constraint (known_in base) c)) (λ y has.
-        let x = made_in (without_complements base) (map conj_of conjs) has.0 has.2 in
-        let d = made_in conj_of conjs x.item x.is in
-        let l = made_in (without_complement base) d.item has.1 (subst (λ z. IsIn has.1 z.literals) (x.made ∙ ap (without_complements base) d.made) has.3) in
-        (l.item.atom, (from d.item l.item d.is l.is).stands, sym has.4 ∙ (ap (λ z. z.atom) l.made ∙ rewritten base l.item)));
+            let x = made_in (without_complements base) (map conj_of conjs) has.0 has.2 in
+            let d = made_in conj_of conjs x.item x.is in
+            let l = made_in (without_complement base) d.item has.1 (subst (λ z. IsIn has.1 z.literals) (x.made ∙ ap (without_complements base) d.made) has.3) in
+            (l.item.atom, (from d.item l.item d.is l.is).stands, sym has.4 ∙ (ap (λ z. z.atom) l.made ∙ rewritten base l.item)));
       }
 
   pub constraints_are_typed : constraints_faults (known_in base) rs constraints ≡ [] → All (IsTypedConstraint (meant base rs constraints)) (meant base rs constraints).constraints

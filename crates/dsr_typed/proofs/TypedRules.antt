@@ -11,19 +11,19 @@ use Rattle.dsr_meaning.specs.Typed.{IsTypedGuard, IsTypedRule}
 use Rattle.dsr_meaning.proofs.Empty.{both_empty, each_has, few}
 use Rattle.dsr_text.proofs.Absent.{when_absent}
 use Rattle.dsr_typing.specs.Known.{known_in}
-use Rattle.dsr_typing.specs.Rules.{scope_of, guards_of}
+use Rattle.dsr_typing.specs.Rules.{guards_of}
 use Rattle.dsr_typing.specs.RuleFaults.{guard_faults, inclusion_faults, rule_faults, rules_faults}
 use Rattle.dsr_typing.specs.TypedRules.{typed_guard, rule_in, typed_rule, typed_rules}
 use Rattle.dsr_typed.proofs.RulePaths.{guard_here}
-use Rattle.dsr_typed.proofs.RuleScopes.{Grounded, grounded}
+use Rattle.dsr_typed.proofs.RuleScopes.{Grounded, grounded, scope_in}
 use Rattle.dsr_typed.proofs.TypedInclusions.{inclusion_here}
 
 -- a rule without fault, one part after another
 pub record SoundRule (base : Structures) (r : Rule) : Type 0 where
   pub few_guards : length (guards_of r.guards) ≤ 4
   pub ground : Grounded base r
-  pub guards : each_at (λ _ g. guard_faults (scope_of (known_in base) r) g) 0 (guards_of r.guards) ≡ []
-  pub inclusion : inclusion_faults (scope_of (known_in base) r) r.inclusion ≡ []
+  pub guards : each_at (λ _ g. guard_faults (scope_in base r) g) 0 (guards_of r.guards) ≡ []
+  pub inclusion : inclusion_faults (scope_in base r) r.inclusion ≡ []
 
 module _ (base : Structures) where
   pub sound_rule : (i : ℕ) (r : Rule) → rule_faults (known_in base) i r ≡ [] → SoundRule base r
@@ -31,7 +31,7 @@ module _ (base : Structures) where
       let limits = both_empty _ _ e in
       let premise = both_empty _ _ limits.1 in
       let span = both_empty _ _ premise.1 in
-      let last = both_empty (each_at (λ _ g. guard_faults (scope_of (known_in base) r) g) 0 (guards_of r.guards)) _ span.1 in
+      let last = both_empty (each_at (λ _ g. guard_faults (scope_in base r) g) 0 (guards_of r.guards)) _ span.1 in
       let below = or_parts (nat_eq i 128) (nat_lt 4 (length (guards_of r.guards))) (when_absent (nat_eq i 128 || nat_lt 4 (length (guards_of r.guards))) conditions.Limit r.place limits.0) in
       record {
         few_guards = ltb-false 4 (length (guards_of r.guards)) below.1;
@@ -42,7 +42,7 @@ module _ (base : Structures) where
 
   rule_is_typed : (i : ℕ) (r : Rule) → rule_faults (known_in base) i r ≡ [] → IsTypedRule base (typed_rule (known_in base) r)
   rule_is_typed i r e =
-      let scope = scope_of (known_in base) r in
+      let scope = scope_in base r in
       let sound = sound_rule i r e in
       let guards = guards_of r.guards in
       record {

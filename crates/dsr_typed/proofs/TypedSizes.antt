@@ -1,8 +1,8 @@
 -- The sizes of a constraint without fault are typed.
-use Rattle.std.proofs.Common.{◌≡◌, ◌<◌, ℕ, Bool, true, false, ◌&&◌, ◌||◌, List, [], ◌∷◌, length, Option, None, Some, is_some, is_none, cond, slice_get, option_and_then, refl, sym, ap, ◌∙◌, subst, true≢false}
-use Rattle.std.specs.Prelude.{IsSome, IsSomeAnd}
+use Rattle.std.proofs.Common.{◌≡◌, ◌<◌, ℕ, Bool, true, false, ◌&&◌, ◌||◌, [], length, Option, None, Some, is_some, is_none, cond, slice_get, refl, sym, ap, ◌∙◌, subst, true≢false}
+use Rattle.std.specs.Prelude.{IsSome}
 use Rattle.std.specs.Option.{option_map_or}
-use Rattle.std.proofs.lemmas.Bool.{and_parts, or_parts, or_right}
+use Rattle.std.proofs.lemmas.Bool.{and_parts}
 use Rattle.std.proofs.lemmas.Option.{slice_get_within}
 use Rattle.dsr_ir.specs.declared.constraints.Measure.{Measure}
 use Rattle.dsr_ir.specs.declared.constraints.Measure.TheVariants as measures
@@ -18,10 +18,9 @@ use Rattle.dsr_text.specs.Faults.{when}
 use Rattle.dsr_text.proofs.Absent.{when_absent}
 use Rattle.dsr_typing.specs.Known.{known_in, relation_named}
 use Rattle.dsr_typing.specs.Constraints.{pool_of, size_names, has_other_source, has_other_targets, relation_at, size_mismatches, counts_numbers}
-use Rattle.dsr_typing.specs.RuleFaults.{is_other_target}
-use Rattle.dsr_typing.specs.TypedConstraints.{Scope, scope_of, variable, variable_in, relation_of, set_of, counts_targets, counts_sources, typed_size, typed_quant}
+use Rattle.dsr_typing.specs.TypedConstraints.{variable, variable_in, relation_of, counts_targets, counts_sources, typed_size, typed_quant}
 use Rattle.dsr_typing.specs.TypedRules.{number_of}
-use Rattle.dsr_typed.proofs.BoundVariables.{VarOf, Bound, variable_there}
+use Rattle.dsr_typed.proofs.BoundVariables.{Bound, variable_there, binding_in}
 use Rattle.dsr_typed.proofs.FoundNames.{FoundItem, found_set, found_relation, relation_is}
 use Rattle.dsr_typed.proofs.RulePaths.{some_value}
 use Rattle.dsr_typed.proofs.RuleScopes.{is_some_and}
@@ -47,13 +46,13 @@ number_at base number f = ap (λ n. slice_get base.rels (number_of n)) f.found �
 
 module _ (base : Structures) (quantifier : Option Quantifier) (b : Bound base quantifier) where
   pub record IsTypedSize (measure : Measure) (counts : Bool) : Type 0 where
-    pub typed : IsTypedMeasure base (typed_quant (scope_of (known_in base) quantifier)) measure
+    pub typed : IsTypedMeasure base (typed_quant (binding_in base quantifier)) measure
     pub records : counts ≡ false → CountsRecords base measure
 
   -- the targets of a variable
-  targets_size : (a : Var) (q : PlacedName) → counts_targets (scope_of (known_in base) quantifier) a q ≡ true → has_other_source (relation_named (known_in base) q.name) (pool_of (scope_of (known_in base) quantifier) a) ≡ false → IsTypedSize (measures.Out (variable_in (scope_of (known_in base) quantifier) a) (number_of ((known_in base).relation q.name))) (counts_numbers (scope_of (known_in base) quantifier) a (Some q))
+  targets_size : (a : Var) (q : PlacedName) → counts_targets (binding_in base quantifier) a q ≡ true → has_other_source (relation_named (known_in base) q.name) (pool_of (binding_in base quantifier) a) ≡ false → IsTypedSize (measures.Out (variable_in (binding_in base quantifier) a) (number_of ((known_in base).relation q.name))) (counts_numbers (binding_in base quantifier) a (Some q))
   targets_size a q is e =
-      let scope = scope_of (known_in base) quantifier in
+      let scope = binding_in base quantifier in
       let both = and_parts (is_some (variable scope a)) (is_some ((known_in base).relation q.name)) is in
       let v = variable_there base quantifier b a both.0 in
       let f = found_relation base q.name (not_none ((known_in base).relation q.name) both.1) in
@@ -67,10 +66,10 @@ module _ (base : Structures) (quantifier : Option Quantifier) (b : Bound base qu
       }
 
   -- the sources of a variable
-  sources_size : (a : Var) (q : PlacedName) → counts_sources (scope_of (known_in base) quantifier) a q ≡ true → has_other_targets (relation_at (known_in base) a) (pool_of (scope_of (known_in base) quantifier) (vars.Name q)) ≡ false → IsTypedSize (measures.Into (number_of (relation_of (known_in base) a)) (variable_in (scope_of (known_in base) quantifier) (vars.Name q))) (counts_numbers (scope_of (known_in base) quantifier) a (Some q))
+  sources_size : (a : Var) (q : PlacedName) → counts_sources (binding_in base quantifier) a q ≡ true → has_other_targets (relation_at (known_in base) a) (pool_of (binding_in base quantifier) (vars.Name q)) ≡ false → IsTypedSize (measures.Into (number_of (relation_of (known_in base) a)) (variable_in (binding_in base quantifier) (vars.Name q))) (counts_numbers (binding_in base quantifier) a (Some q))
   sources_size (vars.Head place) q is e = absurd (true≢false (sym is))
   sources_size (vars.Name a) q is e =
-      let scope = scope_of (known_in base) quantifier in
+      let scope = binding_in base quantifier in
       let both = and_parts (is_some ((known_in base).relation a.name)) (is_some (variable scope (vars.Name q))) is in
       let v = variable_there base quantifier b (vars.Name q) both.1 in
       let f = found_relation base a.name (not_none ((known_in base).relation a.name) both.0) in
@@ -81,9 +80,9 @@ module _ (base : Structures) (quantifier : Option Quantifier) (b : Bound base qu
         records = λ _. tt;
       }
 
-  either_size : (a : Var) (q : PlacedName) → (counts_targets (scope_of (known_in base) quantifier) a q || counts_sources (scope_of (known_in base) quantifier) a q) ≡ true → cond (counts_targets (scope_of (known_in base) quantifier) a q) (has_other_source (relation_named (known_in base) q.name) (pool_of (scope_of (known_in base) quantifier) a)) (has_other_targets (relation_at (known_in base) a) (pool_of (scope_of (known_in base) quantifier) (vars.Name q))) ≡ false → IsTypedSize (typed_size (scope_of (known_in base) quantifier) a (Some q)) (counts_numbers (scope_of (known_in base) quantifier) a (Some q))
+  either_size : (a : Var) (q : PlacedName) → (counts_targets (binding_in base quantifier) a q || counts_sources (binding_in base quantifier) a q) ≡ true → cond (counts_targets (binding_in base quantifier) a q) (has_other_source (relation_named (known_in base) q.name) (pool_of (binding_in base quantifier) a)) (has_other_targets (relation_at (known_in base) a) (pool_of (binding_in base quantifier) (vars.Name q))) ≡ false → IsTypedSize (typed_size (binding_in base quantifier) a (Some q)) (counts_numbers (binding_in base quantifier) a (Some q))
   either_size a q is e =
-      let scope = scope_of (known_in base) quantifier in
+      let scope = binding_in base quantifier in
       let source = has_other_source (relation_named (known_in base) q.name) (pool_of scope a) in
       let targets = has_other_targets (relation_at (known_in base) a) (pool_of scope (vars.Name q)) in
       let out = measures.Out (variable_in scope a) (number_of ((known_in base).relation q.name)) in
@@ -93,7 +92,7 @@ module _ (base : Structures) (quantifier : Option Quantifier) (b : Bound base qu
         | false ↦ λ _ counts h. sources_size a q counts h
       ] refl is e
 
-  pub size_is_typed : (a : Var) (part : Option PlacedName) → size_names (scope_of (known_in base) quantifier) a part ≡ [] → size_mismatches (scope_of (known_in base) quantifier) a part ≡ false → IsTypedSize (typed_size (scope_of (known_in base) quantifier) a part) (counts_numbers (scope_of (known_in base) quantifier) a part)
+  pub size_is_typed : (a : Var) (part : Option PlacedName) → size_names (binding_in base quantifier) a part ≡ [] → size_mismatches (binding_in base quantifier) a part ≡ false → IsTypedSize (typed_size (binding_in base quantifier) a part) (counts_numbers (binding_in base quantifier) a part)
   size_is_typed (vars.Head place) None names e = absurd (true≢false e)
   size_is_typed (vars.Name a) None names e =
       let f = found_set base a.name (when_absent (is_none ((known_in base).set a.name)) conditions.UnknownName a.place names) in
@@ -103,13 +102,13 @@ module _ (base : Structures) (quantifier : Option Quantifier) (b : Bound base qu
       }
   size_is_typed (vars.Head place) (Some q) names e =
       let known = some_value ((known_in base).relation q.name) (when_absent (is_none ((known_in base).relation q.name)) conditions.UnknownName q.place names) in
-      either_size (vars.Head place) q (ap (λ c. c || counts_sources (scope_of (known_in base) quantifier) (vars.Head place) q) known) e
+      either_size (vars.Head place) q (ap (λ c. c || counts_sources (binding_in base quantifier) (vars.Head place) q) known) e
   size_is_typed (vars.Name a) (Some q) names e =
-      let scope = scope_of (known_in base) quantifier in
+      let scope = binding_in base quantifier in
       let place = cond (is_some (variable scope (vars.Name a)) || is_some ((known_in base).relation a.name)) q.place a.place in
       let counts : (counts_targets scope (vars.Name a) q || counts_sources scope (vars.Name a) q) ≡ true =
-          elim (counts_targets scope (vars.Name a) q || counts_sources scope (vars.Name a) q) as (λ c. cond c [] (when true conditions.UnknownName place) ≡ [] → c ≡ true) [
-            | true ↦ λ _. refl
-            | false ↦ λ h. absurd (true≢false (when_absent true conditions.UnknownName place h))
-          ] names in
+      elim (counts_targets scope (vars.Name a) q || counts_sources scope (vars.Name a) q) as (λ c. cond c [] (when true conditions.UnknownName place) ≡ [] → c ≡ true) [
+        | true ↦ λ _. refl
+        | false ↦ λ h. absurd (true≢false (when_absent true conditions.UnknownName place h))
+      ] names in
       either_size (vars.Name a) q counts e

@@ -1,9 +1,9 @@
-mod AtomLists
-mod Conjunctions
-mod Derived
-mod Joining
-mod Pushes
-mod Rows
-mod Saying
-mod Sizing
-mod Steps
+pub mod AtomLists
+pub mod Conjunctions
+pub mod Derived
+pub mod Joining
+pub mod Pushes
+pub mod Rows
+pub mod Saying
+pub mod Sizing
+pub mod Steps

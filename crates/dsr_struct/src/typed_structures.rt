@@ -31,7 +31,7 @@ impl Names<'_> {
         requires fit { AllFit (known_of self.now) }
         ensures { result ≡ pool_in (known_of self.now) name.now }
     {
-        number_in(&self.tables.pools, name) + 1
+        number_in(&self.tables.symbols.pools, name) + 1
     }
 
     /// The structure of a name as a parent, a pool's structure or a set's.
@@ -149,7 +149,7 @@ impl Names<'_> {
         requires fit { AllFit (known_of self.now) }
         ensures { IfOk result (λ ns. ns ≡ avoided_by (known_of self.now) supply.now) }
     {
-        let sets = &self.tables.sets;
+        let sets = &self.tables.symbols.sets;
         let mut numbers = Vec::new(alloc);
         numbers.push(number_in(sets, &supply.first))?;
         for set in supply.rest.items() {

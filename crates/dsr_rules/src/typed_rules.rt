@@ -121,11 +121,12 @@ impl Scope<'_> {
         ensures { IfOk result (λ gs. gs ≡ map (typed_guard (scope_told self.now)) (guards_of guards.now)) }
     {
         let mut typed = Vec::new(alloc);
-        if let Some(guards) = guards {
-            typed.push(self.typed_guard(&guards.first))?;
-            for guard in guards.rest.items() {
-                typed.push(self.typed_guard(guard))?;
-            }
+        let Some(guards) = guards else {
+            return Ok(Seq::new(typed));
+        };
+        typed.push(self.typed_guard(&guards.first))?;
+        for guard in guards.rest.items() {
+            typed.push(self.typed_guard(guard))?;
         }
         Ok(Seq::new(typed))
     }

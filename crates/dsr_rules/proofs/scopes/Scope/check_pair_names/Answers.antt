@@ -1,0 +1,5 @@
+use Rattle.dsr_faults.proofs.Finding.{finds_then}
+use Rattle.dsr_rules.proofs.scopes.Scope.check_pair_names.Goals as goal
+
+pub returns-else-is_source-clause-told : goal.returns-else-is_source-clause-told
+returns-else-is_source-clause-told c = finds_then c.note_found-is_relation.ensures.told (finds_then c.check_term_names-is_source.ensures.told c.check_path_names-is_path.ensures.told)

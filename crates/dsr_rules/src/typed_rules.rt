@@ -1,5 +1,5 @@
 // The typed rules of a tree, where it has no fault.
-ghost use Rattle.std.specs.Prelude.{◌≡◌, Some, map, IfOk};
+ghost use Rattle.std.specs.Prelude.{◌≡◌, ◌∷◌, Some, map, IfOk};
 ghost use Rattle.dsr_names.specs.Tables.{known_of};
 ghost use Rattle.dsr_tree.specs.declared.tree.MemberPart.TheVariants as parts;
 ghost use Rattle.dsr_tree.specs.declared.tree.Term.TheVariants as terms;
@@ -117,18 +117,24 @@ impl Scope<'_> {
         }
     }
 
-    fn typed_guards(&self, alloc: Global, guards: &Option<Guards>) -> Result<Seq<Guard>, NoMemory>
-        ensures { IfOk result (λ gs. gs ≡ map (typed_guard (scope_told self.now)) (guards_of guards.now)) }
+    fn typed_guard_list(&self, alloc: Global, guards: &Guards) -> Result<Seq<Guard>, NoMemory>
+        ensures { IfOk result (λ gs. gs ≡ map (typed_guard (scope_told self.now)) (guards.now.first ∷ guards.now.rest)) }
     {
         let mut typed = Vec::new(alloc);
-        let Some(guards) = guards else {
-            return Ok(Seq::new(typed));
-        };
         typed.push(self.typed_guard(&guards.first))?;
         for guard in guards.rest.items() {
             typed.push(self.typed_guard(guard))?;
         }
         Ok(Seq::new(typed))
+    }
+
+    fn typed_guards(&self, alloc: Global, guards: &Option<Guards>) -> Result<Seq<Guard>, NoMemory>
+        ensures { IfOk result (λ gs. gs ≡ map (typed_guard (scope_told self.now)) (guards_of guards.now)) }
+    {
+        match guards {
+            Some(guards) => self.typed_guard_list(alloc, guards),
+            None => Ok(Seq::new(Vec::new(alloc))),
+        }
     }
 
     fn typed_index(&self, index: &Index) -> Span

@@ -1,5 +1,5 @@
 -- What a scope of the code tells, as definitions and contracts see it.
-use Rattle.std.specs.Prelude.{◌++◌, List, Option, None, Some, option_map}
+use Rattle.std.specs.Prelude.{List, Option, option_map}
 use Rattle.dsr_tree.specs.declared.faults.Fault.{Fault}
 use Rattle.dsr_tree.specs.declared.tree.Inclusion.TheVariants as inclusions
 use Rattle.dsr_tree.specs.declared.tree.MemberPart.{MemberPart}

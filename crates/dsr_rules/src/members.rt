@@ -107,7 +107,13 @@ impl Scope<'_> {
     }
 
     // The slot of a pool at an index.
-    fn check_slot_of(&self, told: &mut Told, pool: &PlacedName, index: &PlacedName, set: &PlacedName)
+    fn check_slot_of(
+        &self,
+        told: &mut Told,
+        pool: &PlacedName,
+        index: &PlacedName,
+        set: &PlacedName,
+    )
         ensures { Finds (faults_of_member (scope_told self.now) (vars.Name pool.now) (Some (parts.Slot index.now)) set.now) told.old.fault told.new.fault }
     {
         let number = self.known.pool(&pool.name);

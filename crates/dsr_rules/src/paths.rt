@@ -127,12 +127,7 @@ impl Scope<'_> {
     }
 
     /// Notes what is wrong with the index by which a field is read.
-    pub fn check_index(
-        &self,
-        told: &mut Told,
-        field: Option<FieldRef>,
-        index: &Option<PlacedName>,
-    )
+    pub fn check_index(&self, told: &mut Told, field: Option<FieldRef>, index: &Option<PlacedName>)
         ensures { Finds (index_faults (scope_told self.now) field index.now) told.old.fault told.new.fault }
     {
         let is_bad = self.is_bad_index(field, index);

@@ -100,7 +100,11 @@ fn array_field(known: &Known<'_>, structure: Option<u32>, name: &Name) -> Option
 }
 
 // How many entries the array of a field has, where the field is known.
-fn array_length<'a>(known: &Known<'a>, structure: Option<u32>, array: &PlacedName) -> Option<&'a Expr>
+fn array_length<'a>(
+    known: &Known<'a>,
+    structure: Option<u32>,
+    array: &PlacedName,
+) -> Option<&'a Expr>
     ensures { option_map (λ e. e.now) result ≡ index_entries (known_of known.now) structure (indexes.Array array.now) }
 {
     match array_field(known, structure, &array.name) {

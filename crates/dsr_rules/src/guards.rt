@@ -1,5 +1,5 @@
 // The faults of guards.
-ghost use Rattle.std.specs.Prelude.{◌≡◌, ◌||◌, Some};
+ghost use Rattle.std.specs.Prelude.{◌≡◌, ◌||◌};
 ghost use Rattle.dsr_tree.specs.declared.tree.Guard.TheVariants as guards;
 ghost use Rattle.dsr_meaning.specs.Lists.{each_at};
 ghost use Rattle.dsr_typing.specs.Known.{field_is};

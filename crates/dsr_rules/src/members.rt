@@ -3,7 +3,6 @@ ghost use Rattle.std.specs.Prelude.{◌≡◌, ◌||◌, None, Some, option_map}
 ghost use Rattle.dsr_tree.specs.declared.tree.Inclusion.TheVariants as inclusions;
 ghost use Rattle.dsr_tree.specs.declared.tree.MemberPart.TheVariants as parts;
 ghost use Rattle.dsr_tree.specs.declared.tree.Var.TheVariants as vars;
-ghost use Rattle.dsr_text.specs.Declarations.{disagree};
 ghost use Rattle.dsr_typing.specs.Known.{is_nil, plain_set, plain_named, field_is, unknown};
 ghost use Rattle.dsr_typing.specs.Rules.{path_field};
 ghost use Rattle.dsr_typing.specs.RuleFaults.{is_other_head, refers_elsewhere, inclusion_faults};

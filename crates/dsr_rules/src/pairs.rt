@@ -1,12 +1,12 @@
 // The faults of pairs that rules give.
-ghost use Rattle.std.specs.Prelude.{◌≡◌, ◌++◌, ◌&&◌, option_map};
+ghost use Rattle.std.specs.Prelude.{◌≡◌, ◌&&◌, option_map};
 ghost use Rattle.dsr_tree.specs.declared.faults.Condition.TheVariants as conditions;
 ghost use Rattle.dsr_tree.specs.declared.tree.Inclusion.TheVariants as inclusions;
 ghost use Rattle.dsr_tree.specs.declared.tree.Term.TheVariants as terms;
 ghost use Rattle.dsr_text.specs.Faults.{when};
 ghost use Rattle.dsr_typing.specs.Known.{is_nil};
 ghost use Rattle.dsr_typing.specs.Rules.{path_field};
-ghost use Rattle.dsr_typing.specs.RuleFaults.{term_names, term_faults, term_pool, is_no_pair, relates_others, pair_mismatches, inclusion_names, inclusion_mismatches, inclusion_faults};
+ghost use Rattle.dsr_typing.specs.RuleFaults.{term_names, term_faults, term_pool, is_no_pair, relates_others, pair_mismatches, inclusion_faults};
 ghost use Rattle.dsr_rules.specs.Scopes.{scope_told, pair_names};
 ghost use Rattle.dsr_faults.specs.Telling.{Finds};
 

@@ -1,8 +1,8 @@
 // The names and the indexes of paths.
-ghost use Rattle.std.specs.Prelude.{◌≡◌, ◌&&◌, ◌||◌, not, is_none, is_some, option_map, Some};
+ghost use Rattle.std.specs.Prelude.{◌≡◌, ◌||◌, not, Some};
 ghost use Rattle.dsr_tree.specs.declared.faults.Condition.TheVariants as conditions;
 ghost use Rattle.dsr_text.specs.Faults.{when};
-ghost use Rattle.dsr_typing.specs.Known.{is_nil, unknown, differ, field_length, is_this};
+ghost use Rattle.dsr_typing.specs.Known.{is_nil, unknown};
 ghost use Rattle.dsr_typing.specs.Rules.{field_of, path_field};
 ghost use Rattle.dsr_typing.specs.RuleFaults.{is_other_head, variable_faults, field_faults, path_names, is_foreign, is_misread, has_other_length, index_faults, path_faults, counts_others, slot_faults};
 ghost use Rattle.dsr_rules.specs.Scopes.{scope_told};

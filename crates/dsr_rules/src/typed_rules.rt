@@ -1,7 +1,6 @@
 // The typed rules of a tree, where it has no fault.
 ghost use Rattle.std.specs.Prelude.{◌≡◌, ◌∷◌, Some, map, IfOk};
 ghost use Rattle.dsr_names.specs.Tables.{known_of};
-ghost use Rattle.dsr_tree.specs.declared.tree.MemberPart.TheVariants as parts;
 ghost use Rattle.dsr_tree.specs.declared.tree.Term.TheVariants as terms;
 ghost use Rattle.dsr_typing.specs.Rules.{guards_of, premise_set};
 ghost use Rattle.dsr_typing.specs.TypedRules.{number_of, field_in, pool_in, typed_compare, typed_test, typed_path, path_in, typed_guard, typed_index, typed_span, typed_pair, slot_pool, typed_member, typed_inclusion, rule_in, typed_rule, typed_rules};

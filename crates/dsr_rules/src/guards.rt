@@ -1,11 +1,7 @@
 // The faults of guards.
-ghost use Rattle.std.specs.Prelude.{◌≡◌, ◌||◌};
-ghost use Rattle.dsr_tree.specs.declared.tree.Guard.TheVariants as guards;
-ghost use Rattle.dsr_meaning.specs.Lists.{each_at};
-ghost use Rattle.dsr_typing.specs.Known.{field_is};
-ghost use Rattle.dsr_typing.specs.Rules.{guards_of};
-ghost use Rattle.dsr_typing.specs.RuleFaults.{is_number, is_reference, is_other_head, guard_faults};
-ghost use Rattle.dsr_rules.specs.Scopes.{scope_told};
+ghost use Rattle.std.specs.Prelude.{◌≡◌};
+ghost use Rattle.dsr_typing.specs.RuleFaults.{guard_faults};
+ghost use Rattle.dsr_rules.specs.Scopes.{scope_told, is_no_reference, is_no_number, tested_faults, compared_faults, more_guards_faults, guards_faults};
 ghost use Rattle.dsr_faults.specs.Telling.{Finds};
 
 use crate::scopes::{Scope, var_place};
@@ -16,20 +12,20 @@ use dsr_tree::{Compare, Condition, Guard, Guards, Path, PlacedNumber, RefTest, V
 impl Scope<'_> {
     // Whether what a guard tests is known to be no reference of the record.
     fn is_no_reference(&self, var: &Var, field: Option<FieldRef>) -> bool
-        ensures { result ≡ (is_other_head (scope_told self.now) var.now || field_is self.now.known.base.now is_number field) }
+        ensures { result ≡ is_no_reference (scope_told self.now) var.now field }
     {
         self.is_other_head(var) || self.is_number(field)
     }
 
     // Whether what a guard compares is known to be no number of the record.
     fn is_no_number(&self, var: &Var, field: Option<FieldRef>) -> bool
-        ensures { result ≡ (is_other_head (scope_told self.now) var.now || field_is self.now.known.base.now is_reference field) }
+        ensures { result ≡ is_no_number (scope_told self.now) var.now field }
     {
         self.is_other_head(var) || self.is_reference(field)
     }
 
     fn check_tested(&self, told: &mut Told, place: u64, test: RefTest, path: &Path)
-        ensures { Finds (guard_faults (scope_told self.now) (guards.Tested place test path.now)) told.old.fault told.new.fault }
+        ensures { Finds (tested_faults (scope_told self.now) place test path.now) told.old.fault told.new.fault }
     {
         let field = self.check_path(told, path);
         let is_no_reference = self.is_no_reference(&path.var, field);
@@ -37,7 +33,7 @@ impl Scope<'_> {
     }
 
     fn check_compared(&self, told: &mut Told, path: &Path, compare: Compare, number: PlacedNumber)
-        ensures { Finds (guard_faults (scope_told self.now) (guards.Compared path.now compare number)) told.old.fault told.new.fault }
+        ensures { Finds (compared_faults (scope_told self.now) path.now compare number) told.old.fault told.new.fault }
     {
         let field = self.check_path(told, path);
         let is_no_number = self.is_no_number(&path.var, field);
@@ -60,7 +56,7 @@ impl Scope<'_> {
     }
 
     fn check_more_guards(&self, told: &mut Told, guards: &[Guard])
-        ensures { Finds (each_at (λ _ g. guard_faults (scope_told self.now) g) 1 guards.now) told.old.fault told.new.fault }
+        ensures { Finds (more_guards_faults (scope_told self.now) guards.now) told.old.fault told.new.fault }
     {
         for guard in guards {
             self.check_guard(told, guard);
@@ -69,7 +65,7 @@ impl Scope<'_> {
 
     /// Notes the faults of a rule's guards.
     pub fn check_guards(&self, told: &mut Told, guards: &Option<Guards>)
-        ensures { Finds (each_at (λ _ g. guard_faults (scope_told self.now) g) 0 (guards_of guards.now)) told.old.fault told.new.fault }
+        ensures { Finds (guards_faults (scope_told self.now) guards.now) told.old.fault told.new.fault }
     {
         if let Some(guards) = guards {
             self.check_guard(told, &guards.first);

@@ -1,12 +1,10 @@
 // The faults of members that rules give, and of inclusions.
-ghost use Rattle.std.specs.Prelude.{◌≡◌, ◌||◌, None, Some, option_map};
-ghost use Rattle.dsr_tree.specs.declared.tree.Inclusion.TheVariants as inclusions;
-ghost use Rattle.dsr_tree.specs.declared.tree.MemberPart.TheVariants as parts;
+ghost use Rattle.std.specs.Prelude.{◌≡◌, Some, option_map};
 ghost use Rattle.dsr_tree.specs.declared.tree.Var.TheVariants as vars;
-ghost use Rattle.dsr_typing.specs.Known.{is_nil, plain_set, plain_named, field_is, unknown};
+ghost use Rattle.dsr_typing.specs.Known.{is_nil, plain_named};
 ghost use Rattle.dsr_typing.specs.Rules.{path_field};
-ghost use Rattle.dsr_typing.specs.RuleFaults.{is_other_head, refers_elsewhere, inclusion_faults};
-ghost use Rattle.dsr_rules.specs.Scopes.{scope_told, names_of_member, faults_of_member};
+ghost use Rattle.dsr_typing.specs.RuleFaults.{inclusion_faults};
+ghost use Rattle.dsr_rules.specs.Scopes.{scope_told, set_names, faults_of_member, target_names, target_faults, leads_elsewhere, slot_names, slot_member_faults, record_names, own_faults};
 ghost use Rattle.dsr_faults.specs.Telling.{Finds};
 
 use crate::fields::disagree;
@@ -20,8 +18,8 @@ use dsr_tree::{Inclusion, Member, MemberPart, PlacedName, Var};
 impl Scope<'_> {
     // Notes a set that is none or a complement, and says whether it is neither.
     fn check_set(&self, told: &mut Told, set: &PlacedName) -> bool
-        ensures told { Finds (unknown (plain_set (scope_told self.now).known set.now.name) set.now) told.old.fault told.new.fault }
-        ensures known { result ≡ is_nil (unknown (plain_set (scope_told self.now).known set.now.name) set.now) }
+        ensures told { Finds (set_names (scope_told self.now) set.now) told.old.fault told.new.fault }
+        ensures known { result ≡ is_nil (set_names (scope_told self.now) set.now) }
     {
         note_found(told, self.known.plain_set(&set.name), set)
     }
@@ -47,8 +45,8 @@ impl Scope<'_> {
         set: &PlacedName,
     ) -> bool
         requires found { found ≡ path_field (scope_told self.now) var.now field.now }
-        ensures told { Finds (names_of_member (scope_told self.now) var.now (Some (parts.Field field.now index.now)) set.now) told.old.fault told.new.fault }
-        ensures known { result ≡ is_nil (names_of_member (scope_told self.now) var.now (Some (parts.Field field.now index.now)) set.now) }
+        ensures told { Finds (target_names (scope_told self.now) var.now field.now index.now set.now) told.old.fault told.new.fault }
+        ensures known { result ≡ is_nil (target_names (scope_told self.now) var.now field.now index.now set.now) }
     {
         let is_set = self.check_set(told, set);
         let is_path = self.check_path_names(told, var, field, found);
@@ -57,7 +55,7 @@ impl Scope<'_> {
 
     // Whether a path is known to lead to no record of a pool.
     fn leads_elsewhere(&self, var: &Var, field: Option<FieldRef>, pool: Option<u32>) -> bool
-        ensures { result ≡ (is_other_head (scope_told self.now) var.now || field_is self.now.known.base.now (refers_elsewhere pool) field) }
+        ensures { result ≡ leads_elsewhere (scope_told self.now) var.now field pool }
     {
         self.is_other_head(var) || self.refers_elsewhere(pool, field)
     }
@@ -71,7 +69,7 @@ impl Scope<'_> {
         index: &Option<PlacedName>,
         set: &PlacedName,
     )
-        ensures { Finds (faults_of_member (scope_told self.now) var.now (Some (parts.Field field.now index.now)) set.now) told.old.fault told.new.fault }
+        ensures { Finds (target_faults (scope_told self.now) var.now field.now index.now set.now) told.old.fault told.new.fault }
     {
         let found = self.path_field(var, field);
         let leads_elsewhere = self.leads_elsewhere(var, found, self.pool_of_set(set));
@@ -82,7 +80,7 @@ impl Scope<'_> {
 
     // `head` without a field is the member of no set.
     fn check_head(&self, told: &mut Told, place: u64, set: &PlacedName)
-        ensures { Finds (faults_of_member (scope_told self.now) (vars.Head place) None set.now) told.old.fault told.new.fault }
+        ensures { Finds (own_faults (scope_told self.now) (vars.Head place) set.now) told.old.fault told.new.fault }
     {
         let is_known = self.check_set(told, set);
         note_mismatch(told, is_known, true, place);
@@ -97,8 +95,8 @@ impl Scope<'_> {
         set: &PlacedName,
     ) -> bool
         requires number { number ≡ (scope_told self.now).known.pool pool.now.name }
-        ensures told { Finds (names_of_member (scope_told self.now) (vars.Name pool.now) (Some (parts.Slot index.now)) set.now) told.old.fault told.new.fault }
-        ensures known { result ≡ is_nil (names_of_member (scope_told self.now) (vars.Name pool.now) (Some (parts.Slot index.now)) set.now) }
+        ensures told { Finds (slot_names (scope_told self.now) pool.now index.now set.now) told.old.fault told.new.fault }
+        ensures known { result ≡ is_nil (slot_names (scope_told self.now) pool.now index.now set.now) }
     {
         let is_set = self.check_set(told, set);
         let is_pool = note_found(told, number, pool);
@@ -113,7 +111,7 @@ impl Scope<'_> {
         index: &PlacedName,
         set: &PlacedName,
     )
-        ensures { Finds (faults_of_member (scope_told self.now) (vars.Name pool.now) (Some (parts.Slot index.now)) set.now) told.old.fault told.new.fault }
+        ensures { Finds (slot_member_faults (scope_told self.now) (vars.Name pool.now) index.now set.now) told.old.fault told.new.fault }
     {
         let number = self.known.pool(&pool.name);
         let disagree = disagree(number, self.pool_of_set(set));
@@ -123,7 +121,7 @@ impl Scope<'_> {
     }
 
     fn check_slot_member(&self, told: &mut Told, var: &Var, index: &PlacedName, set: &PlacedName)
-        ensures { Finds (faults_of_member (scope_told self.now) var.now (Some (parts.Slot index.now)) set.now) told.old.fault told.new.fault }
+        ensures { Finds (slot_member_faults (scope_told self.now) var.now index.now set.now) told.old.fault told.new.fault }
     {
         match var {
             Var::Head { place } => self.check_head(told, *place, set),
@@ -132,8 +130,8 @@ impl Scope<'_> {
     }
 
     fn check_record_names(&self, told: &mut Told, name: &PlacedName, set: &PlacedName) -> bool
-        ensures told { Finds (names_of_member (scope_told self.now) (vars.Name name.now) None set.now) told.old.fault told.new.fault }
-        ensures known { result ≡ is_nil (names_of_member (scope_told self.now) (vars.Name name.now) None set.now) }
+        ensures told { Finds (record_names (scope_told self.now) name.now set.now) told.old.fault told.new.fault }
+        ensures known { result ≡ is_nil (record_names (scope_told self.now) name.now set.now) }
     {
         let is_set = self.check_set(told, set);
         let is_variable = self.check_variable(told, name);
@@ -142,7 +140,7 @@ impl Scope<'_> {
 
     // The rule's record by its name.
     fn check_record(&self, told: &mut Told, name: &PlacedName, set: &PlacedName)
-        ensures { Finds (faults_of_member (scope_told self.now) (vars.Name name.now) None set.now) told.old.fault told.new.fault }
+        ensures { Finds (own_faults (scope_told self.now) (vars.Name name.now) set.now) told.old.fault told.new.fault }
     {
         let disagree = disagree(self.pool, self.pool_of_set(set));
         let are_known = self.check_record_names(told, name, set);
@@ -150,7 +148,7 @@ impl Scope<'_> {
     }
 
     fn check_own_member(&self, told: &mut Told, var: &Var, set: &PlacedName)
-        ensures { Finds (faults_of_member (scope_told self.now) var.now None set.now) told.old.fault told.new.fault }
+        ensures { Finds (own_faults (scope_told self.now) var.now set.now) told.old.fault told.new.fault }
     {
         match var {
             Var::Head { place } => self.check_head(told, *place, set),
@@ -168,7 +166,7 @@ impl Scope<'_> {
     }
 
     fn check_member(&self, told: &mut Told, member: &Member, set: &PlacedName)
-        ensures { Finds (inclusion_faults (scope_told self.now) (inclusions.Member member.now set.now)) told.old.fault told.new.fault }
+        ensures { Finds (faults_of_member (scope_told self.now) member.now.var member.now.part set.now) told.old.fault told.new.fault }
     {
         match &member.part {
             Some(part) => self.check_part(told, &member.var, part, set),

@@ -1,13 +1,12 @@
 // The faults of pairs that rules give.
 ghost use Rattle.std.specs.Prelude.{◌≡◌, ◌&&◌, option_map};
 ghost use Rattle.dsr_tree.specs.declared.faults.Condition.TheVariants as conditions;
-ghost use Rattle.dsr_tree.specs.declared.tree.Inclusion.TheVariants as inclusions;
 ghost use Rattle.dsr_tree.specs.declared.tree.Term.TheVariants as terms;
 ghost use Rattle.dsr_text.specs.Faults.{when};
 ghost use Rattle.dsr_typing.specs.Known.{is_nil};
 ghost use Rattle.dsr_typing.specs.Rules.{path_field};
-ghost use Rattle.dsr_typing.specs.RuleFaults.{term_names, term_faults, term_pool, is_no_pair, relates_others, pair_mismatches, inclusion_faults};
-ghost use Rattle.dsr_rules.specs.Scopes.{scope_told, pair_names};
+ghost use Rattle.dsr_typing.specs.RuleFaults.{term_names, term_faults, term_pool, is_no_pair, relates_others, pair_mismatches};
+ghost use Rattle.dsr_rules.specs.Scopes.{scope_told, pair_names, pair_faults};
 ghost use Rattle.dsr_faults.specs.Telling.{Finds};
 
 use crate::fields::disagree;
@@ -182,7 +181,7 @@ impl Scope<'_> {
         path: &Path,
         relation: &PlacedName,
     )
-        ensures { Finds (inclusion_faults (scope_told self.now) (inclusions.Pair place term.now path.now relation.now)) told.old.fault told.new.fault }
+        ensures { Finds (pair_faults (scope_told self.now) place term.now path.now relation.now) told.old.fault told.new.fault }
     {
         let field = self.path_field(&path.var, &path.field);
         let declared = self.known.relation_named(&relation.name);

@@ -1,10 +1,13 @@
 -- The fault that is told of a part stands for all that were found in it.
-use Rattle.std.proofs.Common.{◌≡◌, ℕ, Bool, true, false, ◌&&◌, ◌||◌, nat_eq, nat_lt, List, [], ◌∷◌, Option, None, Some, if◌then◌else◌, refl, sym, ap, ◌∙◌, arith}
+use Rattle.std.proofs.Common.{◌≡◌, ℕ, Bool, true, false, ◌&&◌, ◌||◌, nat_eq, nat_lt, List, [], ◌∷◌, Option, None, Some, is_some, not, if◌then◌else◌, refl, sym, ap, ◌∙◌, arith}
+use Rattle.std.proofs.Math.Bool.{not-not}
 use Rattle.std.proofs.lemmas.Grind.{common_steps}
 use Rattle.dsr_tree.specs.Faults.{kind_number, is_before}
 use Rattle.dsr_tree.specs.declared.faults.Fault.{Fault}
 use Rattle.dsr_text.specs.Faults.{when}
+use Rattle.dsr_typing.specs.Known.{is_nil}
 use Rattle.dsr_faults.specs.Telling.{told_of, told_after, Finds}
+use Rattle.dsr_faults.proofs.Least.{none_told}
 
 -- by place, then by kind
 abbrev earlier : ℕ → ℕ → ℕ → ℕ → Bool
@@ -62,3 +65,20 @@ finds_part {old} fs part f is found noted = record { is = noted.is ∙ ap (told_
 -- a part in which none was found
 pub finds_none : {old : Option Fault} (fs : List Fault) (part : Option Fault) → part ≡ None → Finds fs None part → Finds fs old old
 finds_none {old} fs part is found = record { is = ap (told_with old) (sym (sym found.is ∙ is)) ∙ sym (told_together old fs) }
+
+no_first : (f : Fault) (fs : List Fault) → f ∷ fs ≡ [] → ⊥
+no_first f fs e = absurd cc
+
+false_is_true : false ≡ true → ⊥
+false_is_true e = absurd cc
+
+-- none was found exactly where there is none
+pub none_found : (fs : List Fault) (found : Option Fault) (none : Bool) → Finds fs None found → is_some found ≡ not none → none ≡ is_nil fs
+none_found [] found none p e = sym (not-not none) ∙ ap not (sym e ∙ ap is_some p.is)
+none_found (f ∷ fs) None none p e = absurd (no_first f fs (none_told (f ∷ fs) (sym p.is)))
+none_found (f ∷ fs) (Some g) none p e = sym (not-not none) ∙ ap not (sym e)
+
+-- where there is none the list is empty
+pub nothing : (fs : List Fault) (none : Bool) → none ≡ is_nil fs → none ≡ true → fs ≡ []
+nothing [] none is e = refl
+nothing (f ∷ fs) none is e = absurd (false_is_true (sym is ∙ e))

@@ -1,5 +1,5 @@
 -- The widths that rules give to relations, and constants that don't fit them.
-use Rattle.std.proofs.Common.{◌≡◌, ◌≢◌, ◌<◌, ◌≤◌, ◌+◌, ◌^◌, ℕ, Bool, true, false, ◌||◌, nat_eq, eqb, leb, cond, min, List, [], ◌∷◌, ◌++◌, take, length, get_or, set, Option, None, Some, if◌then◌else◌, refl, sym, ap, ◌∙◌, add-one, subst, arith}
+use Rattle.std.proofs.Common.{◌≡◌, ◌≢◌, ◌<◌, ◌≤◌, ◌+◌, ◌^◌, ℕ, Bool, true, false, ◌||◌, nat_eq, eqb, leb, cond, min, List, [], ◌∷◌, ◌++◌, take, length, get_or, set, Option, None, Some, IfSome, if◌then◌else◌, refl, sym, ap, ◌∙◌, add-one, subst, arith}
 use Rattle.std.proofs.Math.Pow.{pow_mono}
 use Rattle.std.proofs.Math.Seq.{take-suc}
 use Rattle.std.proofs.lemmas.Bool.Decides.{nat_tests}
@@ -18,7 +18,7 @@ use Rattle.dsr_typing.specs.Known.{Known, field_is}
 use Rattle.dsr_typing.specs.Rules.{Scope, scope_of, path_field}
 use Rattle.dsr_typing.specs.Constraints.{inclusion_field, value_field, is_too_narrow, is_too_great}
 use Rattle.std.specs.Option.{option_map_or}
-use Rattle.dsr_constraint.specs.Widest.{given_relation, read_field, field_width, given_width, least_width, AreLeast}
+use Rattle.dsr_constraint.specs.Widest.{given_relation, read_field, field_width, given_width, least_width, CountRelations}
 
 -- ---- the table
 
@@ -55,6 +55,14 @@ entry least w rel at width most is within =
           let other : rel ≢ at = λ q. absurd (grind (arith, nat_tests)) in
           get_or-set_other least at rel (min (get_or least at 64) width) 64 other ∙ is ∙ omega arith
     ] refl
+
+-- the relation that a rule gives is one of the table
+found_within : (o : Option ℕ) (n at : ℕ) → IfSome o (λ k. k < n) → o ≡ Some at → at < n
+found_within o n at p e = let q : IfSome (Some at) (λ k. k < n) = subst (λ x. IfSome x (λ k. k < n)) e p in q
+
+pub given_within : {known : Known} → CountRelations known → (inc : Inclusion) (at : ℕ) → given_relation known inc ≡ Some at → at < length known.base.rels
+given_within {known} count (inclusions.Pair place term path relation) at e = found_within (known.relation relation.name) (length known.base.rels) at (count.within relation.name) e
+given_within count (inclusions.Member member set) at e = absurd cc
 
 module _ (known : Known) (rs : List Rule) (i : ℕ) (r : Rule) (below : i < length rs) (is : r ≡ get_or rs i r) where
   -- a rule that gives no pair changes nothing

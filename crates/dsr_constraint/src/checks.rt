@@ -1,5 +1,5 @@
 // The faults of constraints.
-ghost use Rattle.std.specs.Prelude.{◌≡◌, map, IfOk, OnOk};
+ghost use Rattle.std.specs.Prelude.{◌≡◌, map, IfOk, IsSome, OnOk};
 ghost use Rattle.std.specs.Str.{bytes_eq};
 ghost use Rattle.indexmap.specs.IndexMap.{get};
 ghost use Rattle.dsr_faults.specs.Telling.{Finds};
@@ -129,7 +129,8 @@ pub fn check_refusal(
     constraint: &Constraint,
     fault: NormalFault,
 ) -> Result<(), NoMemory>
-    ensures { OnOk result (Finds (refusal_faults (constraint_shape constraint.now) (refusal_told fault)) told.old.fault told.new.fault) }
+    ensures known { OnOk result (IsSome (refusal_told fault)) }
+    ensures found { OnOk result (Finds (refusal_faults (constraint_shape constraint.now) (refusal_told fault)) told.old.fault told.new.fault) }
 {
     let place = constraint.name.place;
     match fault {

@@ -12,7 +12,7 @@ ghost use Rattle.dsr_typing.specs.TypedConstraints.{scope_of, typed_formula, typ
 ghost use Rattle.dsr_faults.specs.Refusals.{Tells};
 ghost use Rattle.dsr_faults.specs.Telling.{Finds};
 ghost use Rattle.dsr_constraint.specs.Scoped.{scope_told};
-ghost use Rattle.dsr_constraint.specs.Widest.{AreLeast};
+ghost use Rattle.dsr_constraint.specs.Widest.{AreLeast, CountRelations};
 
 use crate::atoms::note_part;
 use crate::checks::{Checker, check_refusal, constraint_limit, constraint_numbers};
@@ -117,6 +117,37 @@ impl Checker<'_> {
     }
 }
 
+// The typed constraints of a tree, over what its names stand for, or its first fault.
+fn constraints_among(
+    alloc: Global,
+    tree: &Tree,
+    known: &Known,
+) -> Result<Vec<Constraint>, SpecFault>
+    requires { CountRelations (known_of known.now) }
+    ensures no_fault { IfOk result (λ _. constraints_faults (known_of known.now) tree.now.rules (map constraint_shape tree.now.constraints) ≡ []) }
+    ensures constraints { IfOk result (λ cs. cs.items ≡ typed_constraints (known_of known.now) (map constraint_shape tree.now.constraints)) }
+    ensures fault { IfErr result (Tells (constraints_faults (known_of known.now) tree.now.rules (map constraint_shape tree.now.constraints))) }
+{
+    let rules = tree.rules.items();
+    let items = tree.constraints.items();
+    let least = least_widths(alloc, known, rules)?;
+    let numbers = constraint_numbers(alloc, items)?;
+    let checker = Checker {
+        known: *known,
+        constants: Constants {
+            rules,
+            least: &least,
+        },
+        numbers: &numbers,
+    };
+    let mut told = Told { fault: None };
+    let typed = checker.typed_constraints(alloc, &mut told, items)?;
+    match told.refusal() {
+        Some(fault) => Err(fault),
+        None => Ok(typed),
+    }
+}
+
 /// The typed constraints of a tree, in order, in disjunctive normal form, over the tables of its
 /// declarations; complements have given way to their bases. `At` tells the fault with the least
 /// place, and of several there the one of the least condition; the conditions are those of a name
@@ -137,22 +168,5 @@ pub fn constraints(
         base: structures,
         tables: &tables,
     };
-    let items = tree.constraints.items();
-    let numbers = constraint_numbers(alloc, items)?;
-    let rules = tree.rules.items();
-    let least = least_widths(alloc, &known, rules)?;
-    let checker = Checker {
-        known,
-        constants: Constants {
-            rules,
-            least: &least,
-        },
-        numbers: &numbers,
-    };
-    let mut told = Told { fault: None };
-    let typed = checker.typed_constraints(alloc, &mut told, items)?;
-    match told.refusal() {
-        Some(fault) => Err(fault),
-        None => Ok(typed),
-    }
+    constraints_among(alloc, tree, &known)
 }

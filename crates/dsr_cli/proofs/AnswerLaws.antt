@@ -5,7 +5,7 @@ use Rattle.dsr_meaning.specs.Consistency.{BoundConstraint}
 use Rattle.dsr_parse.specs.declared.parser.SyntaxFault.{SyntaxFault}
 use Rattle.dsr_parse.specs.declared.parser.SyntaxFault.TheVariants as faults
 use Rattle.dsr_store.specs.Causes.{Rose}
-use Rattle.dsr_cli.specs.Answers.{Answer, IsAnswer, IsFilesAnswer, IsImageAnswer, IsLoadAnswer, IsMissing, IsPrintAnswer, IsTextAnswer, Shelved, syntax_refused, no_syntax, no_tables, with_rules, printed, no_text, long_text, on_text, on_spec, accepted, checked, long_image, long_spec, no_command, no_image, no_spec, on_files, on_image, outside, refused, short, verdict_answer}
+use Rattle.dsr_cli.specs.Answers.{Answer, IsAnswer, IsFilesAnswer, IsImageAnswer, IsLoadAnswer, IsMissing, IsPrintAnswer, IsTextAnswer, Shelved, syntax_refused, no_syntax, no_meaning, IsRefused, other_form, printed, unprinted, no_text, long_text, on_text, on_spec, accepted, checked, long_image, long_spec, no_command, no_image, no_spec, on_files, on_image, outside, refused, short, verdict_answer}
 use Rattle.dsr_cli.specs.Words.{is_usage, second, third}
 use Rattle.dsr_cli.specs.declared.status.Status.{Status}
 use Rattle.dsr_cli.specs.declared.status.Status.TheVariants as statuses
@@ -34,23 +34,26 @@ load_told (no_image m) = tt
 load_told (long_image image f long none) = tt
 load_told (on_image image answer i h none) = image_told h
 
-files_told : {s : Shelved} {spec_name image_name : List ℕ} {a : Answer} → IsFilesAnswer s spec_name image_name a → IsFilesStatus a.status
-files_told (no_spec m) = tt
-files_told (long_spec text f long none) = tt
-files_told (refused text t n none) = tt
-files_told (accepted text spec answer t f h) = load_told h
-
 fault_told : (fault : SyntaxFault) → IsFilesStatus (syntax_refused fault).status
 fault_told (faults.Token place) = tt
 fault_told (faults.Expected place) = tt
 fault_told (faults.Limit place) = tt
 fault_told faults.NoMemory = tt
 
+refusal_told : {text : List ℕ} {a : Answer} → IsRefused text a → IsFilesStatus a.status
+refusal_told (no_syntax fault has) = fault_told fault
+refusal_told (no_meaning tree kind place is told) = tt
+
+files_told : {s : Shelved} {spec_name image_name : List ℕ} {a : Answer} → IsFilesAnswer s spec_name image_name a → IsFilesStatus a.status
+files_told (no_spec m) = tt
+files_told (long_spec text f long none) = tt
+files_told (refused text answer t r none) = refusal_told r
+files_told (other_form text tree t m n none) = tt
+files_told (accepted text tree spec answer t m f h) = load_told h
+
 print_told : {text : List ℕ} {a : Answer} → IsPrintAnswer text a → IsFilesStatus a.status
-print_told (no_syntax fault has) = fault_told fault
-print_told (no_tables tree kind place is told) = tt
-print_told (with_rules tree is faultless some) = tt
-print_told (printed tree is faultless none) = tt
+print_told (unprinted answer r) = refusal_told r
+print_told (printed tree is) = tt
 
 text_told : {s : Shelved} {name : List ℕ} {a : Answer} → IsTextAnswer s name a → IsFilesStatus a.status
 text_told (no_text m) = tt

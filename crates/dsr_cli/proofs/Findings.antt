@@ -10,7 +10,7 @@ use Rattle.dsr_meaning.specs.Consistency.{AreViolations, BoundConstraint, IsCons
 use Rattle.dsr_parse.specs.declared.parser.SyntaxFault.{SyntaxFault}
 use Rattle.dsr_parse.specs.declared.parser.SyntaxFault.TheVariants as faults
 use Rattle.dsr_store.specs.Files.{Files, IsFrontOf}
-use Rattle.dsr_cli.specs.Answers.{Answer, IsAnswer, IsFilesAnswer, IsImageAnswer, IsLoadAnswer, IsPrintAnswer, IsTextAnswer, Shelved, syntax_refused, no_syntax, no_tables, with_rules, printed, no_text, long_text, on_text, on_spec, accepted, checked, long_image, long_spec, no_command, no_image, no_spec, on_files, on_image, outside, refused, short, verdict_answer}
+use Rattle.dsr_cli.specs.Answers.{Answer, IsAnswer, IsFilesAnswer, IsImageAnswer, IsLoadAnswer, IsPrintAnswer, IsTextAnswer, Shelved, syntax_refused, no_syntax, no_meaning, IsRefused, other_form, printed, unprinted, no_text, long_text, on_text, on_spec, accepted, checked, long_image, long_spec, no_command, no_image, no_spec, on_files, on_image, outside, refused, short, verdict_answer}
 use Rattle.dsr_cli.specs.PlainLayouts.{IsLaidOut}
 use Rattle.dsr_cli.specs.Verdicts.{FindsConsistent, FindsInconsistent, FindsPrinted, IsChecked, IsPrinted}
 use Rattle.dsr_cli.specs.Words.{is_text, second, third}
@@ -31,17 +31,20 @@ whole_front files name bytes cap h lt =
     ] h
 
 -- the answers to `text` give no verdict
-fault_no_verdict : (fault : SyntaxFault) → (syntax_refused fault).status ≡ statuses.Inconsistent → ⊥
-fault_no_verdict (faults.Token place) e = cc
-fault_no_verdict (faults.Expected place) e = cc
-fault_no_verdict (faults.Limit place) e = cc
-fault_no_verdict faults.NoMemory e = cc
+-- a refusal is of one status
+fault_refused : (fault : SyntaxFault) → (syntax_refused fault).status ≡ statuses.SpecRefused
+fault_refused (faults.Token place) = refl
+fault_refused (faults.Expected place) = refl
+fault_refused (faults.Limit place) = refl
+fault_refused faults.NoMemory = refl
+
+is_refusal : {text : List ℕ} {a : Answer} → IsRefused text a → a.status ≡ statuses.SpecRefused
+is_refusal (no_syntax fault has) = fault_refused fault
+is_refusal (no_meaning tree kind place is told) = refl
 
 print_no_verdict : {text : List ℕ} {a : Answer} → IsPrintAnswer text a → a.status ≡ statuses.Inconsistent → ⊥
-print_no_verdict (no_syntax fault has) e = fault_no_verdict fault e
-print_no_verdict (no_tables tree kind place is told) e = cc
-print_no_verdict (with_rules tree is faultless some) e = cc
-print_no_verdict (printed tree is faultless none) e = cc
+print_no_verdict (unprinted answer r) e = let same : statuses.SpecRefused ≡ statuses.Inconsistent = sym (is_refusal r) ∙ e in cc
+print_no_verdict (printed tree is) e = cc
 
 text_no_verdict : {s : Shelved} {name : List ℕ} {a : Answer} → IsTextAnswer s name a → a.status ≡ statuses.Inconsistent → ⊥
 text_no_verdict (no_text m) e = cc
@@ -112,8 +115,9 @@ module _ (s : Shelved) (words : List (List ℕ)) (files : Files) (told : s.held 
     files_judged : {a : Answer} → IsFilesAnswer s (second words) (third words) a → a.status ≡ status → IsWhole a
     files_judged (no_spec m) e = absurd (not_failed e)
     files_judged (long_spec text f long none) e = absurd (not_long e)
-    files_judged (refused text t n none) e = absurd (not_refused e)
-    files_judged (accepted text spec answer t f h) e =
+    files_judged (refused text answer t r none) e = absurd (not_refused (sym (is_refusal r) ∙ e))
+    files_judged (other_form text tree t m n none) e = absurd (not_refused e)
+    files_judged (accepted text tree spec answer t m f h) e =
         let j = load_judged h e in
         record { spec = spec; judged = j; checks = record { text = text; spec_file = front_told (second words) text 65537 t.loaded (omega (arith, t.whole)); image_file = j.file; form = f; laid_out = j.laid_out } }
 
@@ -148,17 +152,9 @@ print_found s words files told print (no_command u none) e = absurd cc
 print_found s words files told print (on_files answer u f h) e = absurd (both f print)
 print_found s words files told print (on_spec answer u f h) e = text_found h e
   where
-    fault_not_ok : (fault : SyntaxFault) → (syntax_refused fault).status ≡ statuses.Ok → ⊥
-    fault_not_ok (faults.Token place) e = cc
-    fault_not_ok (faults.Expected place) e = cc
-    fault_not_ok (faults.Limit place) e = cc
-    fault_not_ok faults.NoMemory e = cc
-
     tree_found : {text : List ℕ} {a : Answer} → IsPrintAnswer text a → a.status ≡ statuses.Ok → get files (second words) ≡ Some text → IsPrinted files words a.text
-    tree_found (no_syntax fault has) e file = absurd (fault_not_ok fault e)
-    tree_found (no_tables tree kind place is told) e file = absurd cc
-    tree_found (with_rules tree is faultless some) e file = absurd cc
-    tree_found {text} (printed tree is faultless none) e file = record { text = text; tree = tree; file = file; tree_of = is; faultless = faultless; printed = refl }
+    tree_found (unprinted answer r) e file = let same : statuses.SpecRefused ≡ statuses.Ok = sym (is_refusal r) ∙ e in absurd cc
+    tree_found {text} (printed tree is) e file = record { text = text; tree = tree; file = file; meaning = is; printed = refl }
 
     text_found : {a : Answer} → IsTextAnswer s (second words) a → a.status ≡ statuses.Ok → IsPrinted files words a.text
     text_found (no_text m) e = absurd cc

@@ -2,7 +2,6 @@
 use Rattle.std.proofs.Common.{◌≡◌, ◌≤◌, ℕ, List, true, false, Option, Result, ◌⊎◌, inl, inr, refl, sym, subst, ◌∙◌, arith}
 use Rattle.std.specs.Prelude.{◌≢◌, IfOk, Ok, Err}
 use Rattle.dsr_tree.specs.Trees.{TreeShape}
-use Rattle.dsr_text.specs.Declarations.{declaration_faults}
 use Rattle.dsr_text.specs.Parsing.{IsTreeOf}
 use Rattle.dsr_parse.specs.Faults.{HasFault}
 use Rattle.dsr_parse.specs.declared.parser.SyntaxFault.{SyntaxFault}
@@ -12,11 +11,12 @@ use Rattle.std.specs.declared.alloc.AllocError.{AllocError}
 use Rattle.dsr_faults.specs.Refusals.{Tells}
 use Rattle.dsr_faults.specs.declared.refusals.SpecFault.{SpecFault}
 use Rattle.dsr_faults.specs.declared.refusals.SpecFault.TheVariants as spec_faults
+use Rattle.dsr_typing.specs.Specifications.{specification_faults}
 use Rattle.dsr_store.specs.Causes.{Rose}
 use Rattle.dsr_store.specs.Files.{Files, IsFrontOf, Lacks}
 use Rattle.dsr_store.specs.declared.outside.Missed.{Missed}
 use Rattle.dsr_ir.specs.declared.declarations.Spec.{Spec}
-use Rattle.dsr_cli.specs.Answers.{Answer, IsAnswer, IsFilesAnswer, IsImage, IsImageAnswer, IsLoadAnswer, IsMissing, IsText, IsPrintAnswer, IsTextAnswer, NoneFailed, Shelved, accepted, no_image, long_image, on_files, on_image, on_spec, on_text, no_syntax, no_tables, syntax_refused, declarations_refused}
+use Rattle.dsr_cli.specs.Answers.{Answer, IsAnswer, IsFilesAnswer, IsImage, IsImageAnswer, IsLoadAnswer, IsMissing, IsText, IsPrintAnswer, IsTextAnswer, NoneFailed, Shelved, accepted, no_image, long_image, on_files, on_image, on_spec, on_text, no_syntax, no_meaning, syntax_refused, spec_fault_refused, IsMeaning, IsRefused}
 use Rattle.dsr_cli.specs.FormTexts.{HasForm}
 use Rattle.dsr_cli.specs.Loads.{shelved_by, shown}
 use Rattle.dsr_cli.specs.Words.{is_usage, is_text, second, third}
@@ -51,10 +51,10 @@ told_image shelved spec name image r i none h = IfOk-weaker r _ _ (λ t a. on_im
 pub told_files : (shelved : Shelved) (spec_name image_name : List ℕ) (r : Result Told AllocError) (a : Answer) → IfOk r (λ t. shown t ≡ a) → IsFilesAnswer shelved spec_name image_name a → IfOk r (λ t. IsFilesAnswer shelved spec_name image_name (shown t))
 told_files shelved spec_name image_name r a e h = told_is (λ a. IsFilesAnswer shelved spec_name image_name a) r a e h
 
-pub told_accepted : (held held' : Option Files) (before mid after : ℕ) (last last' last'' : Option Missed) (spec_name image_name text : List ℕ) (spec : Spec) (r : Result Told AllocError) → held' ≡ held → before ≤ mid → last' ≡ last
-    → IsText (shelved_by held before after last last'') spec_name text → HasForm text spec → IfOk r (λ t. IsLoadAnswer (shelved_by held' mid after last' last'') spec image_name (shown t)) → IfOk r (λ t. IsFilesAnswer (shelved_by held before after last last'') spec_name image_name (shown t))
-told_accepted held held' before mid after last last' last'' spec_name image_name text spec r e le l is form h =
-    IfOk-weaker r _ _ (λ t a. accepted text spec (shown t) is form (load_later held held' before mid after last last' last'' spec image_name (shown t) e le l a)) h
+pub told_accepted : (held held' : Option Files) (before mid after : ℕ) (last last' last'' : Option Missed) (spec_name image_name text : List ℕ) (tree : TreeShape) (spec : Spec) (r : Result Told AllocError) → held' ≡ held → before ≤ mid → last' ≡ last
+    → IsText (shelved_by held before after last last'') spec_name text → IsMeaning text tree → HasForm text spec → IfOk r (λ t. IsLoadAnswer (shelved_by held' mid after last' last'') spec image_name (shown t)) → IfOk r (λ t. IsFilesAnswer (shelved_by held before after last last'') spec_name image_name (shown t))
+told_accepted held held' before mid after last last' last'' spec_name image_name text tree spec r e le l is meaning form h =
+    IfOk-weaker r _ _ (λ t a. accepted text tree spec (shown t) is meaning form (load_later held held' before mid after last last' last'' spec image_name (shown t) e le l a)) h
 
 pub told_words : (shelved : Shelved) (words : List (List ℕ)) (r : Result Told AllocError) (a : Answer) → IfOk r (λ t. shown t ≡ a) → IsAnswer shelved words a → IfOk r (λ t. IsAnswer shelved words (shown t))
 told_words shelved words r a e h = told_is (λ a. IsAnswer shelved words a) r a e h
@@ -74,12 +74,11 @@ told_print text r a e h = told_is (λ a. IsPrintAnswer text a) r a e h
 pub told_on_text : (shelved : Shelved) (name text : List ℕ) (r : Result Told AllocError) → IsText shelved name text → NoneFailed shelved → IfOk r (λ t. IsPrintAnswer text (shown t)) → IfOk r (λ t. IsTextAnswer shelved name (shown t))
 told_on_text shelved name text r i none h = IfOk-weaker r _ _ (λ t a. on_text text (shown t) i a none) h
 
-pub told_fault : (text : List ℕ) (fault : SyntaxFault) (r : Result Told AllocError) → IfOk r (λ t. shown t ≡ syntax_refused fault) → IfOk r (λ t. fault ≢ faults.NoMemory) → (fault ≡ faults.NoMemory) ⊎ HasFault text fault → IfOk r (λ t. IsPrintAnswer text (shown t))
-told_fault text fault (Ok t) e memory (inl none) = absurd (memory none)
-told_fault text fault (Ok t) e memory (inr has) = subst (IsPrintAnswer text) (sym e) (no_syntax fault has)
-told_fault text fault (Err a) e memory why = tt
+-- the refusals of a text with a fault
+pub told_fault : (text : List ℕ) (fault : SyntaxFault) (a : Answer) → a ≡ syntax_refused fault → fault ≢ faults.NoMemory → (fault ≡ faults.NoMemory) ⊎ HasFault text fault → IsRefused text a
+told_fault text fault a e memory (inl none) = absurd (memory none)
+told_fault text fault a e memory (inr has) = subst (IsRefused text) (sym e) (no_syntax fault has)
 
-pub told_spec_fault : (text : List ℕ) (tree : TreeShape) (fault : SpecFault) (r : Result Told AllocError) → IfOk r (λ t. shown t ≡ declarations_refused fault) → IfOk r (λ t. fault ≢ spec_faults.NoMemory) → IsTreeOf text tree → Tells (declaration_faults tree) fault → IfOk r (λ t. IsPrintAnswer text (shown t))
-told_spec_fault text tree (spec_faults.At kind place) (Ok t) e memory is told = subst (IsPrintAnswer text) (sym e) (no_tables tree kind place is told)
-told_spec_fault text tree spec_faults.NoMemory (Ok t) e memory is told = absurd (memory refl)
-told_spec_fault text tree fault (Err a) e memory is told = tt
+pub told_spec_fault : (text : List ℕ) (tree : TreeShape) (fault : SpecFault) (a : Answer) → a ≡ spec_fault_refused fault → fault ≢ spec_faults.NoMemory → IsTreeOf text tree → Tells (specification_faults tree) fault → IsRefused text a
+told_spec_fault text tree (spec_faults.At kind place) a e memory is told = subst (IsRefused text) (sym e) (no_meaning tree kind place is told)
+told_spec_fault text tree spec_faults.NoMemory a e memory is told = absurd (memory refl)

@@ -11,7 +11,6 @@ use Rattle.dsr_ir.specs.declared.tuples.Element.{Element}
 use Rattle.dsr_meaning.specs.Models.{IsFact}
 use Rattle.dsr_meaning.specs.Consistency.{AreViolations, BoundConstraint}
 use Rattle.dsr_text.specs.Canonical.{canonical}
-use Rattle.dsr_text.specs.Declarations.{declaration_faults}
 use Rattle.dsr_text.specs.Parsing.{IsTreeOf}
 use Rattle.dsr_parse.specs.Faults.{HasFault}
 use Rattle.dsr_parse.specs.declared.parser.SyntaxFault.{SyntaxFault}
@@ -19,6 +18,7 @@ use Rattle.dsr_parse.specs.declared.parser.SyntaxFault.TheVariants as faults
 use Rattle.dsr_faults.specs.Refusals.{Tells}
 use Rattle.dsr_faults.specs.declared.refusals.SpecFault.{SpecFault}
 use Rattle.dsr_faults.specs.declared.refusals.SpecFault.TheVariants as spec_faults
+use Rattle.dsr_typing.specs.Specifications.{specification_faults}
 use Rattle.dsr_store.specs.Causes.{Rose}
 use Rattle.dsr_store.specs.Files.{Files, IsFrontOf, Lacks}
 use Rattle.dsr_store.specs.declared.outside.Missed.{Missed}
@@ -80,8 +80,12 @@ verdict_answer spec (v ∷ vs) = record { status = statuses.Inconsistent; text =
 -- the answer to a specification and the bytes of an image
 pub data IsImageAnswer (spec : Spec) (image : List ℕ) : Answer → Type 0 where
   short : IsShort spec image → IsImageAnswer spec image layout_short
-  outside : size_of spec 0 ≤ length image → EndsBehind spec image → IsImageAnswer spec image (layout_outside (pool_name spec 1))
-  checked : (layout : Layout) (vs : List BoundConstraint) → IsLaidOut spec image layout → AreViolations (IsFact spec layout image) spec vs → IsImageAnswer spec image (verdict_answer spec vs)
+  outside : size_of spec 0 ≤ length image
+      → EndsBehind spec image
+      → IsImageAnswer spec image (layout_outside (pool_name spec 1))
+  checked : (layout : Layout) (vs : List BoundConstraint) → IsLaidOut spec image layout
+      → AreViolations (IsFact spec layout image) spec vs
+      → IsImageAnswer spec image (verdict_answer spec vs)
 
 -- what the shelf told before the call and after it
 pub record Shelved : Type 0 where
@@ -110,19 +114,6 @@ pub record IsImage (shelved : Shelved) (name image : List ℕ) : Type 0 where
   pub loaded : IsFrontOf shelved.held name 4194305 image
   pub whole : length image ≤ 4194304
 
--- the answer to a specification and the name of an image
-pub data IsLoadAnswer (shelved : Shelved) (spec : Spec) (image_name : List ℕ) : Answer → Type 0 where
-  no_image : IsMissing shelved image_name → IsLoadAnswer shelved spec image_name store_failed
-  long_image : (image : List ℕ) → IsFrontOf shelved.held image_name 4194305 image → 4194304 < length image → NoneFailed shelved → IsLoadAnswer shelved spec image_name too_long_image
-  on_image : (image : List ℕ) (answer : Answer) → IsImage shelved image_name image → IsImageAnswer spec image answer → NoneFailed shelved → IsLoadAnswer shelved spec image_name answer
-
--- the answer to the names of a specification and an image
-pub data IsFilesAnswer (shelved : Shelved) (spec_name image_name : List ℕ) : Answer → Type 0 where
-  no_spec : IsMissing shelved spec_name → IsFilesAnswer shelved spec_name image_name store_failed
-  long_spec : (text : List ℕ) → IsFrontOf shelved.held spec_name 65537 text → 65536 < length text → NoneFailed shelved → IsFilesAnswer shelved spec_name image_name too_long_spec
-  refused : (text : List ℕ) → IsText shelved spec_name text → ((spec : Spec) → HasForm text spec → ⊥) → NoneFailed shelved → IsFilesAnswer shelved spec_name image_name spec_refused
-  accepted : (text : List ℕ) (spec : Spec) (answer : Answer) → IsText shelved spec_name text → HasForm text spec → IsLoadAnswer shelved spec image_name answer → IsFilesAnswer shelved spec_name image_name answer
-
 -- a refusal at a place of the text, with its kind
 abbrev pub refused_at : List ℕ → ℕ → ℕ → Answer
 refused_at by kind place = record { status = statuses.SpecRefused; text = by ++ decimal kind ++ codes " " ++ decimal place ++ codes "\n" }
@@ -140,30 +131,82 @@ syntax_refused (faults.Expected place) = syntax_at 2 place
 syntax_refused (faults.Limit place) = syntax_at 3 place
 syntax_refused faults.NoMemory = spec_refused
 
--- the refusal of declarations with a fault
-abbrev pub declarations_refused : SpecFault → Answer
-declarations_refused (spec_faults.At kind place) = spec_at kind place
-declarations_refused spec_faults.NoMemory = spec_refused
+-- the refusal of a specification with a fault
+abbrev pub spec_fault_refused : SpecFault → Answer
+spec_fault_refused (spec_faults.At kind place) = spec_at kind place
+spec_fault_refused spec_faults.NoMemory = spec_refused
 
--- whether a rule or a constraint stands in the text
-abbrev pub has_rules : TreeShape → Bool
-has_rules tree = not (nat_eq (length tree.rules) 0 && nat_eq (length tree.constraints) 0)
+-- the text has this tree, which means a specification
+pub record IsMeaning (text : List ℕ) (tree : TreeShape) : Type 0 where
+  pub is_tree : IsTreeOf text tree
+  pub no_fault : specification_faults tree ≡ []
+
+-- the answer to a text that means no specification: by its syntax, or by its declarations, rules and constraints
+pub data IsRefused (text : List ℕ) : Answer → Type 0 where
+  no_syntax : (fault : SyntaxFault) → HasFault text fault → IsRefused text (syntax_refused fault)
+  no_meaning : (tree : TreeShape) (kind place : ℕ) → IsTreeOf text tree
+      → Tells (specification_faults tree) (spec_faults.At kind place)
+      → IsRefused text (spec_at kind place)
+
+-- the answer to a specification and the name of an image
+pub data IsLoadAnswer (shelved : Shelved) (spec : Spec) (image_name : List ℕ) : Answer → Type 0 where
+  no_image : IsMissing shelved image_name → IsLoadAnswer shelved spec image_name store_failed
+  long_image : (image : List ℕ) → IsFrontOf shelved.held image_name 4194305 image
+      → 4194304 < length image
+      → NoneFailed shelved
+      → IsLoadAnswer shelved spec image_name too_long_image
+  on_image : (image : List ℕ) (answer : Answer) → IsImage shelved image_name image
+      → IsImageAnswer spec image answer
+      → NoneFailed shelved
+      → IsLoadAnswer shelved spec image_name answer
+
+-- the answer to the names of a specification and an image
+pub data IsFilesAnswer (shelved : Shelved) (spec_name image_name : List ℕ) : Answer → Type 0 where
+  no_spec : IsMissing shelved spec_name → IsFilesAnswer shelved spec_name image_name store_failed
+  long_spec : (text : List ℕ) → IsFrontOf shelved.held spec_name 65537 text
+      → 65536 < length text
+      → NoneFailed shelved
+      → IsFilesAnswer shelved spec_name image_name too_long_spec
+  refused : (text : List ℕ) (answer : Answer) → IsText shelved spec_name text
+      → IsRefused text answer
+      → NoneFailed shelved
+      → IsFilesAnswer shelved spec_name image_name answer
+  other_form : (text : List ℕ) (tree : TreeShape) → IsText shelved spec_name text
+      → IsMeaning text tree
+      → ((spec : Spec) → HasForm text spec → ⊥)
+      → NoneFailed shelved
+      → IsFilesAnswer shelved spec_name image_name spec_refused
+  accepted : (text : List ℕ) (tree : TreeShape) (spec : Spec) (answer : Answer) → IsText shelved spec_name text
+      → IsMeaning text tree
+      → HasForm text spec
+      → IsLoadAnswer shelved spec image_name answer
+      → IsFilesAnswer shelved spec_name image_name answer
 
 -- the answer to a text that is to be printed
 pub data IsPrintAnswer (text : List ℕ) : Answer → Type 0 where
-  no_syntax : (fault : SyntaxFault) → HasFault text fault → IsPrintAnswer text (syntax_refused fault)
-  no_tables : (tree : TreeShape) (kind place : ℕ) → IsTreeOf text tree → Tells (declaration_faults tree) (spec_faults.At kind place) → IsPrintAnswer text (spec_at kind place)
-  with_rules : (tree : TreeShape) → IsTreeOf text tree → declaration_faults tree ≡ [] → has_rules tree ≡ true → IsPrintAnswer text spec_refused
-  printed : (tree : TreeShape) → IsTreeOf text tree → declaration_faults tree ≡ [] → has_rules tree ≡ false → IsPrintAnswer text (record { status = statuses.Ok; text = canonical tree })
+  unprinted : (answer : Answer) → IsRefused text answer → IsPrintAnswer text answer
+  printed : (tree : TreeShape) → IsMeaning text tree → IsPrintAnswer text (record { status = statuses.Ok; text = canonical tree })
 
 -- the answer to the name of a specification that is to be printed
 pub data IsTextAnswer (shelved : Shelved) (name : List ℕ) : Answer → Type 0 where
   no_text : IsMissing shelved name → IsTextAnswer shelved name store_failed
-  long_text : (text : List ℕ) → IsFrontOf shelved.held name 65537 text → 65536 < length text → NoneFailed shelved → IsTextAnswer shelved name too_long_spec
-  on_text : (text : List ℕ) (answer : Answer) → IsText shelved name text → IsPrintAnswer text answer → NoneFailed shelved → IsTextAnswer shelved name answer
+  long_text : (text : List ℕ) → IsFrontOf shelved.held name 65537 text
+      → 65536 < length text
+      → NoneFailed shelved
+      → IsTextAnswer shelved name too_long_spec
+  on_text : (text : List ℕ) (answer : Answer) → IsText shelved name text
+      → IsPrintAnswer text answer
+      → NoneFailed shelved
+      → IsTextAnswer shelved name answer
 
 -- the answer to the words of the command line
 pub data IsAnswer (shelved : Shelved) (words : List (List ℕ)) : Answer → Type 0 where
   no_command : is_usage words ≡ true → NoneFailed shelved → IsAnswer shelved words usage
-  on_files : (answer : Answer) → is_usage words ≡ false → is_text words ≡ false → IsFilesAnswer shelved (second words) (third words) answer → IsAnswer shelved words answer
-  on_spec : (answer : Answer) → is_usage words ≡ false → is_text words ≡ true → IsTextAnswer shelved (second words) answer → IsAnswer shelved words answer
+  on_files : (answer : Answer) → is_usage words ≡ false
+      → is_text words ≡ false
+      → IsFilesAnswer shelved (second words) (third words) answer
+      → IsAnswer shelved words answer
+  on_spec : (answer : Answer) → is_usage words ≡ false
+      → is_text words ≡ true
+      → IsTextAnswer shelved (second words) answer
+      → IsAnswer shelved words answer

@@ -9,6 +9,7 @@ pub mod FormStatements
 pub mod FormTexts
 pub mod FormTokens
 pub mod Loads
+pub mod Meanings
 pub mod Plain
 pub mod PlainLayouts
 pub mod Records

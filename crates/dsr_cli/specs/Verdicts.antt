@@ -6,10 +6,9 @@ use Rattle.dsr_ir.specs.declared.declarations.Spec.{Spec}
 use Rattle.dsr_ir.specs.declared.layouts.Layout.{Layout}
 use Rattle.dsr_meaning.specs.Consistency.{IsConsistent}
 use Rattle.dsr_text.specs.Canonical.{canonical}
-use Rattle.dsr_text.specs.Declarations.{declaration_faults}
-use Rattle.dsr_text.specs.Parsing.{IsTreeOf}
 use Rattle.dsr_store.specs.Files.{Files}
 use Rattle.dsr_store.specs.Written.{appended}
+use Rattle.dsr_cli.specs.Answers.{IsMeaning}
 use Rattle.dsr_cli.specs.FormTexts.{HasForm}
 use Rattle.dsr_cli.specs.PlainLayouts.{IsLaidOut}
 use Rattle.dsr_cli.specs.Words.{second, third}
@@ -30,13 +29,12 @@ FindsConsistent held words = IfSome held (λ files. (spec : Spec) × (layout : L
 abbrev pub FindsInconsistent : Option Files → List (List ℕ) → Type 0
 FindsInconsistent held words = IfSome held (λ files. (spec : Spec) × (layout : Layout) × (image : List ℕ) × IsChecked files words spec layout image × (IsConsistent spec layout image → ⊥))
 
--- the second word names a text, whose tree has no fault in its declarations and is printed so
+-- the second word names a text that means a specification, whose tree is printed so
 pub record IsPrinted (files : Files) (words : List (List ℕ)) (out : List ℕ) : Type 0 where
   pub text : List ℕ
   pub tree : TreeShape
   pub file : get files (second words) ≡ Some text
-  pub tree_of : IsTreeOf text tree
-  pub faultless : declaration_faults tree ≡ []
+  pub meaning : IsMeaning text tree
   pub printed : out ≡ canonical tree
 
 -- where the shelf tells its files: the text that the words name has a tree, which is printed so

@@ -7,6 +7,7 @@ ghost use Rattle.dsr_cli.specs.Values.{violations_where};
 ghost use Rattle.dsr_cli.specs.Words.{is_usage};
 
 use crate::Status;
+use crate::meanings::refusal_of;
 use crate::plain_layouts::{LayoutFault, layout_of};
 use crate::reader::read_spec;
 use crate::text_command::text_of;
@@ -147,6 +148,9 @@ fn answer_on_files<F: Shelf>(
     };
     if text.len() > SPEC_LIMIT {
         return tell(alloc, Status::TooLong, b"too long spec\n");
+    }
+    if let Some(told) = refusal_of(alloc, &text)? {
+        return Ok(told);
     }
     match read_spec(alloc, &text)? {
         None => tell(alloc, Status::SpecRefused, b"spec 0 0\n"),

@@ -2,6 +2,7 @@
 #![tactic(auto)]
 
 mod answers;
+mod meanings;
 mod members;
 mod plain_layouts;
 mod program;

@@ -37,11 +37,13 @@ impl Told {
         ensures told { (faults : List Fault) → Finds faults None self.now.fault → IfSome result (Tells faults) }
         ensures none { (faults : List Fault) → Finds faults None self.now.fault → result ≡ None → faults ≡ [] }
     {
-        let fault = self.fault?;
-        Some(SpecFault::At {
-            kind: fault.condition.kind(),
-            place: fault.place,
-        })
+        match self.fault {
+            Some(fault) => Some(SpecFault::At {
+                kind: fault.condition.kind(),
+                place: fault.place,
+            }),
+            None => None,
+        }
     }
 
     fn note(&mut self, found: Fault)

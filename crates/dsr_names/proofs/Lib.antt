@@ -1,0 +1,4 @@
+pub mod Ancestors
+pub mod Growing
+pub mod Numbering
+pub mod Telling

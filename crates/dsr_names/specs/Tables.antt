@@ -1,5 +1,5 @@
 -- What the tables of names tell, as definitions and contracts see it.
-use Rattle.std.specs.Prelude.{◌≡◌, ◌≤◌, ◌<◌, ◌^◌, ℕ, Bool, false, List, [], ◌∷◌, Option, None, Some, is_some, map, if◌then◌else◌, slice_get, slice_index_or, option_map, option_and_then}
+use Rattle.std.specs.Prelude.{ℕ, Bool, false, List, [], ◌∷◌, Option, None, Some, is_some, map, if◌then◌else◌, slice_get, slice_index_or, option_map, option_and_then}
 use Rattle.std.specs.Str.{bytes_eq}
 use Rattle.indexmap.specs.IndexMap.{get}
 use Rattle.dsr_ir.specs.declared.declarations.Field.{Field}

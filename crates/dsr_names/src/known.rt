@@ -1,7 +1,5 @@
 // What is asked of names.
-ghost use Rattle.std.specs.Prelude.{◌≡◌, option_map, option_and_then};
-ghost use Rattle.std.specs.Str.{bytes_eq};
-ghost use Rattle.indexmap.specs.IndexMap.{get};
+ghost use Rattle.std.specs.Prelude.{◌≡◌, option_map};
 ghost use Rattle.dsr_meaning.specs.Instances.{declared_field};
 ghost use Rattle.dsr_typing.specs.Known.{pool_named, set_named, relation_named, plain_number, plain_set, plain_named, field_length};
 ghost use Rattle.dsr_names.specs.Tables.{own_field, first_field, line_of, known_of};

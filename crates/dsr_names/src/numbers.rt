@@ -77,7 +77,7 @@ impl Named for Constraint {
 
 /// Whether a name is known, and is this one.
 pub fn is_this(known: Option<&Name>, name: &Name) -> bool
-    ensures { result ≡ is_this (option_map (λ n. n.now) known) name.now }
+    ensures { result ≡ is_this (option_map (λ n. n.now) known.entry) name.now }
 {
     match known {
         Some(known) => known == name,

@@ -1,5 +1,5 @@
 // What the names of declared tables stand for.
-ghost use Rattle.std.specs.Prelude.{◌≡◌, ◌<◌, ◌^◌, ℕ, List, [], map, length, option_map, slice_index_or, IfOk, All};
+ghost use Rattle.std.specs.Prelude.{◌≡◌, ◌≤◌, [], ◌∷◌, map, length, slice_index_or, IfOk, All};
 ghost use Rattle.std.specs.List.{position_from};
 ghost use Rattle.std.specs.Option.{option_map_or};
 ghost use Rattle.std.specs.Str.{bytes_eq};
@@ -28,10 +28,7 @@ pub struct NameTables {
 }
 
 // For each structure the fields that it declares itself.
-fn own_fields(
-    alloc: Global,
-    structures: &[Structure],
-) -> Result<Vec<IndexMap<Name, u32>>, NoMemory>
+fn own_fields(alloc: Global, structures: &[Structure]) -> Result<Vec<IndexMap<Name, u32>>, NoMemory>
     requires { All (λ s. length s.fields ≤ 64) structures.now }
     ensures { IfOk result (λ tables. map (get bytes_eq) tables.items ≡ map (λ s q. position_from (has_field_name q) 0 s.fields) structures.now) }
 {
@@ -43,11 +40,7 @@ fn own_fields(
 }
 
 // A structure's parent and the parent's ancestors.
-fn line_of(
-    alloc: Global,
-    earlier: &[Vec<u32>],
-    parent: Option<u32>,
-) -> Result<Vec<u32>, NoMemory>
+fn line_of(alloc: Global, earlier: &[Vec<u32>], parent: Option<u32>) -> Result<Vec<u32>, NoMemory>
     ensures { IfOk result (λ line. line.items ≡ option_map_or (λ p. p ∷ slice_index_or (map (λ v. v.items) earlier.now) p []) parent []) }
 {
     let mut line = Vec::new(alloc);

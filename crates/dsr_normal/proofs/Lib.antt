@@ -1,0 +1,9 @@
+pub mod AtomLists
+pub mod Conjunctions
+pub mod Derived
+pub mod Joining
+pub mod Pushes
+pub mod Rows
+pub mod Saying
+pub mod Sizing
+pub mod Steps

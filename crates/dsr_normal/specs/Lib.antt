@@ -1,1 +1,4 @@
+pub mod Literals
+pub mod Pushing
+pub mod Sizes
 pub mod Telling

@@ -6,6 +6,10 @@ ghost use Rattle.dsr_normal.specs.Telling.{IsTold};
 ghost use Rattle.dsr_normal.specs.declared.faults.NormalFault.TheVariants as faults;
 
 use crate::NormalFault;
+use crate::atoms::has_many;
+use crate::building::formula_conjs;
+use crate::sizes::formula_size;
+use crate::values::negates_value;
 use dsr_ir::{Conj, Formula};
 use std::alloc::Global;
 
@@ -21,5 +25,16 @@ pub fn normal(alloc: Global, formula: &Formula) -> Result<Vec<Conj>, NormalFault
     ensures too_many_conjunctions { IsErrOf result faults.TooManyConjunctions ↔ (refusal_of formula.now ≡ Some too_many_conjunctions) }
     ensures same_truth { IfOk result (λ conjs. (truth : Atom → Bool) → one_holds truth conjs.items ≡ holds truth formula.now) }
 {
-    Err(NormalFault::NoMemory)
+    let node = formula.node();
+    if negates_value(false, node) {
+        return Err(NormalFault::NegatedValue);
+    }
+    if formula_size(false, false, node).is_large() {
+        return Err(NormalFault::TooManyConjunctions);
+    }
+    if has_many(alloc, node)? {
+        return Err(NormalFault::TooManyAtoms);
+    }
+    let conjs = formula_conjs(alloc, false, false, node)?;
+    Ok(conjs)
 }

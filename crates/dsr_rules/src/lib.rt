@@ -1,6 +1,14 @@
 //! Typed model definition rules (OOPSLA 2003): those of a text, or the first fault in them.
 #![tactic(auto)]
 
+mod checks;
+mod fields;
+mod guards;
+mod members;
+mod pairs;
+mod paths;
+mod scopes;
 mod typed;
+mod typed_rules;
 
 pub use typed::rules;

@@ -6,8 +6,11 @@ ghost use Rattle.dsr_typing.specs.RuleFaults.{rules_faults};
 ghost use Rattle.dsr_typing.specs.TypedRules.{typed_rules};
 ghost use Rattle.dsr_faults.specs.Refusals.{Tells};
 
-use dsr_faults::SpecFault;
+use crate::checks::check_rules;
+use crate::typed_rules::typed_rules;
+use dsr_faults::{SpecFault, Told};
 use dsr_ir::{Rule, Structures};
+use dsr_names::{Known, name_tables};
 use dsr_tree::Tree;
 use std::alloc::Global;
 
@@ -21,5 +24,15 @@ pub fn rules(alloc: Global, tree: &Tree, structures: &Structures) -> Result<Vec<
     ensures rules { IfOk result (λ rs. rs.items ≡ typed_rules (known_in structures.now) tree.now.rules) }
     ensures fault { IfErr result (Tells (rules_faults (known_in structures.now) tree.now.rules)) }
 {
-    Err(SpecFault::NoMemory)
+    let tables = name_tables(alloc, structures)?;
+    let known = Known {
+        base: structures,
+        tables: &tables,
+    };
+    let mut told = Told { fault: None };
+    check_rules(&known, &mut told, tree.rules.items());
+    if let Some(fault) = told.refusal() {
+        return Err(fault);
+    }
+    Ok(typed_rules(alloc, &known, tree.rules.items())?)
 }

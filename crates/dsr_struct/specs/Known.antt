@@ -1,5 +1,6 @@
 -- What the tables of names tell, as definitions and contracts see it.
 use Rattle.std.specs.Prelude.{◌≡◌, ◌<◌, ◌-◌, ◌^◌, ℕ, Bool, false, List, [], Option, None, Some, IfSome, All, is_some, map, if◌then◌else◌}
+use Rattle.std.specs.List.{position_from}
 use Rattle.std.specs.Str.{bytes_eq}
 use Rattle.indexmap.specs.IndexMap.{get}
 use Rattle.dsr_tree.specs.Trees.{FieldTree, named, skipped, StructureTree, tree_shape}
@@ -7,6 +8,7 @@ use Rattle.dsr_tree.specs.declared.tree.Tree.{Tree}
 use Rattle.dsr_text.specs.Declarations.{FieldPosition, width_faults}
 use Rattle.dsr_text.specs.Names.{Names}
 use Rattle.dsr_struct.specs.declared.names.NameTables.{NameTables}
+use Rattle.dsr_struct.specs.declared.names.SymbolTables.{SymbolTables}
 use Rattle.dsr_struct.specs.declared.lookups.Names.{Names as NamesOfTree}
 use Rattle.dsr_struct.specs.declared.field_checks.Position.{Position}
 
@@ -21,7 +23,24 @@ entered known name number q = if is_some (known q) then known q else (if bytes_e
 
 -- what the tables tell of the names of a tree
 abbrev pub told_by : Tree → NameTables → Names
-told_by tree tables = record { tree = tree_shape tree; structure = get bytes_eq tables.structures; fields = map (get bytes_eq) tables.fields.items; ancestors = map (λ v. v.items) tables.ancestors.items; fixed = get bytes_eq tables.fixed; pool = get bytes_eq tables.pools; set = get bytes_eq tables.sets; relation = get bytes_eq tables.relations; supply = get bytes_eq tables.supplies }
+told_by tree tables = record {
+  tree = tree_shape tree;
+  structure = get bytes_eq tables.structures;
+  fields = map (get bytes_eq) tables.fields.items;
+  ancestors = map (λ v. v.items) tables.ancestors.items;
+  fixed = get bytes_eq tables.fixed;
+  pool = get bytes_eq tables.symbols.pools;
+  set = get bytes_eq tables.symbols.sets;
+  relation = get bytes_eq tables.symbols.relations;
+  supply = get bytes_eq tables.symbols.supplies;
+}
+
+-- the tables of pools, sets, relations and supplies have the first number of each name
+pub record HaveSymbols (tree : Tree) (tables : SymbolTables) : Type 0 where
+  pub pools : (q : List ℕ) → get bytes_eq tables.pools q ≡ position_from (λ p. is_named (Some p.name.name) q) 0 tree.pools
+  pub sets : (q : List ℕ) → get bytes_eq tables.sets q ≡ position_from (λ s. is_named (Some s.name.name) q) 0 tree.sets
+  pub relations : (q : List ℕ) → get bytes_eq tables.relations q ≡ position_from (λ r. is_named (Some r.name.name) q) 0 tree.relations
+  pub supplies : (q : List ℕ) → get bytes_eq tables.supplies q ≡ position_from (λ f. is_named (Some f.pool.name) q) 0 tree.supplies
 
 abbrev pub known_of : NamesOfTree → Names
 known_of names = told_by names.tree.now names.tables.now

@@ -144,7 +144,7 @@ impl Names<'_> {
     }
 
     fn check_content(&self, told: &mut Told, width: Width, content: &Option<Content>)
-        ensures { Finds (content_faults (get bytes_eq self.now.tables.now.pools) width content.now) told.old.fault told.new.fault }
+        ensures { Finds (content_faults (get bytes_eq self.now.tables.now.symbols.pools) width content.now) told.old.fault told.new.fault }
     {
         match content {
             Some(Content::Init { number, .. }) => {

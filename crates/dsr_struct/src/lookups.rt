@@ -44,28 +44,28 @@ impl Names<'_> {
     }
 
     pub fn pool(&self, name: &Name) -> Option<usize>
-        ensures { result ≡ get bytes_eq self.now.tables.now.pools name.now }
+        ensures { result ≡ get bytes_eq self.now.tables.now.symbols.pools name.now }
     {
-        self.tables.pools.get(name).copied()
+        self.tables.symbols.pools.get(name).copied()
     }
 
     pub fn set(&self, name: &Name) -> Option<usize>
-        ensures { result ≡ get bytes_eq self.now.tables.now.sets name.now }
+        ensures { result ≡ get bytes_eq self.now.tables.now.symbols.sets name.now }
     {
-        self.tables.sets.get(name).copied()
+        self.tables.symbols.sets.get(name).copied()
     }
 
     pub fn relation(&self, name: &Name) -> Option<usize>
-        ensures { result ≡ get bytes_eq self.now.tables.now.relations name.now }
+        ensures { result ≡ get bytes_eq self.now.tables.now.symbols.relations name.now }
     {
-        self.tables.relations.get(name).copied()
+        self.tables.symbols.relations.get(name).copied()
     }
 
     /// The first supply of the pool that has a name.
     pub fn supply(&self, name: &Name) -> Option<usize>
-        ensures { result ≡ get bytes_eq self.now.tables.now.supplies name.now }
+        ensures { result ≡ get bytes_eq self.now.tables.now.symbols.supplies name.now }
     {
-        self.tables.supplies.get(name).copied()
+        self.tables.symbols.supplies.get(name).copied()
     }
 
     /// The structure of a name as a parent, a pool's structure or a set's.

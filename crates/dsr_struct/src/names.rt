@@ -5,7 +5,7 @@ ghost use Rattle.std.specs.Str.{bytes_eq};
 ghost use Rattle.indexmap.specs.IndexMap.{get};
 ghost use Rattle.dsr_tree.specs.Trees.{field_shape, structure_shape, tree_shape};
 ghost use Rattle.dsr_text.specs.Names.{has_name, has_fixed_name, field_number, fixed_in, before, is_head, with_ancestors, all_ancestors, parent_number, names_of};
-ghost use Rattle.dsr_struct.specs.Known.{is_named, entered, told_by};
+ghost use Rattle.dsr_struct.specs.Known.{is_named, entered, told_by, HaveSymbols};
 
 use dsr_ir::{Name, NoMemory, TryClone};
 use dsr_tree::{Field, Fresh, PlacedName, Pool, Relation, Set, Structure, Tree};
@@ -22,6 +22,12 @@ pub struct NameTables {
     pub ancestors: Vec<Vec<usize>>,
     /// The fixed fields of `Head`.
     pub fixed: IndexMap<Name, usize>,
+    pub symbols: SymbolTables,
+}
+
+/// What the names of pools, sets and relations stand for.
+#[derive(Drop)]
+pub struct SymbolTables {
     pub pools: IndexMap<Name, usize>,
     pub sets: IndexMap<Name, usize>,
     pub relations: IndexMap<Name, usize>,
@@ -165,12 +171,13 @@ fn fixed_fields(alloc: Global, fields: &[Field]) -> Result<IndexMap<Name, usize>
 fn fixed_of_head(
     alloc: Global,
     tree: &Tree,
-    head: Option<usize>,
+    structures: &IndexMap<Name, usize>,
 ) -> Result<IndexMap<Name, usize>, NoMemory>
-    ensures { IfOk result (λ m. (q : List ℕ) → get bytes_eq m q ≡ fixed_in (tree_shape tree.now) head q) }
+    ensures { IfOk result (λ m. (q : List ℕ) → get bytes_eq m q ≡ fixed_in (tree_shape tree.now) (get bytes_eq structures.now (codes "Head")) q) }
 {
-    if let Some(number) = head {
-        if let Some(structure) = tree.structures.items().get(number) {
+    let head = head_name(alloc)?;
+    if let Some(number) = structures.get(&head) {
+        if let Some(structure) = tree.structures.items().get(*number) {
             return fixed_fields(alloc, structure.fields.items());
         }
     }
@@ -253,22 +260,37 @@ fn ancestors_of(
     Ok(lines)
 }
 
+// What the names of pools, sets and relations stand for.
+fn symbol_tables(alloc: Global, tree: &Tree) -> Result<SymbolTables, NoMemory>
+    ensures { IfOk result (HaveSymbols tree.now) }
+{
+    let pools = numbers_of(alloc, tree.pools.items())?;
+    let sets = numbers_of(alloc, tree.sets.items())?;
+    let relations = numbers_of(alloc, tree.relations.items())?;
+    let supplies = numbers_of(alloc, tree.supplies.items())?;
+    Ok(SymbolTables {
+        pools,
+        sets,
+        relations,
+        supplies,
+    })
+}
+
 /// What the names of a tree stand for.
 pub fn name_tables(alloc: Global, tree: &Tree) -> Result<NameTables, NoMemory>
     ensures { IfOk result (λ tables. told_by tree.now tables ≡ names_of (tree_shape tree.now)) }
 {
     let items = tree.structures.items();
+    let symbols = symbol_tables(alloc, tree)?;
     let structures = numbers_of(alloc, items)?;
-    let head = head_name(alloc)?;
-    let fixed = fixed_of_head(alloc, tree, structures.get(&head).copied())?;
+    let fixed = fixed_of_head(alloc, tree, &structures)?;
+    let fields = own_fields(alloc, items)?;
+    let ancestors = ancestors_of(alloc, &structures, &items[..items.len().min(65)])?;
     Ok(NameTables {
-        fields: own_fields(alloc, items)?,
-        ancestors: ancestors_of(alloc, &structures, &items[..items.len().min(65)])?,
-        fixed,
-        pools: numbers_of(alloc, tree.pools.items())?,
-        sets: numbers_of(alloc, tree.sets.items())?,
-        relations: numbers_of(alloc, tree.relations.items())?,
-        supplies: numbers_of(alloc, tree.supplies.items())?,
         structures,
+        fields,
+        ancestors,
+        fixed,
+        symbols,
     })
 }

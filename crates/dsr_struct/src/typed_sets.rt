@@ -28,7 +28,7 @@ impl Names<'_> {
         ensures { result ≡ typed_except (known_of self.now) view.now }
     {
         match view {
-            Some(View::Except { set, .. }) => Some(number_in(&self.tables.sets, set)),
+            Some(View::Except { set, .. }) => Some(number_in(&self.tables.symbols.sets, set)),
             _ => None,
         }
     }

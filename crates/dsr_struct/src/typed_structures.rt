@@ -31,7 +31,7 @@ impl Names<'_> {
         requires fit { AllFit (known_of self.now) }
         ensures { result ≡ pool_in (known_of self.now) name.now }
     {
-        number_in(&self.tables.pools, name) + 1
+        number_in(&self.tables.symbols.pools, name) + 1
     }
 
     /// The structure of a name as a parent, a pool's structure or a set's.
@@ -149,7 +149,7 @@ impl Names<'_> {
         requires fit { AllFit (known_of self.now) }
         ensures { IfOk result (λ ns. ns ≡ avoided_by (known_of self.now) supply.now) }
     {
-        let sets = &self.tables.sets;
+        let sets = &self.tables.symbols.sets;
         let mut numbers = Vec::new(alloc);
         numbers.push(number_in(sets, &supply.first))?;
         for set in supply.rest.items() {
@@ -176,16 +176,24 @@ impl Names<'_> {
         ensures { IfOk result (λ p. p ≡ typed_pool (known_of self.now) (pool_shape pool.now)) }
     {
         let fixed = &self.tables.fixed;
+        let name = pool.name.name.clone(alloc)?;
+        let count = typed_expr(alloc, fixed, &pool.count)?;
+        let slot = typed_maybe_expr(alloc, fixed, &pool.slot)?;
+        let start = typed_expr(alloc, fixed, &pool.start)?;
+        let code = typed_expr(alloc, fixed, &pool.code)?;
+        let step = typed_expr(alloc, fixed, &pool.step)?;
+        let none = typed_expr(alloc, fixed, &pool.none)?;
+        let avoid = self.avoided(alloc, &pool.name.name)?;
         Ok(Pool {
-            name: pool.name.name.clone(alloc)?,
+            name,
             structure: self.structure_in(&pool.structure),
-            count: typed_expr(alloc, fixed, &pool.count)?,
-            slot: typed_maybe_expr(alloc, fixed, &pool.slot)?,
-            start: typed_expr(alloc, fixed, &pool.start)?,
-            code: typed_expr(alloc, fixed, &pool.code)?,
-            step: typed_expr(alloc, fixed, &pool.step)?,
-            none: typed_expr(alloc, fixed, &pool.none)?,
-            avoid: self.avoided(alloc, &pool.name.name)?,
+            count,
+            slot,
+            start,
+            code,
+            step,
+            none,
+            avoid,
         })
     }
 

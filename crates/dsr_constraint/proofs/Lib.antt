@@ -1,0 +1,9 @@
+pub mod FormulaSteps
+pub mod Mapped
+pub mod Merged
+pub mod Named
+pub mod Narrowest
+pub mod Negated
+pub mod Pass
+pub mod SizeParts
+pub mod Wide

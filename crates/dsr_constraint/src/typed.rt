@@ -1,16 +1,152 @@
 // The typed constraints of a tree, or its first fault.
-ghost use Rattle.std.specs.Prelude.{◌≡◌, [], map, IfOk, IfErr};
+ghost use Rattle.std.specs.Prelude.{◌≡◌, ◌++◌, ◌∷◌, [], None, map, IfOk, IfErr, OnOk};
+ghost use Rattle.std.specs.Str.{bytes_eq};
+ghost use Rattle.indexmap.specs.IndexMap.{get};
 ghost use Rattle.dsr_meaning.specs.Typed.{AreTyped};
-ghost use Rattle.dsr_tree.specs.Trees.{constraint_shape};
+ghost use Rattle.dsr_names.specs.Tables.{known_of};
+ghost use Rattle.dsr_tree.specs.Trees.{constraint_shape, formula_shape};
 ghost use Rattle.dsr_typing.specs.Known.{known_in};
-ghost use Rattle.dsr_typing.specs.Constraints.{constraints_faults};
-ghost use Rattle.dsr_typing.specs.TypedConstraints.{typed_constraints};
+ghost use Rattle.dsr_typing.specs.Constraints.{constraint_number, refusal_faults, constraint_faults, constraints_faults};
+ghost use Rattle.dsr_typing.specs.NormalForms.{normal_form, refusal_of};
+ghost use Rattle.dsr_typing.specs.TypedConstraints.{scope_of, typed_formula, typed_constraint, typed_constraints};
 ghost use Rattle.dsr_faults.specs.Refusals.{Tells};
+ghost use Rattle.dsr_faults.specs.Telling.{Finds};
+ghost use Rattle.dsr_constraint.specs.Scoped.{scope_told};
+ghost use Rattle.dsr_constraint.specs.Widest.{AreLeast, CountRelations};
 
-use dsr_faults::SpecFault;
-use dsr_ir::{Constraint, Structures};
-use dsr_tree::Tree;
+use crate::atoms::note_part;
+use crate::checks::{Checker, check_refusal, constraint_limit, constraint_numbers};
+use crate::scopes::{Scope, scope_of};
+use crate::typed_forms::all_without_complements;
+use crate::typed_formulas::typed_formula;
+use crate::widths::{Constants, least_widths};
+use dsr_faults::{SpecFault, Told};
+use dsr_ir::{Conj, Constraint, Formula, NoMemory, Seq, Structures, TryClone};
+use dsr_names::{Known, name_tables};
+use dsr_normal::normal;
+use dsr_tree::{Condition, Tree};
 use std::alloc::Global;
+
+// A constraint that has this normal form.
+fn typed_constraint(
+    alloc: Global,
+    scope: &Scope,
+    constraint: &dsr_tree::Constraint,
+    conjs: &[Conj],
+) -> Result<Constraint, NoMemory>
+    requires scope { scope_told scope.now ≡ scope_of (scope_told scope.now).known constraint.now.quantifier }
+    requires conjs { conjs.now ≡ normal_form (typed_formula (scope_told scope.now) (formula_shape constraint.now.formula)) }
+    ensures { IfOk result (λ c. c ≡ typed_constraint (scope_told scope.now).known (constraint_shape constraint.now)) }
+{
+    let name = constraint.name.name.clone(alloc)?;
+    let conjs = all_without_complements(alloc, scope.known.base, conjs)?;
+    Ok(Constraint {
+        name,
+        quant: scope.typed_quant(),
+        conjs: Seq::new(conjs),
+    })
+}
+
+// The typed constraint where its formula has a normal form, and otherwise why it has none.
+fn add_typed(
+    alloc: Global,
+    known: &Known,
+    told: &mut Told,
+    typed: &mut Vec<Constraint>,
+    constraint: &dsr_tree::Constraint,
+) -> Result<(), NoMemory>
+    ensures found { OnOk result (let c = constraint_shape constraint.now in
+        Finds (refusal_faults c (refusal_of (typed_formula (scope_of (known_of known.now) c.quantifier) c.formula))) told.old.fault told.new.fault) }
+    ensures typed { OnOk result (let c = constraint_shape constraint.now in
+        refusal_faults c (refusal_of (typed_formula (scope_of (known_of known.now) c.quantifier) c.formula)) ≡ [] → typed.new.items ≡ typed.old.items ++ typed_constraint (known_of known.now) c ∷ []) }
+{
+    let scope = scope_of(known, &constraint.quantifier);
+    let formula = Formula::new(typed_formula(alloc, &scope, &constraint.formula)?);
+    match normal(alloc, &formula) {
+        Ok(conjs) => {
+            let added = typed_constraint(alloc, &scope, constraint, &conjs)?;
+            typed.push(added)?;
+            Ok(())
+        }
+        Err(fault) => check_refusal(told, constraint, fault),
+    }
+}
+
+impl Checker<'_> {
+    // The faults of a constraint; it is added where it has none.
+    fn check_constraint(
+        &self,
+        alloc: Global,
+        told: &mut Told,
+        typed: &mut Vec<Constraint>,
+        number: usize,
+        constraint: &dsr_tree::Constraint,
+    ) -> Result<(), NoMemory>
+        requires { AreLeast (known_of self.now.known) self.now.constants.rules.now self.now.constants.least.now }
+        ensures found { OnOk result (Finds (constraint_faults (known_of self.now.known) self.now.constants.rules.now (get bytes_eq self.now.numbers.now) number (constraint_shape constraint.now)) told.old.fault told.new.fault) }
+        ensures typed { OnOk result (constraint_faults (known_of self.now.known) self.now.constants.rules.now (get bytes_eq self.now.numbers.now) number (constraint_shape constraint.now) ≡ [] → typed.new.items ≡ typed.old.items ++ typed_constraint (known_of self.now.known) (constraint_shape constraint.now) ∷ []) }
+    {
+        let is_over = number == constraint_limit(self.known.base.version);
+        told.note_if(is_over, Condition::Limit, constraint.name.place);
+        let mut own = Told { fault: None };
+        self.check_own(&mut own, number, constraint);
+        note_part(told, &own);
+        if own.fault.is_none() {
+            add_typed(alloc, &self.known, told, typed, constraint)?;
+        }
+        Ok(())
+    }
+
+    // The typed constraints where there is no fault.
+    fn typed_constraints(
+        &self,
+        alloc: Global,
+        told: &mut Told,
+        constraints: &[dsr_tree::Constraint],
+    ) -> Result<Vec<Constraint>, NoMemory>
+        requires least { AreLeast (known_of self.now.known) self.now.constants.rules.now self.now.constants.least.now }
+        requires numbers { get bytes_eq self.now.numbers.now ≡ constraint_number (map constraint_shape constraints.now) }
+        ensures found { OnOk result (Finds (constraints_faults (known_of self.now.known) self.now.constants.rules.now (map constraint_shape constraints.now)) told.old.fault told.new.fault) }
+        ensures typed { IfOk result (λ cs. constraints_faults (known_of self.now.known) self.now.constants.rules.now (map constraint_shape constraints.now) ≡ [] → cs.items ≡ typed_constraints (known_of self.now.known) (map constraint_shape constraints.now)) }
+    {
+        let mut typed = Vec::new(alloc);
+        for (number, constraint) in constraints.iter().enumerate() {
+            self.check_constraint(alloc, told, &mut typed, number, constraint)?;
+        }
+        Ok(typed)
+    }
+}
+
+// The typed constraints of a tree, over what its names stand for, or its first fault.
+fn constraints_among(
+    alloc: Global,
+    tree: &Tree,
+    known: &Known,
+) -> Result<Vec<Constraint>, SpecFault>
+    requires { CountRelations (known_of known.now) }
+    ensures no_fault { IfOk result (λ _. constraints_faults (known_of known.now) tree.now.rules (map constraint_shape tree.now.constraints) ≡ []) }
+    ensures constraints { IfOk result (λ cs. cs.items ≡ typed_constraints (known_of known.now) (map constraint_shape tree.now.constraints)) }
+    ensures fault { IfErr result (Tells (constraints_faults (known_of known.now) tree.now.rules (map constraint_shape tree.now.constraints))) }
+{
+    let rules = tree.rules.items();
+    let items = tree.constraints.items();
+    let least = least_widths(alloc, known, rules)?;
+    let numbers = constraint_numbers(alloc, items)?;
+    let checker = Checker {
+        known: *known,
+        constants: Constants {
+            rules,
+            least: &least,
+        },
+        numbers: &numbers,
+    };
+    let mut told = Told { fault: None };
+    let typed = checker.typed_constraints(alloc, &mut told, items)?;
+    match told.refusal() {
+        Some(fault) => Err(fault),
+        None => Ok(typed),
+    }
+}
 
 /// The typed constraints of a tree, in order, in disjunctive normal form, over the tables of its
 /// declarations; complements have given way to their bases. `At` tells the fault with the least
@@ -27,5 +163,10 @@ pub fn constraints(
     ensures constraints { IfOk result (λ cs. cs.items ≡ typed_constraints (known_in structures.now) (map constraint_shape tree.now.constraints)) }
     ensures fault { IfErr result (Tells (constraints_faults (known_in structures.now) tree.now.rules (map constraint_shape tree.now.constraints))) }
 {
-    Err(SpecFault::NoMemory)
+    let tables = name_tables(alloc, structures)?;
+    let known = Known {
+        base: structures,
+        tables: &tables,
+    };
+    constraints_among(alloc, tree, &known)
 }

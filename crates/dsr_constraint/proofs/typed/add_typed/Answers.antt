@@ -1,0 +1,24 @@
+use Rattle.std.proofs.Common.{◌≡◌, sym, ap, ◌∙◌}
+use Rattle.dsr_names.specs.Tables.{known_of}
+use Rattle.dsr_tree.specs.Trees.{constraint_shape}
+use Rattle.dsr_typing.specs.Constraints.{refusal_faults}
+use Rattle.dsr_typing.specs.NormalForms.{refusal_of}
+use Rattle.dsr_typing.specs.TypedConstraints.{scope_of, typed_formula}
+use Rattle.dsr_normal.specs.Telling.{refusal_told}
+use Rattle.dsr_faults.proofs.Finding.{finds_same}
+use Rattle.dsr_constraint.proofs.Negated.{both_ok, refusal_same, told_found}
+use Rattle.dsr_constraint.proofs.typed.add_typed.Goals as goal
+
+pub returns-clause-found : goal.returns-clause-found
+returns-clause-found c =
+    let x = constraint_shape c.args.constraint.now in
+    let scope = scope_of (known_of c.args.known.now) x.quantifier in
+    let shape : c.new-formula.result ≡ typed_formula scope x.formula = c.new-formula.ensures ∙ c.in_ok-typed_formula.ensures ∙ ap (λ s. typed_formula s x.formula) c.scope_of-scope.ensures in
+    both_ok c.check_refusal.result (λ known found. finds_same (ap (refusal_faults x) (sym (ap refusal_of (sym shape) ∙ refusal_same c.new-formula.result c.in-Err.fault c.in-Err.ensures.refused known))) found) c.check_refusal.ensures.known c.check_refusal.ensures.found
+
+pub returns-clause-typed : goal.returns-clause-typed
+returns-clause-typed c =
+    let x = constraint_shape c.args.constraint.now in
+    let scope = scope_of (known_of c.args.known.now) x.quantifier in
+    let shape : c.new-formula.result ≡ typed_formula scope x.formula = c.new-formula.ensures ∙ c.in_ok-typed_formula.ensures ∙ ap (λ s. typed_formula s x.formula) c.scope_of-scope.ensures in
+    both_ok c.check_refusal.result (λ known found none. absurd (told_found scope x (refusal_told c.in-Err.fault) (ap refusal_of (sym shape) ∙ refusal_same c.new-formula.result c.in-Err.fault c.in-Err.ensures.refused known) known none)) c.check_refusal.ensures.known c.check_refusal.ensures.found

@@ -1,0 +1,127 @@
+// Sizes: their names, and whether the relations in them are those of a variable.
+ghost use Rattle.std.specs.Prelude.{◌≡◌, ◌||◌, None, Some, is_some, option_map, if◌then◌else◌};
+ghost use Rattle.dsr_text.specs.Faults.{when};
+ghost use Rattle.dsr_faults.specs.Telling.{Finds};
+ghost use Rattle.dsr_typing.specs.Known.{unknown};
+ghost use Rattle.dsr_typing.specs.TypedConstraints.{named_variable, counts_targets, counts_sources};
+ghost use Rattle.dsr_typing.specs.Constraints.{size_names, relation_at, size_mismatches, counts_numbers};
+ghost use Rattle.dsr_constraint.specs.Scoped.{scope_told};
+
+use crate::pools::{gives_numbers, has_other_source, has_other_targets};
+use crate::scopes::Scope;
+use dsr_faults::Told;
+use dsr_ir::Rel;
+use dsr_tree::{Condition, PlacedName, Size, Var};
+
+/// Takes note of a name where nothing was found for it.
+pub fn check_found<T>(told: &mut Told, found: &Option<T>, name: &PlacedName)
+    ensures { Finds (unknown found.now name.now) told.old.fault told.new.fault }
+{
+    told.note_if(found.is_none(), Condition::UnknownName, name.place);
+}
+
+impl Scope<'_> {
+    /// Whether `size(a.b)` counts the targets of a variable a under a relation b.
+    pub fn counts_targets(&self, var: &Var, part: &PlacedName) -> bool
+        ensures { result ≡ counts_targets (scope_told self.now) var.now part.now }
+    {
+        self.variable(var).is_some() && self.known.relation(&part.name).is_some()
+    }
+
+    // Whether it counts the sources of a variable b under a relation a.
+    fn counts_sources(&self, var: &Var, part: &PlacedName) -> bool
+        ensures { result ≡ counts_sources (scope_told self.now) var.now part.now }
+    {
+        self.relation_of(var).is_some() && self.named_variable(&part.name).is_some()
+    }
+
+    // Where a size of two names is told that it counts nothing: at the second one where the first is known.
+    fn unknown_place(&self, first: &PlacedName, part: &PlacedName) -> u64
+        ensures { let scope = scope_told self.now in
+            result ≡ (if is_some (named_variable scope.binder first.now.name) || is_some (scope.known.relation first.now.name) then part.now.place else first.now.place) }
+    {
+        if self.named_variable(&first.name).is_some()
+            || self.known.relation(&first.name).is_some()
+        {
+            part.place
+        } else {
+            first.place
+        }
+    }
+
+    fn check_whole_name(&self, told: &mut Told, var: &Var)
+        ensures { Finds (size_names (scope_told self.now) var.now None) told.old.fault told.new.fault }
+    {
+        match var {
+            Var::Head { .. } => (),
+            Var::Name(name) => check_found(told, &self.known.set(&name.name), name),
+        }
+    }
+
+    fn check_part_names(&self, told: &mut Told, var: &Var, part: &PlacedName)
+        ensures { Finds (size_names (scope_told self.now) var.now (Some part.now)) told.old.fault told.new.fault }
+    {
+        match var {
+            Var::Head { .. } => check_found(told, &self.known.relation(&part.name), part),
+            Var::Name(first) => {
+                let is_counted = self.counts_targets(var, part) || self.counts_sources(var, part);
+                let place = self.unknown_place(first, part);
+                told.note_if(!is_counted, Condition::UnknownName, place);
+            }
+        }
+    }
+
+    /// The names of a size that stand for nothing.
+    pub fn check_size_names(&self, told: &mut Told, size: &Size)
+        ensures { Finds (size_names (scope_told self.now) size.now.var size.now.part) told.old.fault told.new.fault }
+    {
+        match &size.part {
+            Some(part) => self.check_part_names(told, &size.var, part),
+            None => self.check_whole_name(told, &size.var),
+        }
+    }
+
+    // The declaration of the relation of this name.
+    fn relation_at(&self, var: &Var) -> Option<&Rel>
+        ensures { option_map (λ r. r.now) result ≡ relation_at (scope_told self.now).known var.now }
+    {
+        self.known
+            .base
+            .rels
+            .items()
+            .get(self.relation_of(var)? as usize)
+    }
+
+    fn part_mismatches(&self, var: &Var, part: &PlacedName) -> bool
+        ensures { result ≡ size_mismatches (scope_told self.now) var.now (Some part.now) }
+    {
+        if self.counts_targets(var, part) {
+            has_other_source(self.known.relation_named(&part.name), self.pool_of(var))
+        } else {
+            has_other_targets(self.relation_at(var), self.pool_of_name(part))
+        }
+    }
+
+    /// Whether a size isn't one of a form, or has a relation that isn't one of the variable's pool.
+    pub fn size_mismatches(&self, size: &Size) -> bool
+        ensures { result ≡ size_mismatches (scope_told self.now) size.now.var size.now.part }
+    {
+        match &size.part {
+            Some(part) => self.part_mismatches(&size.var, part),
+            None => matches!(&size.var, Var::Head { .. }),
+        }
+    }
+
+    /// Whether what a size counts are numbers.
+    pub fn counts_numbers(&self, size: &Size) -> bool
+        ensures { result ≡ counts_numbers (scope_told self.now) size.now.var size.now.part }
+    {
+        match &size.part {
+            Some(part) => {
+                self.counts_targets(&size.var, part)
+                    && gives_numbers(self.known.relation_named(&part.name))
+            }
+            None => false,
+        }
+    }
+}

@@ -7,18 +7,12 @@ ghost use Rattle.dsr_typing.specs.TypedConstraints.{named_variable, counts_targe
 ghost use Rattle.dsr_typing.specs.Constraints.{size_names, relation_at, size_mismatches, counts_numbers};
 ghost use Rattle.dsr_constraint.specs.Scoped.{scope_told};
 
+use crate::notes::check_found;
 use crate::pools::{gives_numbers, has_other_source, has_other_targets};
 use crate::scopes::Scope;
 use dsr_faults::Told;
 use dsr_ir::Rel;
 use dsr_tree::{Condition, PlacedName, Size, Var};
-
-/// Takes note of a name where nothing was found for it.
-pub fn check_found<T>(told: &mut Told, found: &Option<T>, name: &PlacedName)
-    ensures { Finds (unknown found.now name.now) told.old.fault told.new.fault }
-{
-    told.note_if(found.is_none(), Condition::UnknownName, name.place);
-}
 
 impl Scope<'_> {
     /// Whether `size(a.b)` counts the targets of a variable a under a relation b.

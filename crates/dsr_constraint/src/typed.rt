@@ -11,7 +11,7 @@ ghost use Rattle.dsr_typing.specs.NormalForms.{normal_form};
 ghost use Rattle.dsr_typing.specs.TypedConstraints.{scope_of, typed_formula, typed_constraint, typed_constraints};
 ghost use Rattle.dsr_faults.specs.Refusals.{Tells};
 ghost use Rattle.dsr_faults.specs.Telling.{Finds};
-ghost use Rattle.dsr_constraint.specs.Scoped.{scope_told, Narrow, faults_of, faults_of_form, typed_of};
+ghost use Rattle.dsr_constraint.specs.Scoped.{scope_told, Narrow, faults_of, faults_of_form, typed_of, faults_of_all, typed_of_all};
 ghost use Rattle.dsr_constraint.specs.Widest.{CountRelations};
 
 use crate::checks::{Checker, check_refusal, constraint_limit, constraint_numbers};
@@ -104,8 +104,8 @@ impl Checker<'_> {
     ) -> Result<Vec<Constraint>, NoMemory>
         requires least { Narrow self.now.known self.now.constants }
         requires numbers { get bytes_eq self.now.numbers.now ≡ constraint_number (map constraint_shape constraints.now) }
-        ensures found { OnOk result (Finds (constraints_faults (known_of self.now.known) self.now.constants.rules.now (map constraint_shape constraints.now)) told.old.fault told.new.fault) }
-        ensures typed { IfOk result (λ cs. constraints_faults (known_of self.now.known) self.now.constants.rules.now (map constraint_shape constraints.now) ≡ [] → cs.items ≡ typed_constraints (known_of self.now.known) (map constraint_shape constraints.now)) }
+        ensures found { OnOk result (Finds (faults_of_all self.now.known self.now.constants.rules.now constraints.now) told.old.fault told.new.fault) }
+        ensures typed { IfOk result (λ cs. faults_of_all self.now.known self.now.constants.rules.now constraints.now ≡ [] → cs.items ≡ typed_of_all self.now.known constraints.now) }
     {
         let mut typed = Vec::new(alloc);
         for (number, constraint) in constraints.iter().enumerate() {
@@ -122,9 +122,9 @@ fn constraints_among(
     known: &Known,
 ) -> Result<Vec<Constraint>, SpecFault>
     requires { CountRelations (known_of known.now) }
-    ensures no_fault { IfOk result (λ _. constraints_faults (known_of known.now) tree.now.rules (map constraint_shape tree.now.constraints) ≡ []) }
-    ensures constraints { IfOk result (λ cs. cs.items ≡ typed_constraints (known_of known.now) (map constraint_shape tree.now.constraints)) }
-    ensures fault { IfErr result (Tells (constraints_faults (known_of known.now) tree.now.rules (map constraint_shape tree.now.constraints))) }
+    ensures no_fault { IfOk result (λ _. faults_of_all known.now tree.now.rules tree.now.constraints ≡ []) }
+    ensures constraints { IfOk result (λ cs. cs.items ≡ typed_of_all known.now tree.now.constraints) }
+    ensures fault { IfErr result (Tells (faults_of_all known.now tree.now.rules tree.now.constraints)) }
 {
     let rules = tree.rules.items();
     let items = tree.constraints.items();

@@ -5,5 +5,4 @@ pub mod Named
 pub mod Narrowest
 pub mod Negated
 pub mod Pass
-pub mod SizeParts
 pub mod Wide

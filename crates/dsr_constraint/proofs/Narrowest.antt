@@ -1,12 +1,11 @@
 -- The widths that rules give to relations, and constants that don't fit them.
-use Rattle.std.proofs.Common.{◌≡◌, ◌≢◌, ◌<◌, ◌≤◌, ◌+◌, ◌^◌, ℕ, Bool, true, false, ◌||◌, nat_eq, eqb, leb, cond, min, List, [], ◌∷◌, ◌++◌, take, length, get_or, set, Option, None, Some, IfSome, if◌then◌else◌, refl, sym, ap, ◌∙◌, add-one, subst, arith}
+use Rattle.std.proofs.Common.{◌≡◌, ◌≢◌, ◌<◌, ◌≤◌, ◌+◌, ◌^◌, ℕ, true, false, ◌||◌, nat_eq, leb, min, List, [], ◌∷◌, ◌++◌, take, length, get_or, set, Option, None, Some, IfSome, if◌then◌else◌, refl, sym, ap, ◌∙◌, add-one, subst, arith}
 use Rattle.std.proofs.Math.Pow.{pow_mono}
 use Rattle.std.proofs.Math.Seq.{take-suc}
 use Rattle.std.proofs.lemmas.Bool.Decides.{nat_tests}
 use Rattle.std.proofs.lemmas.List.{get_or-set_same, get_or-set_other, length-set}
 use Rattle.dsr_ir.specs.declared.declarations.Field.{Field}
 use Rattle.dsr_ir.specs.declared.declarations.FieldRef.{FieldRef}
-use Rattle.dsr_ir.specs.declared.declarations.Structures.{Structures}
 use Rattle.dsr_meaning.specs.Cells.{width_bits}
 use Rattle.dsr_meaning.specs.Instances.{declared_field}
 use Rattle.dsr_meaning.specs.Lists.{any_of}
@@ -16,7 +15,7 @@ use Rattle.dsr_tree.specs.declared.tree.Rule.{Rule}
 use Rattle.dsr_text.specs.Names.{is_at}
 use Rattle.dsr_typing.specs.Known.{Known, field_is}
 use Rattle.dsr_typing.specs.Rules.{Scope, scope_of, path_field}
-use Rattle.dsr_typing.specs.Constraints.{inclusion_field, value_field, is_too_narrow, is_too_great}
+use Rattle.dsr_typing.specs.Constraints.{inclusion_field, value_field, is_too_narrow}
 use Rattle.std.specs.Option.{option_map_or}
 use Rattle.dsr_constraint.specs.Widest.{given_relation, read_field, field_width, given_width, least_width, CountRelations}
 

@@ -12,7 +12,7 @@ use Rattle.dsr_tree.specs.Trees.{ConstraintTree, FormulaTree, formula_tree, Join
 use Rattle.dsr_text.specs.Faults.{when}
 use Rattle.dsr_typing.specs.Known.{is_nil}
 use Rattle.dsr_typing.specs.Constraints.{is_value, has_value, joins_have_value, join_has_value, units_have_value, unit_has_value, negations, joins_negations, join_negations, units_negations, unit_negations, refusal_faults}
-use Rattle.dsr_typing.specs.NormalForms.{Refusal, negated_value, too_many_conjunctions, too_many_atoms, is_membership, negates, row_negates, refusal_of, is_too_large, distributed, has_many_atoms, atoms_of}
+use Rattle.dsr_typing.specs.NormalForms.{Refusal, negated_value, too_many_conjunctions, too_many_atoms, is_membership, negates, row_negates, refusal_of}
 use Rattle.dsr_typing.specs.TypedConstraints.{Scope, typed_formula, typed_joins, typed_join, typed_units, typed_unit, typed_atom}
 
 -- a list is told where one of its parts is

@@ -1,5 +1,5 @@
 -- How wide a constant may be with which the values of a relation are compared.
-use Rattle.std.specs.Prelude.{◌≡◌, ◌<◌, ℕ, min, if◌then◌else◌, length, List, [], ◌∷◌, Option, None, Some, IfSome, slice_index_or, option_and_then}
+use Rattle.std.specs.Prelude.{◌≡◌, ◌<◌, ℕ, min, if◌then◌else◌, length, List, [], ◌∷◌, Option, None, IfSome, slice_index_or, option_and_then}
 use Rattle.std.specs.Option.{option_map_or}
 use Rattle.dsr_ir.specs.declared.declarations.FieldRef.{FieldRef}
 use Rattle.dsr_meaning.specs.Cells.{width_bits}

@@ -1,30 +1,19 @@
 // The faults of atoms.
 ghost use Rattle.std.specs.Prelude.{◌≡◌, List, None, option_map};
-ghost use Rattle.dsr_tree.specs.declared.faults.Fault.{Fault};
 ghost use Rattle.dsr_faults.specs.Telling.{Finds};
 ghost use Rattle.dsr_names.specs.Tables.{known_of};
 ghost use Rattle.dsr_typing.specs.Known.{unknown, set_named};
 ghost use Rattle.dsr_typing.specs.Rules.{var_place};
 ghost use Rattle.dsr_typing.specs.Constraints.{variable_faults, measure_names, measure_mismatches, measure_faults, atom_place, atom_names, pairs_others, atom_mismatches, atom_constants, atom_faults};
-ghost use Rattle.dsr_constraint.specs.Scoped.{scope_told};
-ghost use Rattle.dsr_constraint.specs.Widest.{AreLeast};
+ghost use Rattle.dsr_constraint.specs.Scoped.{scope_told, Narrow};
 
+use crate::notes::{check_found, note_part};
 use crate::pools::{disagree, has_other_source, has_other_target, values_others};
 use crate::scopes::Scope;
-use crate::sizes::check_found;
 use crate::widths::Constants;
 use dsr_faults::Told;
 use dsr_ir::Rel;
 use dsr_tree::{Atom, Condition, Measure, PlacedName, Var};
-
-/// Takes note of the fault that is told of a part.
-pub fn note_part(told: &mut Told, part: &Told)
-    ensures { (faults : List Fault) → Finds faults None part.now.fault → Finds faults told.old.fault told.new.fault }
-{
-    if let Some(fault) = part.fault {
-        told.note_if(true, fault.condition, fault.place);
-    }
-}
 
 fn var_place(var: &Var) -> u64
     ensures { result ≡ var_place var.now }
@@ -162,7 +151,7 @@ impl Scope<'_> {
         relation: Option<u32>,
         measure: &Measure,
     )
-        requires { AreLeast (known_of self.now.known) constants.now.rules.now constants.now.least.now }
+        requires { Narrow self.now.known constants.now }
         ensures { Finds (measure_faults (known_of self.now.known) constants.now.rules.now relation measure.now) told.old.fault told.new.fault }
     {
         match measure {
@@ -175,7 +164,7 @@ impl Scope<'_> {
     }
 
     fn check_constants(&self, told: &mut Told, constants: &Constants, atom: &Atom)
-        requires { AreLeast (known_of self.now.known) constants.now.rules.now constants.now.least.now }
+        requires { Narrow self.now.known constants.now }
         ensures { Finds (atom_constants (scope_told self.now) constants.now.rules.now atom.now) told.old.fault told.new.fault }
     {
         match atom {
@@ -197,7 +186,7 @@ impl Scope<'_> {
 
     /// The faults of an atom; pools and kinds are asked only where each name stands for something.
     pub fn check_atom(&self, told: &mut Told, constants: &Constants, atom: &Atom)
-        requires { AreLeast (known_of self.now.known) constants.now.rules.now constants.now.least.now }
+        requires { Narrow self.now.known constants.now }
         ensures { Finds (atom_faults (scope_told self.now) constants.now.rules.now atom.now) told.old.fault told.new.fault }
     {
         let mut names = Told { fault: None };

@@ -8,14 +8,14 @@ ghost use Rattle.dsr_names.specs.Tables.{known_of};
 ghost use Rattle.dsr_normal.specs.Telling.{refusal_told};
 ghost use Rattle.dsr_text.specs.Names.{is_at};
 ghost use Rattle.dsr_tree.specs.Trees.{constraint_shape};
-ghost use Rattle.dsr_typing.specs.Constraints.{gives_numbers, binder_faults, symbol_faults, quantifier_faults, constraint_number, own_faults, refusal_faults};
-ghost use Rattle.dsr_constraint.specs.Widest.{AreLeast};
+ghost use Rattle.dsr_typing.specs.Constraints.{gives_numbers, binder_faults, symbol_faults, quantifier_faults, constraint_number, refusal_faults};
+ghost use Rattle.dsr_constraint.specs.Scoped.{Narrow, own_faults_of};
 
 use crate::formulas::check_formula;
 use crate::negations::check_negations;
+use crate::notes::check_found;
 use crate::pools;
 use crate::scopes::scope_of;
-use crate::sizes::check_found;
 use crate::widths::Constants;
 use dsr_faults::Told;
 use dsr_ir::{Name, NoMemory};
@@ -34,7 +34,7 @@ pub struct Checker<'a> {
     pub numbers: &'a IndexMap<Name, u32>,
 }
 
-/// The number of the first constraint of each name; more than 2^32 of them find no memory.
+/// The number of the first constraint of each name. 2^32 constraints or more find no memory.
 pub fn constraint_numbers(
     alloc: Global,
     constraints: &[Constraint],
@@ -111,8 +111,8 @@ fn check_quantifier(told: &mut Told, known: &Known, quantifier: &Option<Quantifi
 impl Checker<'_> {
     /// What is wrong with the names, pools, kinds and constants of a constraint.
     pub fn check_own(&self, told: &mut Told, number: usize, constraint: &Constraint)
-        requires { AreLeast (known_of self.now.known) self.now.constants.rules.now self.now.constants.least.now }
-        ensures { Finds (own_faults (known_of self.now.known) self.now.constants.rules.now (get bytes_eq self.now.numbers.now) number (constraint_shape constraint.now)) told.old.fault told.new.fault }
+        requires { Narrow self.now.known self.now.constants }
+        ensures { Finds (own_faults_of self.now number constraint.now) told.old.fault told.new.fault }
     {
         let name = &constraint.name;
         let is_first = is_at(number, self.numbers.get(&name.name).copied());

@@ -1,11 +1,8 @@
 // The faults of the atoms of a formula.
-ghost use Rattle.std.specs.Prelude.{map};
-ghost use Rattle.dsr_tree.specs.Trees.{formula_shape, join_shape, unit_shape, in_joins, in_units};
+ghost use Rattle.dsr_tree.specs.Trees.{formula_shape, join_shape, unit_shape};
 ghost use Rattle.dsr_faults.specs.Telling.{Finds};
-ghost use Rattle.dsr_names.specs.Tables.{known_of};
-ghost use Rattle.dsr_typing.specs.Constraints.{formula_faults, joins_faults, join_faults, units_faults, unit_faults};
-ghost use Rattle.dsr_constraint.specs.Scoped.{scope_told};
-ghost use Rattle.dsr_constraint.specs.Widest.{AreLeast};
+ghost use Rattle.dsr_typing.specs.Constraints.{formula_faults, join_faults, unit_faults};
+ghost use Rattle.dsr_constraint.specs.Scoped.{scope_told, Narrow, faults_of_joins, faults_of_units};
 
 use crate::scopes::Scope;
 use crate::widths::Constants;
@@ -15,7 +12,7 @@ use dsr_tree::{Formula, Join, Unit};
 /// The faults of all atoms of a formula.
 #[cycle(formula)]
 pub fn check_formula(scope: &Scope, told: &mut Told, constants: &Constants, formula: &Formula)
-    requires { AreLeast (known_of scope.now.known) constants.now.rules.now constants.now.least.now }
+    requires { Narrow scope.now.known constants.now }
     ensures { Finds (formula_faults (scope_told scope.now) constants.now.rules.now (formula_shape formula.now)) told.old.fault told.new.fault }
 {
     check_join(scope, told, constants, &formula.first);
@@ -24,8 +21,8 @@ pub fn check_formula(scope: &Scope, told: &mut Told, constants: &Constants, form
 
 #[cycle(formula)]
 fn check_joins(scope: &Scope, told: &mut Told, constants: &Constants, joins: &[Join])
-    requires { AreLeast (known_of scope.now.known) constants.now.rules.now constants.now.least.now }
-    ensures { Finds (joins_faults (scope_told scope.now) constants.now.rules.now (in_joins (map join_shape joins.now))) told.old.fault told.new.fault }
+    requires { Narrow scope.now.known constants.now }
+    ensures { Finds (faults_of_joins scope.now constants.now joins.now) told.old.fault told.new.fault }
 {
     for join in joins {
         check_join(scope, told, constants, join);
@@ -34,7 +31,7 @@ fn check_joins(scope: &Scope, told: &mut Told, constants: &Constants, joins: &[J
 
 #[cycle(formula)]
 fn check_join(scope: &Scope, told: &mut Told, constants: &Constants, join: &Join)
-    requires { AreLeast (known_of scope.now.known) constants.now.rules.now constants.now.least.now }
+    requires { Narrow scope.now.known constants.now }
     ensures { Finds (join_faults (scope_told scope.now) constants.now.rules.now (join_shape join.now)) told.old.fault told.new.fault }
 {
     check_unit(scope, told, constants, &join.first);
@@ -43,8 +40,8 @@ fn check_join(scope: &Scope, told: &mut Told, constants: &Constants, join: &Join
 
 #[cycle(formula)]
 fn check_units(scope: &Scope, told: &mut Told, constants: &Constants, units: &[Unit])
-    requires { AreLeast (known_of scope.now.known) constants.now.rules.now constants.now.least.now }
-    ensures { Finds (units_faults (scope_told scope.now) constants.now.rules.now (in_units (map unit_shape units.now))) told.old.fault told.new.fault }
+    requires { Narrow scope.now.known constants.now }
+    ensures { Finds (faults_of_units scope.now constants.now units.now) told.old.fault told.new.fault }
 {
     for unit in units {
         check_unit(scope, told, constants, unit);
@@ -53,7 +50,7 @@ fn check_units(scope: &Scope, told: &mut Told, constants: &Constants, units: &[U
 
 #[cycle(formula)]
 fn check_unit(scope: &Scope, told: &mut Told, constants: &Constants, unit: &Unit)
-    requires { AreLeast (known_of scope.now.known) constants.now.rules.now constants.now.least.now }
+    requires { Narrow scope.now.known constants.now }
     ensures { Finds (unit_faults (scope_told scope.now) constants.now.rules.now (unit_shape unit.now)) told.old.fault told.new.fault }
 {
     match unit {

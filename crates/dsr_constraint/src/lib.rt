@@ -5,6 +5,7 @@ mod atoms;
 mod checks;
 mod formulas;
 mod negations;
+mod notes;
 mod pools;
 mod scopes;
 mod sizes;

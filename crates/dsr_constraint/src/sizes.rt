@@ -1,24 +1,18 @@
 // Sizes: their names, and whether the relations in them are those of a variable.
-ghost use Rattle.std.specs.Prelude.{◌≡◌, ◌||◌, None, Some, is_some, option_map, if◌then◌else◌};
+ghost use Rattle.std.specs.Prelude.{◌≡◌, None, Some, option_map};
 ghost use Rattle.dsr_text.specs.Faults.{when};
 ghost use Rattle.dsr_faults.specs.Telling.{Finds};
 ghost use Rattle.dsr_typing.specs.Known.{unknown};
-ghost use Rattle.dsr_typing.specs.TypedConstraints.{named_variable, counts_targets, counts_sources};
+ghost use Rattle.dsr_typing.specs.TypedConstraints.{counts_targets, counts_sources};
 ghost use Rattle.dsr_typing.specs.Constraints.{size_names, relation_at, size_mismatches, counts_numbers};
-ghost use Rattle.dsr_constraint.specs.Scoped.{scope_told};
+ghost use Rattle.dsr_constraint.specs.Scoped.{scope_told, unknown_place};
 
+use crate::notes::check_found;
 use crate::pools::{gives_numbers, has_other_source, has_other_targets};
 use crate::scopes::Scope;
 use dsr_faults::Told;
 use dsr_ir::Rel;
 use dsr_tree::{Condition, PlacedName, Size, Var};
-
-/// Takes note of a name where nothing was found for it.
-pub fn check_found<T>(told: &mut Told, found: &Option<T>, name: &PlacedName)
-    ensures { Finds (unknown found.now name.now) told.old.fault told.new.fault }
-{
-    told.note_if(found.is_none(), Condition::UnknownName, name.place);
-}
 
 impl Scope<'_> {
     /// Whether `size(a.b)` counts the targets of a variable a under a relation b.
@@ -37,8 +31,7 @@ impl Scope<'_> {
 
     // Where a size of two names is told that it counts nothing: at the second one where the first is known.
     fn unknown_place(&self, first: &PlacedName, part: &PlacedName) -> u64
-        ensures { let scope = scope_told self.now in
-            result ≡ (if is_some (named_variable scope.binder first.now.name) || is_some (scope.known.relation first.now.name) then part.now.place else first.now.place) }
+        ensures { result ≡ unknown_place (scope_told self.now) first.now part.now }
     {
         if self.named_variable(&first.name).is_some()
             || self.known.relation(&first.name).is_some()

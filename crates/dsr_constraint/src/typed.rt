@@ -6,16 +6,16 @@ ghost use Rattle.dsr_meaning.specs.Typed.{AreTyped};
 ghost use Rattle.dsr_names.specs.Tables.{known_of};
 ghost use Rattle.dsr_tree.specs.Trees.{constraint_shape, formula_shape};
 ghost use Rattle.dsr_typing.specs.Known.{known_in};
-ghost use Rattle.dsr_typing.specs.Constraints.{constraint_number, refusal_faults, constraint_faults, constraints_faults};
-ghost use Rattle.dsr_typing.specs.NormalForms.{normal_form, refusal_of};
+ghost use Rattle.dsr_typing.specs.Constraints.{constraint_number, constraints_faults};
+ghost use Rattle.dsr_typing.specs.NormalForms.{normal_form};
 ghost use Rattle.dsr_typing.specs.TypedConstraints.{scope_of, typed_formula, typed_constraint, typed_constraints};
 ghost use Rattle.dsr_faults.specs.Refusals.{Tells};
 ghost use Rattle.dsr_faults.specs.Telling.{Finds};
-ghost use Rattle.dsr_constraint.specs.Scoped.{scope_told};
-ghost use Rattle.dsr_constraint.specs.Widest.{AreLeast, CountRelations};
+ghost use Rattle.dsr_constraint.specs.Scoped.{scope_told, Narrow, faults_of, faults_of_form, typed_of, faults_of_all, typed_of_all};
+ghost use Rattle.dsr_constraint.specs.Widest.{CountRelations};
 
-use crate::atoms::note_part;
 use crate::checks::{Checker, check_refusal, constraint_limit, constraint_numbers};
+use crate::notes::note_part;
 use crate::scopes::{Scope, scope_of};
 use crate::typed_forms::all_without_complements;
 use crate::typed_formulas::typed_formula;
@@ -55,10 +55,8 @@ fn add_typed(
     typed: &mut Vec<Constraint>,
     constraint: &dsr_tree::Constraint,
 ) -> Result<(), NoMemory>
-    ensures found { OnOk result (let c = constraint_shape constraint.now in
-        Finds (refusal_faults c (refusal_of (typed_formula (scope_of (known_of known.now) c.quantifier) c.formula))) told.old.fault told.new.fault) }
-    ensures typed { OnOk result (let c = constraint_shape constraint.now in
-        refusal_faults c (refusal_of (typed_formula (scope_of (known_of known.now) c.quantifier) c.formula)) ≡ [] → typed.new.items ≡ typed.old.items ++ typed_constraint (known_of known.now) c ∷ []) }
+    ensures found { OnOk result (Finds (faults_of_form known.now constraint.now) told.old.fault told.new.fault) }
+    ensures typed { OnOk result (faults_of_form known.now constraint.now ≡ [] → typed.new.items ≡ typed.old.items ++ typed_of known.now constraint.now ∷ []) }
 {
     let scope = scope_of(known, &constraint.quantifier);
     let formula = Formula::new(typed_formula(alloc, &scope, &constraint.formula)?);
@@ -82,9 +80,9 @@ impl Checker<'_> {
         number: usize,
         constraint: &dsr_tree::Constraint,
     ) -> Result<(), NoMemory>
-        requires { AreLeast (known_of self.now.known) self.now.constants.rules.now self.now.constants.least.now }
-        ensures found { OnOk result (Finds (constraint_faults (known_of self.now.known) self.now.constants.rules.now (get bytes_eq self.now.numbers.now) number (constraint_shape constraint.now)) told.old.fault told.new.fault) }
-        ensures typed { OnOk result (constraint_faults (known_of self.now.known) self.now.constants.rules.now (get bytes_eq self.now.numbers.now) number (constraint_shape constraint.now) ≡ [] → typed.new.items ≡ typed.old.items ++ typed_constraint (known_of self.now.known) (constraint_shape constraint.now) ∷ []) }
+        requires { Narrow self.now.known self.now.constants }
+        ensures found { OnOk result (Finds (faults_of self.now number constraint.now) told.old.fault told.new.fault) }
+        ensures typed { OnOk result (faults_of self.now number constraint.now ≡ [] → typed.new.items ≡ typed.old.items ++ typed_of self.now.known constraint.now ∷ []) }
     {
         let is_over = number == constraint_limit(self.known.base.version);
         told.note_if(is_over, Condition::Limit, constraint.name.place);
@@ -104,10 +102,10 @@ impl Checker<'_> {
         told: &mut Told,
         constraints: &[dsr_tree::Constraint],
     ) -> Result<Vec<Constraint>, NoMemory>
-        requires least { AreLeast (known_of self.now.known) self.now.constants.rules.now self.now.constants.least.now }
+        requires least { Narrow self.now.known self.now.constants }
         requires numbers { get bytes_eq self.now.numbers.now ≡ constraint_number (map constraint_shape constraints.now) }
-        ensures found { OnOk result (Finds (constraints_faults (known_of self.now.known) self.now.constants.rules.now (map constraint_shape constraints.now)) told.old.fault told.new.fault) }
-        ensures typed { IfOk result (λ cs. constraints_faults (known_of self.now.known) self.now.constants.rules.now (map constraint_shape constraints.now) ≡ [] → cs.items ≡ typed_constraints (known_of self.now.known) (map constraint_shape constraints.now)) }
+        ensures found { OnOk result (Finds (faults_of_all self.now.known self.now.constants.rules.now constraints.now) told.old.fault told.new.fault) }
+        ensures typed { IfOk result (λ cs. faults_of_all self.now.known self.now.constants.rules.now constraints.now ≡ [] → cs.items ≡ typed_of_all self.now.known constraints.now) }
     {
         let mut typed = Vec::new(alloc);
         for (number, constraint) in constraints.iter().enumerate() {
@@ -124,9 +122,9 @@ fn constraints_among(
     known: &Known,
 ) -> Result<Vec<Constraint>, SpecFault>
     requires { CountRelations (known_of known.now) }
-    ensures no_fault { IfOk result (λ _. constraints_faults (known_of known.now) tree.now.rules (map constraint_shape tree.now.constraints) ≡ []) }
-    ensures constraints { IfOk result (λ cs. cs.items ≡ typed_constraints (known_of known.now) (map constraint_shape tree.now.constraints)) }
-    ensures fault { IfErr result (Tells (constraints_faults (known_of known.now) tree.now.rules (map constraint_shape tree.now.constraints))) }
+    ensures no_fault { IfOk result (λ _. faults_of_all known.now tree.now.rules tree.now.constraints ≡ []) }
+    ensures constraints { IfOk result (λ cs. cs.items ≡ typed_of_all known.now tree.now.constraints) }
+    ensures fault { IfErr result (Tells (faults_of_all known.now tree.now.rules tree.now.constraints)) }
 {
     let rules = tree.rules.items();
     let items = tree.constraints.items();

@@ -1,9 +1,9 @@
 // Typed formulas.
 ghost use Rattle.std.specs.Prelude.{◌≡◌, map, IfOk};
-ghost use Rattle.dsr_ir.specs.Formulas.{MoreOf, in_row, formula_shape};
-ghost use Rattle.dsr_tree.specs.Trees.{formula_shape as formula_tree_of, join_shape, unit_shape, in_joins, in_units};
-ghost use Rattle.dsr_typing.specs.TypedConstraints.{typed_formula, typed_joins, typed_join, typed_units, typed_unit};
-ghost use Rattle.dsr_constraint.specs.Scoped.{scope_told};
+ghost use Rattle.dsr_ir.specs.Formulas.{in_row, formula_shape};
+ghost use Rattle.dsr_tree.specs.Trees.{formula_shape as formula_tree_of, join_shape, unit_shape};
+ghost use Rattle.dsr_typing.specs.TypedConstraints.{typed_formula, typed_join, typed_unit};
+ghost use Rattle.dsr_constraint.specs.Scoped.{scope_told, joins_behind, units_behind};
 
 use crate::scopes::Scope;
 use dsr_ir::{FormulaNode, NoMemory};
@@ -31,7 +31,7 @@ fn typed_joins(
     rest: &[Join],
     first: FormulaNode,
 ) -> Result<Vec<FormulaNode>, NoMemory>
-    ensures { IfOk result (λ parts. in_row (map formula_shape parts.items) ≡ MoreOf (formula_shape first) (typed_joins (scope_told scope.now) (in_joins (map join_shape rest.now)))) }
+    ensures { IfOk result (λ parts. in_row (map formula_shape parts.items) ≡ joins_behind (formula_shape first) scope.now rest.now) }
 {
     let mut parts = Vec::new(alloc);
     parts.push(first)?;
@@ -58,7 +58,7 @@ fn typed_units(
     rest: &[Unit],
     first: FormulaNode,
 ) -> Result<Vec<FormulaNode>, NoMemory>
-    ensures { IfOk result (λ parts. in_row (map formula_shape parts.items) ≡ MoreOf (formula_shape first) (typed_units (scope_told scope.now) (in_units (map unit_shape rest.now)))) }
+    ensures { IfOk result (λ parts. in_row (map formula_shape parts.items) ≡ units_behind (formula_shape first) scope.now rest.now) }
 {
     let mut parts = Vec::new(alloc);
     parts.push(first)?;

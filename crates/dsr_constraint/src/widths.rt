@@ -5,6 +5,7 @@ ghost use Rattle.dsr_names.specs.Tables.{known_of};
 ghost use Rattle.dsr_typing.specs.Rules as rules;
 ghost use Rattle.dsr_typing.specs.Rules.{record_name, record_structure, array_field};
 ghost use Rattle.dsr_typing.specs.Constraints.{is_too_great};
+ghost use Rattle.dsr_constraint.specs.Scoped.{Narrow};
 ghost use Rattle.dsr_constraint.specs.Widest.{given_relation, read_field, field_width, given_width, least_width, AreLeast, CountRelations};
 
 use dsr_ir::{FieldRef, Name, NoMemory, Width};
@@ -169,7 +170,7 @@ impl Constants<'_> {
 
     /// Whether a constant is too great for the field of some rule of a relation.
     pub fn is_too_great(&self, known: &Known, number: u64, relation: Option<u32>) -> bool
-        requires { AreLeast (known_of known.now) self.now.rules.now self.now.least.now }
+        requires { Narrow known.now self.now }
         ensures { result ≡ is_too_great (known_of known.now) self.now.rules.now number relation }
     {
         match relation {

@@ -1,5 +1,5 @@
 use Rattle.dsr_constraint.proofs.Merged.{finds_part, finds_none}
-use Rattle.dsr_constraint.proofs.atoms.note_part.Goals as goal
+use Rattle.dsr_constraint.proofs.notes.note_part.Goals as goal
 
 pub returns-in-Some : goal.returns-in-Some
 returns-in-Some c = λ faults finds. finds_part faults c.args.part.now.fault c.in-Some.fault c.in-Some.is finds c.note_if.ensures

@@ -10,10 +10,9 @@ and all of 65,536 bytes: these are refused, and their time grows with the length
 
 import sys
 
-from timing import Timer
+from timing import LARGEST, Timer
 
 START = "version 1;order little;"
-LARGEST = 65536
 
 
 def fields(structure, count):
@@ -51,13 +50,6 @@ def expressions():
     return text + ("skip n" + "+n" * 32 + ";") * 64 + "}"
 
 
-def over(piece, length):
-    text, n = START + "structure Head{}", 0
-    while len(text) + len(piece(n)) <= length:
-        text, n = text + piece(n), n + 1
-    return text
-
-
 OVER = {
     "long chain": lambda n: f"structure S{n}{f' extends S{n - 1}' if n else ''}{{u8 f{n};}}",
     "same fields": lambda n: f"structure S{n}{{u8 f;}}",
@@ -72,9 +64,7 @@ def main():
         for make in (apart, chained, sets, expressions):
             text = make()
             print(f"{make.__name__:16} {len(text):8} {timer.milliseconds(text) - empty:8.2f}")
-        for kind, piece in OVER.items():
-            times = [timer.milliseconds(over(piece, length)) - empty for length in (16384, 32768, LARGEST)]
-            print(f"{kind:16}         " + "".join(f" {t:8.2f}" for t in times))
+        timer.print_growth(START + "structure Head{}", OVER, empty)
 
 
 if __name__ == "__main__":

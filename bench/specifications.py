@@ -10,9 +10,8 @@ and all of 65,536 bytes: these are refused, and their time grows with the length
 
 import sys
 
-from timing import Timer
+from timing import LARGEST, Timer, filled
 
-LARGEST = 65536
 START = (
     "version 2;order little;structure Head{u8 a->p;u8 n;u8 m[8];}"
     + "".join(f"structure S{s}{f' extends S{s - 1}' if s else ''}{{u8 f{s}->p;u8 g{s};u8 h{s}[8];}}" for s in range(60))
@@ -66,17 +65,7 @@ def both():
 def wide():
     """Formulas of 128 literals, whose forms would have 2^64 conjunctions."""
     formula = " and ".join(["(x in A1 or x in A2)"] * 64)
-    text, n = START, 0
-    while len(text) + len(formula) + 40 <= LARGEST:
-        text, n = text + f"constraint c{n}:forall x in A0:{formula};", n + 1
-    return text
-
-
-def over(piece, length):
-    text, n = START, 0
-    while len(text) + len(piece(n)) <= length:
-        text, n = text + piece(n), n + 1
-    return text
+    return filled(START, lambda n: f"constraint c{n}:forall x in A0:{formula};", LARGEST)
 
 
 OVER = {
@@ -93,9 +82,7 @@ def main():
         for make in (rules, constraints, both, wide):
             text = make()
             print(f"{make.__name__:16} {len(text):8} {timer.milliseconds(text) - start:8.2f}")
-        for kind, piece in OVER.items():
-            times = [timer.milliseconds(over(piece, length)) - start for length in (16384, 32768, LARGEST)]
-            print(f"{kind:16}         " + "".join(f" {t:8.2f}" for t in times))
+        timer.print_growth(START, OVER, start)
 
 
 if __name__ == "__main__":

@@ -6,6 +6,17 @@ import tempfile
 import time
 
 
+LARGEST = 65536
+
+
+def filled(start, piece, length):
+    """A text of at most so many bytes: the start, and then as many pieces, by their numbers, as there is room for."""
+    text, n = start, 0
+    while len(text) + len(piece(n)) <= length:
+        text, n = text + piece(n), n + 1
+    return text
+
+
 class Timer:
     """Runs `text` of a binary on texts; use it in a `with`."""
 
@@ -30,3 +41,10 @@ class Timer:
             subprocess.run([self.binary, "text", path], stdout=subprocess.DEVNULL, check=False)
             best = min(best, time.perf_counter() - start)
         return best * 1000
+
+    def print_growth(self, start, pieces, least):
+        """The times of texts of a quarter, a half and all of the bytes that a text may have, for each kind of piece."""
+        for kind, piece in pieces.items():
+            texts = [filled(start, piece, length) for length in (LARGEST // 4, LARGEST // 2, LARGEST)]
+            times = [self.milliseconds(text) - least for text in texts]
+            print(f"{kind:16}         " + "".join(f" {t:8.2f}" for t in times))

@@ -19,7 +19,24 @@ rule head => <head, head.count> in Count;
 constraint total : head.Count = size(Nodes);
 ";
 
-// The same with a further set, a guard and further constraints, which aren't accepted yet.
+// The same as it is printed.
+const LIST_PRINTED: &str = "version 1 ;\n\
+    order little ;\n\
+    structure Head { fixed u16 n ; u16 count ; u32 first -> nodes ; }\n\
+    structure Node { u32 value ; u32 next -> nodes ; }\n\
+    pool nodes : Node [ n ] at 8 codes 1 step 1 none 0 ;\n\
+    set Nodes of nodes ;\n\
+    relation First : head -> nodes ;\n\
+    relation Next : nodes -> nodes ;\n\
+    relation Count : head -> number ;\n\
+    rule head => head . first in Nodes ;\n\
+    rule x in Nodes => x . next in Nodes ;\n\
+    rule head => < head , head . first > in First ;\n\
+    rule x in Nodes => < x , x . next > in Next ;\n\
+    rule head => < head , head . count > in Count ;\n\
+    constraint total : head . Count = size ( Nodes ) ;\n";
+
+// That list with a further set, a guard and further constraints, which aren't accepted yet.
 const GUARDED: &[u8] = b"version 1; order little;
 structure Head { fixed u16 n; u16 count; u32 first -> nodes; }
 structure Node { u32 value; u32 next -> nodes; }
@@ -218,7 +235,7 @@ fn inputs_are_refused(rt: HostRuntime) -> Result<(), Fail> {
         check(GUARDED, &SOUND, Status::SpecRefused, "spec 0 0\n"),
         check(&spec, &SOUND, Status::Ok, CONSISTENT),
         check(&long_spec, &SOUND, Status::TooLong, "too long spec\n"),
-        text(&spec, Status::SpecRefused, SPEC_0),
+        text(&spec, Status::Ok, LIST_PRINTED),
         text(&long_spec, Status::TooLong, "too long spec\n"),
         check(LIST, &image, Status::Ok, CONSISTENT),
         check(LIST, &long_image, Status::TooLong, "too long image\n"),
@@ -236,8 +253,6 @@ fn text<'a>(spec: &'a [u8], status: Status, text: &'a str) -> Case<'a> {
         text,
     }
 }
-
-pub(crate) const SPEC_0: &str = "spec 0 0\n";
 
 #[test]
 fn texts_are_printed(rt: HostRuntime) -> Result<(), Fail> {
@@ -284,20 +299,60 @@ fn declarations_are_refused(rt: HostRuntime) -> Result<(), Fail> {
             Status::SpecRefused,
             "spec 2 0\n",
         ),
-        text(LIST, Status::SpecRefused, SPEC_0),
-        text(COMPLEMENT, Status::SpecRefused, SPEC_0),
+    ];
+    assert_eq!(rt; first_wrong(rt.alloc(), &cases)?, None);
+    Ok(())
+}
+
+// Behind its name a constraint has this part as often as it is wanted, joined by `or`.
+const WIDE: &str = "version 1; order little; structure Head { u8 c; } \
+    relation C : head -> number; rule head => <head, head.c> in C; constraint wide : ";
+
+fn wide(alloc: Global, parts: usize) -> Result<String, AllocError> {
+    let mut text = String::new(alloc);
+    text.push_str(WIDE)?;
+    for i in 0..parts {
+        text.push_str(if i == 0 {
+            "head.C = 1"
+        } else {
+            " or head.C = 1"
+        })?;
+    }
+    text.push_str(";")?;
+    Ok(text)
+}
+
+#[test]
+fn rules_and_constraints_are_refused(rt: HostRuntime) -> Result<(), Fail> {
+    let alloc = rt.alloc();
+    let of_17 = wide(alloc, 17)?;
+    let cases = [
+        text(LIST, Status::Ok, LIST_PRINTED),
+        text(COMPLEMENT, Status::SpecRefused, "spec 2 162\n"),
         text(
             b"version 1;order big;structure Head{}rule head=>head.f in A;",
             Status::SpecRefused,
-            SPEC_0,
+            "spec 2 52\n",
         ),
         text(
             b"version 1;order big;structure Head{}constraint c:a in A;",
             Status::SpecRefused,
-            SPEC_0,
+            "spec 2 49\n",
         ),
+        text(of_17.as_bytes(), Status::SpecRefused, "spec 12 124\n"),
+        check(
+            of_17.as_bytes(),
+            &SOUND,
+            Status::SpecRefused,
+            "spec 12 124\n",
+        ),
+        check(COMPLEMENT, &SOUND, Status::SpecRefused, "spec 2 162\n"),
+        check(b"version 1", &SOUND, Status::SpecRefused, "syntax 2 9\n"),
     ];
-    assert_eq!(rt; first_wrong(rt.alloc(), &cases)?, None);
+    assert_eq!(rt; first_wrong(alloc, &cases)?, None);
+    let of_16 = wide(alloc, 16)?;
+    let accepted = check(of_16.as_bytes(), &SOUND, Status::SpecRefused, "spec 0 0\n");
+    assert!(rt; is_answered(alloc, &accepted)?);
     Ok(())
 }
 

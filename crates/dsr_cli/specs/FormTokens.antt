@@ -93,7 +93,10 @@ pool_token pool false other = token.Keyword other
 
 -- `relation NAME : SOURCE -> TARGET ;`, from `head` or the pool to `number` or the pool
 abbrev pub relation_statement : List ℕ → Link → List Token
-relation_statement pool l = token.Keyword keyword.Relation ∷ token.Name l.name ∷ token.Sign sign.Colon ∷ pool_token pool l.from_pool keyword.Head ∷ token.Sign sign.Arrow ∷ pool_token pool l.to_pool keyword.Number ∷ token.Sign sign.Semicolon ∷ []
+relation_statement pool l =
+    token.Keyword keyword.Relation ∷ token.Name l.name ∷ token.Sign sign.Colon
+    ∷ pool_token pool l.from_pool keyword.Head ∷ token.Sign sign.Arrow
+    ∷ pool_token pool l.to_pool keyword.Number ∷ token.Sign sign.Semicolon ∷ []
 
 -- the record of a rule's premise: `head`, or the variable
 abbrev pub record_token : Option Premise → Token
@@ -137,7 +140,9 @@ side_tokens f (Targets relation) =
 -- `constraint NAME : head . RELATION = SIDE ;`
 abbrev pub demand_tokens : Form → List ℕ → ℕ → Side → List Token
 demand_tokens f name relation side =
-    (token.Keyword keyword.Constraint ∷ token.Name name ∷ token.Sign sign.Colon ∷ token.Keyword keyword.Head ∷ token.Sign sign.Dot ∷ token.Name (relation_name f relation) ∷ token.Sign sign.Equal ∷ [])
+    (token.Keyword keyword.Constraint ∷ token.Name name ∷ token.Sign sign.Colon
+    ∷ token.Keyword keyword.Head ∷ token.Sign sign.Dot ∷ token.Name (relation_name f relation)
+    ∷ token.Sign sign.Equal ∷ [])
     ++ side_tokens f side
 
 abbrev pub demand_statement : Form → List Token

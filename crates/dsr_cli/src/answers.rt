@@ -1,6 +1,7 @@
 // The answer to the words, before it is put.
 ghost use Rattle.std.specs.Prelude.{◌≡◌, ◌≤◌, ◌<◌, IfOk, map, string_bytes, true};
-ghost use Rattle.dsr_cli.specs.Answers.{Shelved, IsImageAnswer, IsLoadAnswer, IsFilesAnswer, IsTextAnswer, IsAnswer, verdict_answer, usage, store_failed, too_long_spec, too_long_image, spec_refused, layout_short, layout_outside, pool_name};
+ghost use Rattle.dsr_cli.specs.Answers.{IsImageAnswer, IsLoadAnswer, IsFilesAnswer, IsTextAnswer, IsAnswer};
+ghost use Rattle.dsr_cli.specs.Answers.{verdict_answer, usage, store_failed, too_long_spec, too_long_image, spec_refused, layout_short, layout_outside, pool_name};
 ghost use Rattle.dsr_cli.specs.Loads.{IsLastAsked, IsLastDue, IsLastOfTwo, Loads, bytes_of, shown, shelved_by};
 ghost use Rattle.dsr_cli.specs.Plain.{IsPlain};
 ghost use Rattle.dsr_cli.specs.Values.{violations_where};
@@ -98,7 +99,9 @@ fn load_of<F: Shelf>(
     name: &str,
     cap: u64,
 ) -> Result<Option<Vec<u8>>, AllocError>
-    ensures loaded { IfOk result (λ o. Loads (shelved_by (F.held shelf.old) (F.faults shelf.old) (F.faults shelf.new) (F.last shelf.old) (F.last shelf.new)) name.now cap (bytes_of o)) }
+    ensures loaded { IfOk result (λ o.
+        Loads (shelved_by (F.held shelf.old) (F.faults shelf.old) (F.faults shelf.new) (F.last shelf.old) (F.last shelf.new))
+        name.now cap (bytes_of o)) }
     ensures held { F.held shelf.new ≡ F.held shelf.old }
     ensures later { F.faults shelf.old ≤ F.faults shelf.new }
     ensures last { IsLastDue (F.last shelf.old) (F.last shelf.new) name.now }
@@ -117,7 +120,9 @@ fn answer_on_image<F: Shelf>(
     name: &str,
 ) -> Result<Told, AllocError>
     requires { IsPlain spec.now }
-    ensures answer { IfOk result (λ t. IsLoadAnswer (shelved_by (F.held shelf.old) (F.faults shelf.old) (F.faults shelf.new) (F.last shelf.old) (F.last shelf.new)) spec.now name.now (shown t)) }
+    ensures answer { IfOk result (λ t.
+        IsLoadAnswer (shelved_by (F.held shelf.old) (F.faults shelf.old) (F.faults shelf.new) (F.last shelf.old) (F.last shelf.new))
+        spec.now name.now (shown t)) }
     ensures held { F.held shelf.new ≡ F.held shelf.old }
     ensures later { F.faults shelf.old ≤ F.faults shelf.new }
     ensures last { IsLastDue (F.last shelf.old) (F.last shelf.new) name.now }
@@ -138,7 +143,9 @@ fn answer_on_files<F: Shelf>(
     spec_name: &str,
     image_name: &str,
 ) -> Result<Told, AllocError>
-    ensures answer { IfOk result (λ t. IsFilesAnswer (shelved_by (F.held shelf.old) (F.faults shelf.old) (F.faults shelf.new) (F.last shelf.old) (F.last shelf.new)) spec_name.now image_name.now (shown t)) }
+    ensures answer { IfOk result (λ t.
+        IsFilesAnswer (shelved_by (F.held shelf.old) (F.faults shelf.old) (F.faults shelf.new) (F.last shelf.old) (F.last shelf.new))
+        spec_name.now image_name.now (shown t)) }
     ensures held { F.held shelf.new ≡ F.held shelf.old }
     ensures last { IsLastOfTwo (F.last shelf.old) (F.last shelf.new) spec_name.now image_name.now }
 {
@@ -159,7 +166,9 @@ fn answer_on_files<F: Shelf>(
 }
 
 fn text_answer<F: Shelf>(alloc: Global, shelf: &mut F, name: &str) -> Result<Told, AllocError>
-    ensures answer { IfOk result (λ t. IsTextAnswer (shelved_by (F.held shelf.old) (F.faults shelf.old) (F.faults shelf.new) (F.last shelf.old) (F.last shelf.new)) name.now (shown t)) }
+    ensures answer { IfOk result (λ t.
+        IsTextAnswer (shelved_by (F.held shelf.old) (F.faults shelf.old) (F.faults shelf.new) (F.last shelf.old) (F.last shelf.new))
+        name.now (shown t)) }
     ensures held { F.held shelf.new ≡ F.held shelf.old }
     ensures last { IsLastDue (F.last shelf.old) (F.last shelf.new) name.now }
 {
@@ -179,7 +188,9 @@ pub fn answer_to<F: Shelf>(
     words: &[String],
     shelf: &mut F,
 ) -> Result<Told, AllocError>
-    ensures answer { IfOk result (λ t. IsAnswer (shelved_by (F.held shelf.old) (F.faults shelf.old) (F.faults shelf.new) (F.last shelf.old) (F.last shelf.new)) (map string_bytes words.now) (shown t)) }
+    ensures answer { IfOk result (λ t.
+        IsAnswer (shelved_by (F.held shelf.old) (F.faults shelf.old) (F.faults shelf.new) (F.last shelf.old) (F.last shelf.new))
+        (map string_bytes words.now) (shown t)) }
     ensures held { F.held shelf.new ≡ F.held shelf.old }
     ensures last { IsLastAsked (map string_bytes words.now) (F.last shelf.old) (F.last shelf.new) }
     ensures usage { is_usage (map string_bytes words.now) ≡ true → shelf.new ≡ shelf.old }

@@ -24,7 +24,8 @@ pub fn run<F: Shelf, O: Sink>(
         IsAnswer (shelved_by (F.held shelf.old) (F.faults shelf.old) (F.faults shelf.new) (F.last shelf.old) (F.last shelf.new)) (map string_bytes words.now.items) answer
         × Puts answer (O.written out.old) (O.written out.new) (O.faults out.old) (O.faults out.new) result) }
     ensures consistent { is_text (map string_bytes words.now.items) ≡ false → result ≡ Status.Ok → FindsConsistent (F.held shelf.old) (map string_bytes words.now.items) }
-    ensures text { is_text (map string_bytes words.now.items) ≡ true → result ≡ Status.Ok → FindsText (F.held shelf.old) (map string_bytes words.now.items) (O.written out.old) (O.written out.new) }
+    ensures text { is_text (map string_bytes words.now.items) ≡ true → result ≡ Status.Ok →
+        FindsText (F.held shelf.old) (map string_bytes words.now.items) (O.written out.old) (O.written out.new) }
     ensures inconsistent { result ≡ Status.Inconsistent → FindsInconsistent (F.held shelf.old) (map string_bytes words.now.items) }
     ensures usage { result ≡ Status.Usage → is_usage (map string_bytes words.now.items) ≡ true }
     ensures uncalled { is_usage (map string_bytes words.now.items) ≡ true → shelf.new ≡ shelf.old }

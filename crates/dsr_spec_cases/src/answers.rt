@@ -1,49 +1,63 @@
 // What is said of a text.
-use anyhow::Result;
+use crate::lines::Lines;
+use crate::tables::add_tables;
 use dsr_ir::Spec;
 use dsr_parse::{SyntaxFault, parse};
 use dsr_spec::{SpecFault, spec};
 use std::alloc::Global;
-use std::fmt;
 
 /// What is said of a text: its specification, or why it has none.
 #[derive(Drop)]
 pub enum Answer {
     Accepted(Spec),
     /// The text isn't one of the grammar.
-    Syntax { kind: u8, place: u64 },
+    Syntax { kind: u64, place: u64 },
     /// A condition holds under which specifications are refused.
     Refused { kind: u8, place: u64 },
+    /// Memory ran out.
+    NoMemory,
 }
 
-impl fmt::Display for Answer {
-    fn fmt<W: fmt::Write>(&self, f: &mut fmt::Formatter<W>) -> fmt::Result {
-        match self {
-            Answer::Accepted(_) => write!(f, "ok"),
-            Answer::Syntax { kind, place } => write!(f, "syntax {kind} {place}"),
-            Answer::Refused { kind, place } => write!(f, "spec {kind} {place}"),
-        }
-    }
-}
-
-fn of_syntax(fault: SyntaxFault) -> Result<Answer> {
+fn of_syntax(fault: SyntaxFault) -> Answer {
     match fault {
-        SyntaxFault::Token(place) => Ok(Answer::Syntax { kind: 1, place }),
-        SyntaxFault::Expected(place) => Ok(Answer::Syntax { kind: 2, place }),
-        SyntaxFault::Limit(place) => Ok(Answer::Syntax { kind: 3, place }),
-        SyntaxFault::NoMemory => Err(SyntaxFault::NoMemory.into()),
+        SyntaxFault::Token(place) => Answer::Syntax { kind: 1, place },
+        SyntaxFault::Expected(place) => Answer::Syntax { kind: 2, place },
+        SyntaxFault::Limit(place) => Answer::Syntax { kind: 3, place },
+        SyntaxFault::NoMemory => Answer::NoMemory,
     }
 }
 
-/// What is said of a text; an error where memory runs out.
-pub fn answer_to(alloc: Global, text: &[u8]) -> Result<Answer> {
+fn answer_to(alloc: Global, text: &[u8]) -> Answer {
     let tree = match parse(alloc, text) {
         Ok(tree) => tree,
         Err(fault) => return of_syntax(fault),
     };
     match spec(alloc, &tree) {
-        Ok(spec) => Ok(Answer::Accepted(spec)),
-        Err(SpecFault::At { kind, place }) => Ok(Answer::Refused { kind, place }),
-        Err(SpecFault::NoMemory) => Err(SpecFault::NoMemory.into()),
+        Ok(spec) => Answer::Accepted(spec),
+        Err(SpecFault::At { kind, place }) => Answer::Refused { kind, place },
+        Err(SpecFault::NoMemory) => Answer::NoMemory,
+    }
+}
+
+/// What is said of a text, behind its name, and the tables where they are wanted.
+pub fn add_answer(lines: &mut Lines, alloc: Global, text: &[u8], with_tables: bool) {
+    match answer_to(alloc, text) {
+        Answer::Accepted(spec) => {
+            lines.word(" ok\n");
+            if with_tables {
+                add_tables(lines, &spec);
+            }
+        }
+        Answer::Syntax { kind, place } => {
+            lines.part(" syntax ", kind);
+            lines.part(" ", place);
+            lines.word("\n");
+        }
+        Answer::Refused { kind, place } => {
+            lines.part(" spec ", u64::from(kind));
+            lines.part(" ", place);
+            lines.word("\n");
+        }
+        Answer::NoMemory => lines.word(" no memory\n"),
     }
 }

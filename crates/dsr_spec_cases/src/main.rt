@@ -9,61 +9,48 @@
 
 mod answers;
 mod cases;
-mod members;
+mod clauses;
+mod lines;
 mod tables;
-mod words;
 
-use answers::{Answer, answer_to};
+use answers::add_answer;
 use cases::{Case, Wanted, case_of};
+use lines::Lines;
 use std::alloc::Global;
 use std::io;
-use tables::table_lines;
-
-// The answer to a text, and its tables where it is a specification.
-fn print_tables(rt: &impl Print, alloc: Global, case: &Case) -> anyhow::Result<()> {
-    let name = case.name;
-    let answer = answer_to(alloc, case.text.as_bytes())?;
-    println!(rt; "{name} {answer}")?;
-    if let Answer::Accepted(spec) = &answer {
-        rt.print(table_lines(alloc, spec)?)?;
-    }
-    Ok(())
-}
 
 // The answers to the prefixes of a text, from none of its bytes to all of them.
-fn print_prefixes(rt: &impl Print, alloc: Global, case: &Case) -> anyhow::Result<()> {
-    let name = case.name;
-    let mut prefix = Vec::new(alloc);
-    for byte in case.text.bytes() {
-        let (length, answer) = (prefix.len(), answer_to(alloc, &prefix)?);
-        println!(rt; "{name} {length} {answer}")?;
-        prefix.push(byte)?;
+fn add_prefixes(lines: &mut Lines, alloc: Global, case: &Case) {
+    let text = case.text.as_bytes();
+    for length in 0..=text.len() {
+        lines.word(case.name);
+        lines.part(" ", length as u64);
+        add_answer(lines, alloc, &text[..length], false);
     }
-    let (length, answer) = (prefix.len(), answer_to(alloc, &prefix)?);
-    println!(rt; "{name} {length} {answer}")?;
-    Ok(())
 }
 
-fn print_case(rt: &impl Print, alloc: Global, case: &Case) -> anyhow::Result<()> {
+fn add_case(lines: &mut Lines, alloc: Global, case: &Case) {
     match case.wanted {
+        Wanted::Prefixes => add_prefixes(lines, alloc, case),
         Wanted::Answer => {
-            let (name, answer) = (case.name, answer_to(alloc, case.text.as_bytes())?);
-            println!(rt; "{name} {answer}")?;
-            Ok(())
+            lines.word(case.name);
+            add_answer(lines, alloc, case.text.as_bytes(), false);
         }
-        Wanted::Tables => print_tables(rt, alloc, case),
-        Wanted::Prefixes => print_prefixes(rt, alloc, case),
+        Wanted::Tables => {
+            lines.word(case.name);
+            add_answer(lines, alloc, case.text.as_bytes(), true);
+        }
     }
 }
 
 // The cases of a group; the text of the first comes before the texts of the others.
-fn print_group(rt: &impl Print, alloc: Global, group: &str) -> anyhow::Result<()> {
+fn add_group(lines: &mut Lines, alloc: Global, group: &str) -> anyhow::Result<()> {
     let mut parts = group.split("+++ ");
     let Some(first) = parts.next() else {
         return Ok(());
     };
     let first = case_of(first)?;
-    print_case(rt, alloc, &first)?;
+    add_case(lines, alloc, &first);
     for part in parts {
         let case = case_of(part)?;
         let text = format!(in alloc; "{}\n{}", first.text, case.text)?;
@@ -71,7 +58,7 @@ fn print_group(rt: &impl Print, alloc: Global, group: &str) -> anyhow::Result<()
             text: text.as_str(),
             ..case
         };
-        print_case(rt, alloc, &case)?;
+        add_case(lines, alloc, &case);
     }
     Ok(())
 }
@@ -79,8 +66,10 @@ fn print_group(rt: &impl Print, alloc: Global, group: &str) -> anyhow::Result<()
 fn main(rt: HostRuntime) -> anyhow::Result<()> {
     let alloc = rt.alloc();
     let input = io::read_to_string(alloc, rt.stdin())?;
+    let mut lines = Lines::new(alloc);
     for group in input.split("=== ").skip(1) {
-        print_group(&rt, alloc, group)?;
+        add_group(&mut lines, alloc, group)?;
     }
+    rt.print(lines.whole()?)?;
     Ok(())
 }

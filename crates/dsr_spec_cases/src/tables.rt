@@ -1,176 +1,169 @@
 // The tables of a specification, a line for each entry, with all its numbers.
-use crate::members::{inclusion_word, literal_word, quantifier_word, span_word};
-use crate::words::{
-    expr_word, name_word, number_word, order_word, path_word, test_word, width_word,
-};
+use crate::clauses::{constraint_lines, rule_lines};
+use crate::lines::Lines;
 use dsr_ir::{
-    Conj, Constraint, Expr, Field, Guard, Kind, Pool, Rel, Rule, Seq, SetDecl, Spec, Structure,
+    Expr, ExprNode, Field, Kind, Order, Pool, Rel, Seq, SetDecl, Spec, Structure, Structures, Width,
 };
-use std::alloc::{AllocError, Global};
 
-// Where the lines go.
-#[derive(Drop)]
-struct Lines {
-    alloc: Global,
-    text: String,
+fn order_word(order: Order) -> &'static str {
+    match order {
+        Order::Little => "little",
+        Order::Big => "big",
+    }
 }
 
-impl Lines {
-    // An expression that may be missing.
-    fn option(&self, expr: &Option<Expr>) -> Result<String, AllocError> {
-        match expr {
-            Some(expr) => expr_word(self.alloc, expr),
-            None => String::from_str(self.alloc, "-"),
+fn add_width(lines: &mut Lines, width: Width) {
+    match width {
+        Width::U8 => lines.word(" u8"),
+        Width::U16 => lines.word(" u16"),
+        Width::U32 => lines.word(" u32"),
+        Width::U64 => lines.word(" u64"),
+        Width::Bits(count) => lines.part(" bits", u64::from(count)),
+    }
+}
+
+// An expression with all its parentheses; `#n` is the head's field n.
+fn add_node(lines: &mut Lines, node: &ExprNode) {
+    let (left, sign, right) = match node {
+        ExprNode::Num(value) => return lines.number(*value),
+        ExprNode::Fixed(field) => return lines.part("#", u64::from(*field)),
+        ExprNode::Sum(left, right) => (left, " + ", right),
+        ExprNode::Less(left, right) => (left, " - ", right),
+        ExprNode::Times(left, right) => (left, " * ", right),
+        ExprNode::Over(left, right) => (left, " / ", right),
+    };
+    lines.word("(");
+    add_node(lines, left);
+    lines.word(sign);
+    add_node(lines, right);
+    lines.word(")");
+}
+
+fn add_expr(lines: &mut Lines, word: &str, expr: &Expr) {
+    lines.word(word);
+    add_node(lines, expr.node());
+}
+
+// An expression that may be missing.
+fn add_option(lines: &mut Lines, word: &str, expr: &Option<Expr>) {
+    match expr {
+        Some(expr) => add_expr(lines, word, expr),
+        None => {
+            lines.word(word);
+            lines.word("-");
         }
     }
+}
 
-    fn field(&mut self, number: usize, field: &Field) -> Result<(), AllocError> {
-        let name = name_word(&field.name);
-        let fixed = if field.fixed { " fixed" } else { "" };
-        let width = width_word(self.alloc, field.width)?;
-        let length = self.option(&field.len)?;
-        write!(
-            self.text,
-            "    field {number} {name}{fixed} {width} length {length}"
-        )?;
-        match field.kind {
-            Kind::Number { init } => writeln!(self.text, " number {init}"),
-            Kind::Refers { pool } => writeln!(self.text, " refers {pool}"),
-            Kind::Gap => writeln!(self.text, " gap"),
-        }
+fn add_kind(lines: &mut Lines, kind: Kind) {
+    match kind {
+        Kind::Number { init } => lines.part(" number ", init),
+        Kind::Refers { pool } => lines.part(" refers ", u64::from(pool)),
+        Kind::Gap => lines.word(" gap"),
     }
+}
 
-    fn structure(&mut self, number: usize, structure: &Structure) -> Result<(), AllocError> {
-        let name = name_word(&structure.name);
-        let parent = number_word(self.alloc, structure.parent)?;
-        writeln!(self.text, "  structure {number} {name} parent {parent}")?;
-        for (number, field) in structure.fields.items().iter().enumerate() {
-            self.field(number, field)?;
-        }
-        Ok(())
+fn add_field(lines: &mut Lines, number: usize, field: &Field) {
+    lines.part("    field ", number as u64);
+    lines.word(" ");
+    lines.name(&field.name);
+    lines.word(if field.fixed { " fixed" } else { "" });
+    add_width(lines, field.width);
+    add_option(lines, " length ", &field.len);
+    add_kind(lines, field.kind);
+    lines.word("\n");
+}
+
+fn add_structure(lines: &mut Lines, number: usize, structure: &Structure) {
+    lines.part("  structure ", number as u64);
+    lines.word(" ");
+    lines.name(&structure.name);
+    lines.option(" parent ", structure.parent);
+    lines.word("\n");
+    for (number, field) in structure.fields.items().iter().enumerate() {
+        add_field(lines, number, field);
     }
+}
 
-    fn avoided(&mut self, avoid: &Option<Seq<u32>>) -> Result<(), AllocError> {
-        match avoid {
-            Some(sets) => {
-                write!(self.text, " avoid")?;
-                for set in sets.items() {
-                    write!(self.text, " {set}")?;
-                }
-                writeln!(self.text, "")
+fn add_avoided(lines: &mut Lines, avoid: &Option<Seq<u32>>) {
+    match avoid {
+        Some(sets) => {
+            lines.word(" avoid");
+            for set in sets.items() {
+                lines.part(" ", u64::from(*set));
             }
-            None => writeln!(self.text, " no supply"),
         }
+        None => lines.word(" no supply"),
     }
+}
 
-    fn pool(&mut self, number: usize, pool: &Pool) -> Result<(), AllocError> {
-        let name = name_word(&pool.name);
-        let structure = pool.structure;
-        let count = expr_word(self.alloc, &pool.count)?;
-        let slot = self.option(&pool.slot)?;
-        let start = expr_word(self.alloc, &pool.start)?;
-        let code = expr_word(self.alloc, &pool.code)?;
-        let step = expr_word(self.alloc, &pool.step)?;
-        let none = expr_word(self.alloc, &pool.none)?;
-        write!(
-            self.text,
-            "  pool {number} {name} structure {structure} count {count} slot {slot}"
-        )?;
-        write!(
-            self.text,
-            " at {start} codes {code} step {step} none {none}"
-        )?;
-        self.avoided(&pool.avoid)
+fn add_pool(lines: &mut Lines, number: usize, pool: &Pool) {
+    lines.part("  pool ", number as u64);
+    lines.word(" ");
+    lines.name(&pool.name);
+    lines.part(" structure ", u64::from(pool.structure));
+    add_expr(lines, " count ", &pool.count);
+    add_option(lines, " slot ", &pool.slot);
+    add_expr(lines, " at ", &pool.start);
+    add_expr(lines, " codes ", &pool.code);
+    add_expr(lines, " step ", &pool.step);
+    add_expr(lines, " none ", &pool.none);
+    add_avoided(lines, &pool.avoid);
+    lines.word("\n");
+}
+
+fn add_set(lines: &mut Lines, number: usize, set: &SetDecl) {
+    lines.part("  set ", number as u64);
+    lines.word(" ");
+    lines.name(&set.name);
+    lines.part(" pool ", u64::from(set.pool));
+    lines.part(" structure ", u64::from(set.structure));
+    lines.option(" except ", set.except);
+    lines.word("\n");
+}
+
+fn add_relation(lines: &mut Lines, number: usize, rel: &Rel) {
+    lines.part("  relation ", number as u64);
+    lines.word(" ");
+    lines.name(&rel.name);
+    lines.part(" source ", u64::from(rel.source));
+    lines.option(" target ", rel.target);
+    lines.word("\n");
+}
+
+fn add_structures(lines: &mut Lines, base: &Structures) {
+    lines.part("  version ", u64::from(base.version));
+    lines.word(" order ");
+    lines.word(order_word(base.order));
+    lines.part(" head ", u64::from(base.head));
+    lines.word("\n");
+    for (number, structure) in base.structures.items().iter().enumerate() {
+        add_structure(lines, number, structure);
     }
+}
 
-    fn set(&mut self, number: usize, set: &SetDecl) -> Result<(), AllocError> {
-        let name = name_word(&set.name);
-        let (pool, structure) = (set.pool, set.structure);
-        let except = number_word(self.alloc, set.except)?;
-        writeln!(
-            self.text,
-            "  set {number} {name} pool {pool} structure {structure} except {except}"
-        )
+fn add_pools(lines: &mut Lines, pools: &[Pool]) {
+    let mut number = 0usize;
+    for pool in pools {
+        number = number.saturating_add(1);
+        add_pool(lines, number, pool);
     }
+}
 
-    fn relation(&mut self, number: usize, rel: &Rel) -> Result<(), AllocError> {
-        let name = name_word(&rel.name);
-        let source = rel.source;
-        let target = number_word(self.alloc, rel.target)?;
-        writeln!(
-            self.text,
-            "  relation {number} {name} source {source} target {target}"
-        )
+fn add_symbols(lines: &mut Lines, base: &Structures) {
+    for (number, set) in base.sets.items().iter().enumerate() {
+        add_set(lines, number, set);
     }
-
-    fn guard(&mut self, number: usize, guard: &Guard) -> Result<(), AllocError> {
-        let path = path_word(self.alloc, guard.path)?;
-        let test = test_word(self.alloc, guard.test)?;
-        writeln!(self.text, "    guard {number} {path} {test}")
-    }
-
-    fn rule(&mut self, number: usize, rule: &Rule) -> Result<(), AllocError> {
-        let premise = number_word(self.alloc, rule.premise)?;
-        let span = span_word(self.alloc, rule.span)?;
-        let inclusion = inclusion_word(self.alloc, rule.inc)?;
-        writeln!(self.text, "  rule {number} premise {premise} {span}")?;
-        for (number, guard) in rule.guards.items().iter().enumerate() {
-            self.guard(number, guard)?;
-        }
-        writeln!(self.text, "    gives {inclusion}")
-    }
-
-    fn conjunction(&mut self, number: usize, conj: &Conj) -> Result<(), AllocError> {
-        writeln!(self.text, "    conjunction {number}")?;
-        for (number, literal) in conj.literals.items().iter().enumerate() {
-            let literal = literal_word(self.alloc, *literal)?;
-            writeln!(self.text, "      literal {number} {literal}")?;
-        }
-        Ok(())
-    }
-
-    fn constraint(&mut self, number: usize, constraint: &Constraint) -> Result<(), AllocError> {
-        let name = name_word(&constraint.name);
-        let quantifier = quantifier_word(self.alloc, constraint.quant)?;
-        writeln!(self.text, "  constraint {number} {name} {quantifier}")?;
-        for (number, conj) in constraint.conjs.items().iter().enumerate() {
-            self.conjunction(number, conj)?;
-        }
-        Ok(())
-    }
-
-    fn declarations(&mut self, spec: &Spec) -> Result<(), AllocError> {
-        let base = &spec.base;
-        let (version, order, head) = (base.version, order_word(base.order), base.head);
-        writeln!(self.text, "  version {version} order {order} head {head}")?;
-        for (number, structure) in base.structures.items().iter().enumerate() {
-            self.structure(number, structure)?;
-        }
-        for (number, pool) in base.pools.items().iter().enumerate() {
-            self.pool(number + 1, pool)?;
-        }
-        for (number, set) in base.sets.items().iter().enumerate() {
-            self.set(number, set)?;
-        }
-        for (number, rel) in base.rels.items().iter().enumerate() {
-            self.relation(number, rel)?;
-        }
-        Ok(())
+    for (number, rel) in base.rels.items().iter().enumerate() {
+        add_relation(lines, number, rel);
     }
 }
 
 /// The lines of a specification's tables.
-pub fn table_lines(alloc: Global, spec: &Spec) -> Result<String, AllocError> {
-    let mut lines = Lines {
-        alloc,
-        text: String::new(alloc),
-    };
-    lines.declarations(spec)?;
-    for (number, rule) in spec.rules.items().iter().enumerate() {
-        lines.rule(number, rule)?;
-    }
-    for (number, constraint) in spec.constraints.items().iter().enumerate() {
-        lines.constraint(number, constraint)?;
-    }
-    Ok(lines.text)
+pub fn add_tables(lines: &mut Lines, spec: &Spec) {
+    add_structures(lines, &spec.base);
+    add_pools(lines, spec.base.pools.items());
+    add_symbols(lines, &spec.base);
+    rule_lines(lines, spec.rules.items());
+    constraint_lines(lines, spec.constraints.items());
 }

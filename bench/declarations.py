@@ -61,9 +61,7 @@ def main():
     with Timer(sys.argv) as timer:
         empty = timer.milliseconds(START + "structure Head{}")
         print(f"{'empty':16}          {empty:8.2f}")
-        for make in (apart, chained, sets, expressions):
-            text = make()
-            print(f"{make.__name__:16} {len(text):8} {timer.milliseconds(text) - empty:8.2f}")
+        timer.print_texts((apart, chained, sets, expressions), empty)
         timer.print_growth(START + "structure Head{}", OVER, empty)
 
 

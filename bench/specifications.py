@@ -79,9 +79,7 @@ def main():
     with Timer(sys.argv) as timer:
         start = timer.milliseconds(START)
         print(f"{'declarations':16} {len(START):8} {start:8.2f}")
-        for make in (rules, constraints, both, wide):
-            text = make()
-            print(f"{make.__name__:16} {len(text):8} {timer.milliseconds(text) - start:8.2f}")
+        timer.print_texts((rules, constraints, both, wide), start)
         timer.print_growth(START, OVER, start)
 
 

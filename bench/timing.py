@@ -42,6 +42,12 @@ class Timer:
             best = min(best, time.perf_counter() - start)
         return best * 1000
 
+    def print_texts(self, makes, least):
+        """The bytes and the time of each text that is made."""
+        for make in makes:
+            text = make()
+            print(f"{make.__name__:16} {len(text):8} {self.milliseconds(text) - least:8.2f}")
+
     def print_growth(self, start, pieces, least):
         """The times of texts of a quarter, a half and all of the bytes that a text may have, for each kind of piece."""
         for kind, piece in pieces.items():

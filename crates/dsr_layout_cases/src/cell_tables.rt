@@ -119,7 +119,10 @@ pub const BIG_RECORDS: Table = Table {
 /// Structures that extend others: Base has k in byte 0, Mid has x in byte 1, Leaf has y in bytes 2 and
 /// 3 and v behind. p has slots of 6 bytes for all of them, q of 1 byte for Base.
 pub const PARTS: Table = Table {
-    text: "version 1;order little;structure Head{}structure Base{bits 3 k;}structure Mid extends Base{bits 2 x;}structure Leaf extends Mid{u16 y;bits 12 v;}pool p:Base[2]slot 6 at 0 codes 0 step 1 none 9;pool q:Base[1]at 12 codes 0 step 1 none 9;set L of p as Leaf;",
+    text: "version 1;order little;structure Head{}structure Base{bits 3 k;}\
+        structure Mid extends Base{bits 2 x;}structure Leaf extends Mid{u16 y;bits 12 v;}\
+        pool p:Base[2]slot 6 at 0 codes 0 step 1 none 9;\
+        pool q:Base[1]at 12 codes 0 step 1 none 9;set L of p as Leaf;",
     image: &[
         0x05, 0x02, 0x34, 0x12, 0xbc, 0x0a, 0xff, 0x01, 0xcd, 0xab, 0xff, 0xf7, 0x06,
     ],
@@ -213,7 +216,11 @@ pub const NODE_CODES: References = References {
 
 /// Pools with none between the codes, below and above them, without slots, and with a large step.
 pub const POOL_CODES: References = References {
-    text: "version 1;order little;structure Head{}structure R{u8 a;}pool p:R[3]at 0 codes 5 step 3 none 6;pool q:R[2]at 3 codes 18446744073709551614 step 1 none 18446744073709551613;pool e:R[0]at 5 codes 0 step 1 none 0;pool r:R[2]at 5 codes 0 step 1 none 2;pool s:R[2]at 7 codes 1 step 9223372036854775807 none 0;",
+    text: "version 1;order little;structure Head{}structure R{u8 a;}\
+        pool p:R[3]at 0 codes 5 step 3 none 6;\
+        pool q:R[2]at 3 codes 18446744073709551614 step 1 none 18446744073709551613;\
+        pool e:R[0]at 5 codes 0 step 1 none 0;pool r:R[2]at 5 codes 0 step 1 none 2;\
+        pool s:R[2]at 7 codes 1 step 9223372036854775807 none 0;",
     image: &[0, 0, 0, 0, 0, 0, 0, 0, 0],
     refs: &[
         // 5, 8, 11

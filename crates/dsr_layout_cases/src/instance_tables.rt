@@ -57,7 +57,10 @@ const PAIRS: RuleRow = (
 
 /// Rules alone: p has 2,048 records of 8 entries, and q has 2,040.
 pub const RULES: Table = Table {
-    text: "version 1;order little;structure Head{u8 h;}structure R{bits 1 m[8];}pool p:R[2048]at 1 codes 0 step 1 none 2048;pool q:R[2040]at 2049 codes 0 step 1 none 2048;set A of p;set B of q;relation H:head->number;",
+    text: "version 1;order little;structure Head{u8 h;}structure R{bits 1 m[8];}\
+        pool p:R[2048]at 1 codes 0 step 1 none 2048;\
+        pool q:R[2040]at 2049 codes 0 step 1 none 2048;set A of p;set B of q;\
+        relation H:head->number;",
     front: &[],
     zeros: 4089,
     rows: &[
@@ -92,7 +95,10 @@ const LAYOUT_OF_HALVES: &str =
 
 /// Quantifiers: p has 2,048 records and q has 1,024, so OBLONG, OWN and PAIRS have 2^21 instances.
 pub const QUANTIFIERS: Table = Table {
-    text: "version 1;order little;structure Head{u8 h;}structure R{u8 a;}pool p:R[2048]at 1 codes 0 step 1 none 2048;pool q:R[1024]at 2049 codes 0 step 1 none 2048;set A of p;set B of q;relation H:head->number;relation G:q->number;",
+    text: "version 1;order little;structure Head{u8 h;}structure R{u8 a;}\
+        pool p:R[2048]at 1 codes 0 step 1 none 2048;\
+        pool q:R[1024]at 2049 codes 0 step 1 none 2048;set A of p;set B of q;\
+        relation H:head->number;relation G:q->number;",
     front: &[],
     zeros: 3073,
     rows: &[
@@ -164,7 +170,10 @@ const FROM_COMPLEMENT: RuleRow = (Some(1), Span::Slots(1), Inc::Slot(0, 1));
 
 /// Version 2 with a complement: p has 4,096 records and q has 4,095.
 pub const SECOND: Table = Table {
-    text: "version 2;order little;structure Head{u8 h;}structure R{u8 a;}pool p:R[4096]at 1 codes 0 step 1 none 9999;pool q:R[4095]at 4097 codes 0 step 1 none 9999;set A of p;set C of p except A;set B of q;relation H:head->number;",
+    text: "version 2;order little;structure Head{u8 h;}structure R{u8 a;}\
+        pool p:R[4096]at 1 codes 0 step 1 none 9999;\
+        pool q:R[4095]at 4097 codes 0 step 1 none 9999;set A of p;set C of p except A;\
+        set B of q;relation H:head->number;",
     front: &[],
     zeros: 8192,
     rows: &[
@@ -228,7 +237,10 @@ const OWN_ARRAY: RuleRow = (None, Span::Array(field!(0, 1)), Inc::Slot(0, 1));
 
 /// Numbers of instances that aren't below 2^64; the head's own array has 4 entries.
 pub const LONG_ARRAYS: Table = Table {
-    text: "version 1;order little;structure Head{u8 h;bits 1 m[4];}structure R{u8 a;}structure U{bits 1 m[18446744073709551608];}structure V{bits 1 m[9223372036854775808];}pool p:R[2]at 2 codes 0 step 1 none 9;set A of p;relation H:head->number;",
+    text: "version 1;order little;structure Head{u8 h;bits 1 m[4];}structure R{u8 a;}\
+        structure U{bits 1 m[18446744073709551608];}\
+        structure V{bits 1 m[9223372036854775808];}pool p:R[2]at 2 codes 0 step 1 none 9;\
+        set A of p;relation H:head->number;",
     front: &[],
     zeros: 4,
     rows: &[
@@ -247,7 +259,10 @@ pub const LONG_ARRAYS: Table = Table {
 
 /// An index over an empty pool: 2,048 * 2,048 + 2,048 * 0 = 2^22.
 pub const NO_INDEX: Table = Table {
-    text: "version 1;order little;structure Head{u8 h;}structure R{u8 a;}pool p:R[2048]at 1 codes 0 step 1 none 2048;pool q:R[0]at 1 codes 0 step 1 none 2048;set A of p;set B of q;relation H:head->number;",
+    text: "version 1;order little;structure Head{u8 h;}structure R{u8 a;}\
+        pool p:R[2048]at 1 codes 0 step 1 none 2048;\
+        pool q:R[0]at 1 codes 0 step 1 none 2048;set A of p;set B of q;\
+        relation H:head->number;",
     front: &[],
     zeros: 2049,
     rows: &[

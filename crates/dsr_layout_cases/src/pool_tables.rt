@@ -285,7 +285,9 @@ pub const SUBTYPE_ORDER: [Row; 7] = [
     ),
     // p's sets before q's, though q's is declared first
     (
-        "structure Head{}structure R{u16 a;}structure S extends R{u8 b;}structure T extends R{u16 c;}pool p:R[1]at 0 codes 0 step 1 none 9;pool q:R[1]at 2 codes 0 step 1 none 9;set A of q as T;set B of p as S;",
+        "structure Head{}structure R{u16 a;}structure S extends R{u8 b;}\
+            structure T extends R{u16 c;}pool p:R[1]at 0 codes 0 step 1 none 9;\
+            pool q:R[1]at 2 codes 0 step 1 none 9;set A of q as T;set B of p as S;",
         &[0, 0, 0, 0],
         "5 subtype 1 2",
     ),

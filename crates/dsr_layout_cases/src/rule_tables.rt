@@ -44,8 +44,10 @@ macro_rules! plain {
 
 // ---- nodes
 
-const NODES: &str =
-    "version 1; order little; structure Head { fixed u16 n; u8 count; u16 first -> nodes; } structure Node { u16 next -> nodes; } pool nodes : Node[n] at 5 codes 1 step 1 none 0; set Nodes of nodes; relation Count : head -> number;";
+const NODES: &str = "version 1; order little; structure Head { fixed u16 n; u8 count; \
+        u16 first -> nodes; } structure Node { u16 next -> nodes; } \
+        pool nodes : Node[n] at 5 codes 1 step 1 none 0; set Nodes of nodes; \
+        relation Count : head -> number;";
 
 // `head => head.first in Nodes; x in Nodes => x.next in Nodes; head => <head, head.count> in Count`
 const NODE_RULES: &[RuleRow] = &[
@@ -107,7 +109,10 @@ pub const LISTS: [Table; 3] = [
 
 // The head is 2 bytes, as m begins at a byte; p has 3 records and q has 4.
 const COUNTED: &str =
-    "version 1;order little;structure Head{bits 1 a;bits 2 b;bits 5 c;bits 2 m[3];}structure R{bits 2 c;bits 6 d;}pool p:R[3]at 2 codes 1 step 1 none 0;pool q:R[4]at 5 codes 1 step 1 none 0;set A of p;set B of q;relation N:p->number;relation H:head->number;relation F:p->q;relation G:q->p;relation E:head->q;";
+    "version 1;order little;structure Head{bits 1 a;bits 2 b;bits 5 c;bits 2 m[3];}\
+        structure R{bits 2 c;bits 6 d;}pool p:R[3]at 2 codes 1 step 1 none 0;\
+        pool q:R[4]at 5 codes 1 step 1 none 0;set A of p;set B of q;relation N:p->number;\
+        relation H:head->number;relation F:p->q;relation G:q->p;relation E:head->q;";
 
 const FITS: &str = "layout, 3 * 1 at 2 codes 1 step 1 none 0, 4 * 1 at 5 codes 1 step 1 none 0";
 

@@ -21,13 +21,21 @@ pub const WHOLE: [Row; 10] = [
     ),
     // a Dir is a Block of 1 byte and a byte behind it: 2, where a slot has 1
     (
-        "version 1; order little; structure Head { fixed u8 n; u8 top -> blocks; } structure Block { u8 kind; } structure Dir extends Block { u8 first -> blocks; } structure Leaf extends Block { u8 len; } pool blocks : Block[n] slot 1 at 2 codes 1 step 1 none 0; set All of blocks; set Dirs of blocks as Dir; set Leaves of blocks as Leaf;",
+        "version 1; order little; structure Head { fixed u8 n; u8 top -> blocks; } \
+            structure Block { u8 kind; } structure Dir extends Block { u8 first -> blocks; } \
+            structure Leaf extends Block { u8 len; } \
+            pool blocks : Block[n] slot 1 at 2 codes 1 step 1 none 0; set All of blocks; \
+            set Dirs of blocks as Dir; set Leaves of blocks as Leaf;",
         &[0x01, 0x01, 0x02, 0x0c],
         "5 subtype 1 2",
     ),
     // n = 1: bytes 2 and 3
     (
-        "version 1; order little; structure Head { fixed u8 n; u8 top -> blocks; } structure Block { u8 kind; } structure Dir extends Block { u8 first -> blocks; } structure Leaf extends Block { u8 len; } pool blocks : Block[n] slot 2 at 2 codes 1 step 1 none 0; set All of blocks; set Dirs of blocks as Dir; set Leaves of blocks as Leaf;",
+        "version 1; order little; structure Head { fixed u8 n; u8 top -> blocks; } \
+            structure Block { u8 kind; } structure Dir extends Block { u8 first -> blocks; } \
+            structure Leaf extends Block { u8 len; } \
+            pool blocks : Block[n] slot 2 at 2 codes 1 step 1 none 0; set All of blocks; \
+            set Dirs of blocks as Dir; set Leaves of blocks as Leaf;",
         &[0x01, 0x01, 0x02, 0x0c],
         "layout, 1 * 2 at 2 codes 1 step 1 none 0",
     ),

@@ -64,7 +64,11 @@ run_append : (xs ys : List (ℕ × ℕ)) (stack : List ExprShape) → run (xs ++
 run_append [] ys stack = refl
 run_append (x ∷ xs) ys stack = run_append xs ys (taken x.0 x.1 stack)
 
-read_both : (a b : ExprShape) (last : List (ℕ × ℕ)) (stack : List ExprShape) → run (postfix a) stack ≡ a ∷ stack → run (postfix b) (a ∷ stack) ≡ b ∷ a ∷ stack → run (postfix a ++ (postfix b ++ last)) stack ≡ run last (b ∷ a ∷ stack)
+read_both :
+    (a b : ExprShape) (last : List (ℕ × ℕ)) (stack : List ExprShape)
+    → run (postfix a) stack ≡ a ∷ stack
+    → run (postfix b) (a ∷ stack) ≡ b ∷ a ∷ stack
+    → run (postfix a ++ (postfix b ++ last)) stack ≡ run last (b ∷ a ∷ stack)
 read_both a b last stack left right =
     run_append (postfix a) (postfix b ++ last) stack
     ∙ (ap (run (postfix b ++ last)) left

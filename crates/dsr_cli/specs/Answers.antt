@@ -51,31 +51,37 @@ abbrev pub layout_short : Answer
 layout_short = record { status = statuses.LayoutRefused; text = codes "layout 1 short\n" }
 
 abbrev pub layout_outside : List ℕ → Answer
-layout_outside pool = record { status = statuses.LayoutRefused; text = codes "layout 3 outside " ++ pool ++ codes "\n" }
+layout_outside pool =
+    record { status = statuses.LayoutRefused; text = codes "layout 3 outside " ++ pool ++ codes "\n" }
 
 -- the name of a declared pool, counted from 1
 abbrev pub pool_name : Spec → ℕ → List ℕ
 pool_name spec pool = option_map_or (λ p. p.name) (slice_get spec.base.pools (pool - 1)) []
 
 abbrev pub constraint_name : Spec → ℕ → List ℕ
-constraint_name spec constraint = option_map_or (λ c. c.name) (slice_get spec.constraints constraint) []
+constraint_name spec constraint =
+    option_map_or (λ c. c.name) (slice_get spec.constraints constraint) []
 
 -- `head`, or a slot of a pool
 abbrev pub element_text : Spec → Element → List ℕ
-element_text spec e = if e.pool == 0 then codes "head" else pool_name spec e.pool ++ codes "[" ++ decimal e.slot ++ codes "]"
+element_text spec e =
+    if e.pool == 0 then codes "head" else pool_name spec e.pool ++ codes "[" ++ decimal e.slot ++ codes "]"
 
 abbrev pub binding_text : Spec → Binding → List ℕ
 binding_text spec Once = codes "-"
 binding_text spec (Each e) = element_text spec e
-binding_text spec (Pair e f) = codes "<" ++ element_text spec e ++ codes "," ++ element_text spec f ++ codes ">"
+binding_text spec (Pair e f) =
+    codes "<" ++ element_text spec e ++ codes "," ++ element_text spec f ++ codes ">"
 
 abbrev pub violation_line : Spec → BoundConstraint → List ℕ
-violation_line spec v = codes "violated " ++ constraint_name spec v.constraint ++ codes " " ++ binding_text spec v.binding ++ codes "\n"
+violation_line spec v =
+    codes "violated " ++ constraint_name spec v.constraint ++ codes " " ++ binding_text spec v.binding ++ codes "\n"
 
 -- the verdict, with each violated binding and their number where there are some
 abbrev pub verdict_answer : Spec → List BoundConstraint → Answer
 verdict_answer spec [] = record { status = statuses.Ok; text = codes "consistent\n" }
-verdict_answer spec (v ∷ vs) = record { status = statuses.Inconsistent; text = flat_map (violation_line spec) (v ∷ vs) ++ codes "inconsistent " ++ decimal (length (v ∷ vs)) ++ codes "\n" }
+verdict_answer spec (v ∷ vs) =
+    record { status = statuses.Inconsistent; text = flat_map (violation_line spec) (v ∷ vs) ++ codes "inconsistent " ++ decimal (length (v ∷ vs)) ++ codes "\n" }
 
 -- the answer to a specification and the bytes of an image
 pub data IsImageAnswer (spec : Spec) (image : List ℕ) : Answer → Type 0 where
@@ -116,7 +122,8 @@ pub record IsImage (shelved : Shelved) (name image : List ℕ) : Type 0 where
 
 -- a refusal at a place of the text, with its kind
 abbrev pub refused_at : List ℕ → ℕ → ℕ → Answer
-refused_at by kind place = record { status = statuses.SpecRefused; text = by ++ decimal kind ++ codes " " ++ decimal place ++ codes "\n" }
+refused_at by kind place =
+    record { status = statuses.SpecRefused; text = by ++ decimal kind ++ codes " " ++ decimal place ++ codes "\n" }
 
 abbrev pub syntax_at : ℕ → ℕ → Answer
 syntax_at kind place = refused_at (codes "syntax ") kind place
@@ -176,7 +183,9 @@ pub data IsFilesAnswer (shelved : Shelved) (spec_name image_name : List ℕ) : A
       → ((spec : Spec) → HasForm text spec → ⊥)
       → NoneFailed shelved
       → IsFilesAnswer shelved spec_name image_name spec_refused
-  accepted : (text : List ℕ) (tree : TreeShape) (spec : Spec) (answer : Answer) → IsText shelved spec_name text
+  accepted :
+      (text : List ℕ) (tree : TreeShape) (spec : Spec) (answer : Answer)
+      → IsText shelved spec_name text
       → IsMeaning text tree
       → HasForm text spec
       → IsLoadAnswer shelved spec image_name answer
@@ -185,7 +194,9 @@ pub data IsFilesAnswer (shelved : Shelved) (spec_name image_name : List ℕ) : A
 -- the answer to a text that is to be printed
 pub data IsPrintAnswer (text : List ℕ) : Answer → Type 0 where
   unprinted : (answer : Answer) → IsRefused text answer → IsPrintAnswer text answer
-  printed : (tree : TreeShape) → IsMeaning text tree → IsPrintAnswer text (record { status = statuses.Ok; text = canonical tree })
+  printed :
+      (tree : TreeShape) → IsMeaning text tree
+      → IsPrintAnswer text (record { status = statuses.Ok; text = canonical tree })
 
 -- the answer to the name of a specification that is to be printed
 pub data IsTextAnswer (shelved : Shelved) (name : List ℕ) : Answer → Type 0 where

@@ -70,12 +70,15 @@ refers (Some e) = is_reference e.sort
 -- whether the field is declared, and the relation goes from the premise's record to what the field holds
 abbrev pub pair_fits : Form → Option Premise → ℕ → Option Entry → Bool
 pair_fits f premise relation None = false
-pair_fits f premise relation (Some e) = relates f.relations relation (is_some premise) (is_reference e.sort)
+pair_fits f premise relation (Some e) =
+    relates f.relations relation (is_some premise) (is_reference e.sort)
 
 abbrev pub conclusion_fits : Form → Option Premise → Conclusion → Bool
 conclusion_fits f premise (Own set) = is_some premise && nat_lt set (length f.sets)
-conclusion_fits f premise (Target field set) = refers (slice_get (fields_under f premise) field) && nat_lt set (length f.sets)
-conclusion_fits f premise (Pair field relation) = pair_fits f premise relation (slice_get (fields_under f premise) field)
+conclusion_fits f premise (Target field set) =
+    refers (slice_get (fields_under f premise) field) && nat_lt set (length f.sets)
+conclusion_fits f premise (Pair field relation) =
+    pair_fits f premise relation (slice_get (fields_under f premise) field)
 
 abbrev pub rule_fits : Form → Clause → Bool
 rule_fits f r = premise_fits f r.premise && conclusion_fits f r.premise r.conclusion
@@ -97,12 +100,14 @@ is_held k (Some e) = nat_lt k (sort_limit e.sort)
 
 -- whether the field of a rule for the relation can hold the number
 abbrev pub number_fits : Form → ℕ → ℕ → Option Premise → Conclusion → Bool
-number_fits f relation k premise (Pair field other) = not (nat_eq other relation) || is_held k (slice_get (fields_under f premise) field)
+number_fits f relation k premise (Pair field other) =
+    not (nat_eq other relation) || is_held k (slice_get (fields_under f premise) field)
 number_fits f relation k premise _ = true
 
 abbrev pub number_fits_all : Form → ℕ → ℕ → List Clause → Bool
 number_fits_all f relation k [] = true
-number_fits_all f relation k (r ∷ rs) = number_fits f relation k r.premise r.conclusion && number_fits_all f relation k rs
+number_fits_all f relation k (r ∷ rs) =
+    number_fits f relation k r.premise r.conclusion && number_fits_all f relation k rs
 
 abbrev pub side_fits : Form → Side → Bool
 side_fits f (Number k) = number_fits_all f f.demand.relation k f.rules

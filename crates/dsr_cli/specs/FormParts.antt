@@ -52,9 +52,11 @@ abbrev pub long_sort : ℕ → Sort
 long_sort len = if nat_eq len 3 then Long else Reference
 
 abbrev pub entry_with : Option Token → List Token → Option Entry
-entry_with (Some (token.Keyword keyword.Fixed)) s = Some (record { name = name_at s 2; sort = Fixed })
+entry_with (Some (token.Keyword keyword.Fixed)) s =
+    Some (record { name = name_at s 2; sort = Fixed })
 entry_with (Some (token.Keyword keyword.U16)) s = Some (record { name = name_at s 1; sort = Short })
-entry_with (Some (token.Keyword keyword.U32)) s = Some (record { name = name_at s 1; sort = long_sort (length s) })
+entry_with (Some (token.Keyword keyword.U32)) s =
+    Some (record { name = name_at s 1; sort = long_sort (length s) })
 entry_with _ s = None
 
 -- the field that a statement declares
@@ -82,7 +84,8 @@ is_name (Some (token.Name _)) = true
 is_name _ = false
 
 abbrev pub link_with : Option Token → List Token → Option Link
-link_with (Some (token.Keyword keyword.Relation)) s = Some (record { name = name_at s 1; from_pool = is_name (slice_get s 3); to_pool = is_name (slice_get s 5) })
+link_with (Some (token.Keyword keyword.Relation)) s =
+    Some (record { name = name_at s 1; from_pool = is_name (slice_get s 3); to_pool = is_name (slice_get s 5) })
 link_with _ s = None
 
 -- the relation that a statement declares
@@ -115,7 +118,8 @@ abbrev pub field_number : Form → Option Premise → List ℕ → ℕ
 field_number f premise name = number_of_name (map entry_name (fields_under f premise)) name
 
 abbrev pub premise_with : Form → Option Token → List Token → Option Premise
-premise_with f (Some (token.Name variable)) s = Some (record { variable = variable; set = set_number f (name_at s 3) })
+premise_with f (Some (token.Name variable)) s =
+    Some (record { variable = variable; set = set_number f (name_at s 3) })
 premise_with f _ s = None
 
 -- the premise of a rule
@@ -155,11 +159,13 @@ side_in f s =
 
 -- the constraint that a statement is
 abbrev pub demand_in : Form → List Token → Demand
-demand_in f s = record { name = name_at s 1; relation = relation_number f (name_at s 5); side = side_in f s }
+demand_in f s =
+    record { name = name_at s 1; relation = relation_number f (name_at s 5); side = side_in f s }
 
 -- what the last statement is the constraint of
 abbrev pub form_with : Form → List (List Token) → Form
-form_with f ss = record f { rules = clauses_in f ss; demand = demand_in f (statement_at ss (length ss - 1)) }
+form_with f ss =
+    record f { rules = clauses_in f ss; demand = demand_in f (statement_at ss (length ss - 1)) }
 
 abbrev pub form_in : List (List Token) → Form
 form_in ss = form_with (declared_in ss) ss

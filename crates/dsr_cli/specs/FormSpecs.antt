@@ -51,7 +51,8 @@ sort_kind sort.Reference = kind.Refers 1
 sort_kind _ = kind.Number 0
 
 abbrev pub entry_field : Entry → Field
-entry_field e = record { name = e.name; fixed = is_fixed e.sort; width = sort_width e.sort; len = None; kind = sort_kind e.sort }
+entry_field e =
+    record { name = e.name; fixed = is_fixed e.sort; width = sort_width e.sort; len = None; kind = sort_kind e.sort }
 
 abbrev pub structure_with : List ℕ → List Entry → Structure
 structure_with name fields = record { name = name; parent = None; fields = map entry_field fields }
@@ -83,7 +84,8 @@ link_target false = None
 link_target true = Some 1
 
 abbrev pub link_relation : Link → Rel
-link_relation l = record { name = l.name; source = link_source l.from_pool; target = link_target l.to_pool }
+link_relation l =
+    record { name = l.name; source = link_source l.from_pool; target = link_target l.to_pool }
 
 abbrev pub premise_set : Option Premise → Option ℕ
 premise_set None = None
@@ -91,7 +93,8 @@ premise_set (Some p) = Some p.set
 
 -- a field of the premise's record
 abbrev pub path_under : Option Premise → ℕ → Path
-path_under premise field = record { field = record { structure = structure_of (premise_set premise); field = field }; indexed = false }
+path_under premise field =
+    record { field = record { structure = structure_of (premise_set premise); field = field }; indexed = false }
 
 abbrev pub conclusion_inc : Option Premise → Conclusion → Inc
 conclusion_inc premise (Own set) = inc.Own set
@@ -99,7 +102,8 @@ conclusion_inc premise (Target field set) = inc.Target set (path_under premise f
 conclusion_inc premise (Pair field relation) = inc.OwnPair relation (path_under premise field)
 
 abbrev pub clause_rule : Clause → Rule
-clause_rule r = record { premise = premise_set r.premise; span = span.Single; guards = []; inc = conclusion_inc r.premise r.conclusion }
+clause_rule r =
+    record { premise = premise_set r.premise; span = span.Single; guards = []; inc = conclusion_inc r.premise r.conclusion }
 
 abbrev pub side_bound : Side → Bound
 side_bound (side.Number k) = bound.Num k

@@ -55,7 +55,8 @@ pub record HasForm (text : List ℕ) (spec : Spec) : Type 0 where
 -- the form whose statements these are, or that they are none of a form
 abbrev pub FindsForm : List (List Token) → Option Form → Type 0
 FindsForm statements (Some form) = IsTrue (is_sound form) × (statements ≡ form_statements form)
-FindsForm statements None = (form : Form) → IsTrue (is_sound form) → statements ≢ form_statements form
+FindsForm statements None =
+    (form : Form) → IsTrue (is_sound form) → statements ≢ form_statements form
 
 -- the typed specification of tokens, or that they have none
 abbrev pub FindsSpec : List Token → Option Spec → Type 0

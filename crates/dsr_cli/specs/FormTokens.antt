@@ -55,11 +55,13 @@ version_statement = token.Keyword keyword.Version ∷ token.Number 1 ∷ token.S
 
 -- `order little ;`
 abbrev pub order_statement : List Token
-order_statement = token.Keyword keyword.Order ∷ token.Keyword keyword.Little ∷ token.Sign sign.Semicolon ∷ []
+order_statement =
+    token.Keyword keyword.Order ∷ token.Keyword keyword.Little ∷ token.Sign sign.Semicolon ∷ []
 
 -- `structure NAME {`
 abbrev pub open_statement : List ℕ → List Token
-open_statement name = token.Keyword keyword.Structure ∷ token.Name name ∷ token.Sign sign.OpenBrace ∷ []
+open_statement name =
+    token.Keyword keyword.Structure ∷ token.Name name ∷ token.Sign sign.OpenBrace ∷ []
 
 -- `}`
 abbrev pub close_statement : List Token
@@ -67,10 +69,14 @@ close_statement = token.Sign sign.CloseBrace ∷ []
 
 -- `fixed u16 NAME ;`, `u16 NAME ;`, `u32 NAME ;` or `u32 NAME -> POOL ;`
 abbrev pub entry_tokens : List ℕ → List ℕ → Sort → List Token
-entry_tokens pool name Fixed = token.Keyword keyword.Fixed ∷ token.Keyword keyword.U16 ∷ token.Name name ∷ token.Sign sign.Semicolon ∷ []
-entry_tokens pool name Short = token.Keyword keyword.U16 ∷ token.Name name ∷ token.Sign sign.Semicolon ∷ []
-entry_tokens pool name Long = token.Keyword keyword.U32 ∷ token.Name name ∷ token.Sign sign.Semicolon ∷ []
-entry_tokens pool name Reference = token.Keyword keyword.U32 ∷ token.Name name ∷ token.Sign sign.Arrow ∷ token.Name pool ∷ token.Sign sign.Semicolon ∷ []
+entry_tokens pool name Fixed =
+    token.Keyword keyword.Fixed ∷ token.Keyword keyword.U16 ∷ token.Name name ∷ token.Sign sign.Semicolon ∷ []
+entry_tokens pool name Short =
+    token.Keyword keyword.U16 ∷ token.Name name ∷ token.Sign sign.Semicolon ∷ []
+entry_tokens pool name Long =
+    token.Keyword keyword.U32 ∷ token.Name name ∷ token.Sign sign.Semicolon ∷ []
+entry_tokens pool name Reference =
+    token.Keyword keyword.U32 ∷ token.Name name ∷ token.Sign sign.Arrow ∷ token.Name pool ∷ token.Sign sign.Semicolon ∷ []
 
 abbrev pub entry_statement : List ℕ → Entry → List Token
 entry_statement pool e = entry_tokens pool e.name e.sort
@@ -84,7 +90,8 @@ pool_statement f =
 
 -- `set NAME of POOL ;`
 abbrev pub set_statement : List ℕ → List ℕ → List Token
-set_statement pool name = token.Keyword keyword.Set ∷ token.Name name ∷ token.Keyword keyword.Of ∷ token.Name pool ∷ token.Sign sign.Semicolon ∷ []
+set_statement pool name =
+    token.Keyword keyword.Set ∷ token.Name name ∷ token.Keyword keyword.Of ∷ token.Name pool ∷ token.Sign sign.Semicolon ∷ []
 
 -- the pool, or the keyword for what isn't the pool
 abbrev pub pool_token : List ℕ → Bool → Keyword → Token
@@ -113,12 +120,15 @@ field_name f premise field = name_of_number (map entry_name (fields_under f prem
 
 -- `rule head =>` or `rule VARIABLE in SET =>`
 abbrev pub premise_tokens : Form → Option Premise → List Token
-premise_tokens f None = token.Keyword keyword.Rule ∷ token.Keyword keyword.Head ∷ token.Sign sign.Gives ∷ []
-premise_tokens f (Some p) = token.Keyword keyword.Rule ∷ token.Name p.variable ∷ token.Keyword keyword.In ∷ token.Name (set_name f p.set) ∷ token.Sign sign.Gives ∷ []
+premise_tokens f None =
+    token.Keyword keyword.Rule ∷ token.Keyword keyword.Head ∷ token.Sign sign.Gives ∷ []
+premise_tokens f (Some p) =
+    token.Keyword keyword.Rule ∷ token.Name p.variable ∷ token.Keyword keyword.In ∷ token.Name (set_name f p.set) ∷ token.Sign sign.Gives ∷ []
 
 -- `RECORD in SET ;`, `RECORD . FIELD in SET ;` or `< RECORD , RECORD . FIELD > in RELATION ;`
 abbrev pub conclusion_tokens : Form → Option Premise → Conclusion → List Token
-conclusion_tokens f premise (Own set) = record_token premise ∷ token.Keyword keyword.In ∷ token.Name (set_name f set) ∷ token.Sign sign.Semicolon ∷ []
+conclusion_tokens f premise (Own set) =
+    record_token premise ∷ token.Keyword keyword.In ∷ token.Name (set_name f set) ∷ token.Sign sign.Semicolon ∷ []
 conclusion_tokens f premise (Target field set) =
     record_token premise ∷ token.Sign sign.Dot ∷ token.Name (field_name f premise field)
     ∷ token.Keyword keyword.In ∷ token.Name (set_name f set) ∷ token.Sign sign.Semicolon ∷ []
@@ -132,7 +142,8 @@ rule_statement f r = premise_tokens f r.premise ++ conclusion_tokens f r.premise
 -- a number, `size ( SET )` or `size ( head . RELATION )`, and the end
 abbrev pub side_tokens : Form → Side → List Token
 side_tokens f (Number k) = token.Number k ∷ token.Sign sign.Semicolon ∷ []
-side_tokens f (Members set) = token.Keyword keyword.Size ∷ token.Sign sign.OpenParenthesis ∷ token.Name (set_name f set) ∷ token.Sign sign.CloseParenthesis ∷ token.Sign sign.Semicolon ∷ []
+side_tokens f (Members set) =
+    token.Keyword keyword.Size ∷ token.Sign sign.OpenParenthesis ∷ token.Name (set_name f set) ∷ token.Sign sign.CloseParenthesis ∷ token.Sign sign.Semicolon ∷ []
 side_tokens f (Targets relation) =
     token.Keyword keyword.Size ∷ token.Sign sign.OpenParenthesis ∷ token.Keyword keyword.Head ∷ token.Sign sign.Dot ∷ token.Name (relation_name f relation) ∷ token.Sign sign.CloseParenthesis
     ∷ token.Sign sign.Semicolon ∷ []
@@ -150,16 +161,20 @@ demand_statement f = demand_tokens f f.demand.name f.demand.relation f.demand.si
 
 -- a structure
 abbrev pub structure_statements : List ℕ → List ℕ → List Entry → List (List Token)
-structure_statements pool name fields = open_statement name ∷ (map (entry_statement pool) fields ++ close_statement ∷ [])
+structure_statements pool name fields =
+    open_statement name ∷ (map (entry_statement pool) fields ++ close_statement ∷ [])
 
 -- the head's structure and the one of the pool's records
 abbrev pub both_structures : Form → List (List Token)
-both_structures f = structure_statements f.pool head_name f.head_fields ++ structure_statements f.pool f.structure f.fields
+both_structures f =
+    structure_statements f.pool head_name f.head_fields ++ structure_statements f.pool f.structure f.fields
 
 -- the statements behind the pool's
 abbrev pub later_statements : Form → List (List Token)
-later_statements f = map (set_statement f.pool) f.sets ++ (map (relation_statement f.pool) f.relations ++ (map (rule_statement f) f.rules ++ demand_statement f ∷ []))
+later_statements f =
+    map (set_statement f.pool) f.sets ++ (map (relation_statement f.pool) f.relations ++ (map (rule_statement f) f.rules ++ demand_statement f ∷ []))
 
 -- all statements
 abbrev pub form_statements : Form → List (List Token)
-form_statements f = version_statement ∷ order_statement ∷ (both_structures f ++ pool_statement f ∷ later_statements f)
+form_statements f =
+    version_statement ∷ order_statement ∷ (both_structures f ++ pool_statement f ∷ later_statements f)

@@ -27,7 +27,8 @@ use Rattle.dsr_meaning.specs.Instances.{referred_pool}
 
 -- the fields of a structure; none where there is no such structure
 abbrev pub fields_of : Spec → ℕ → List Field
-fields_of spec structure = option_map_or (λ s. s.fields) (slice_get spec.base.structures structure) []
+fields_of spec structure =
+    option_map_or (λ s. s.fields) (slice_get spec.base.structures structure) []
 
 -- entries of 16 or 32 bits
 abbrev pub IsPlainWidth : Width → Type 0
@@ -63,13 +64,18 @@ pub record IsPathUnder (spec : Spec) (premise : Option ℕ) (path : Path) : Type
 
 -- the relation goes from a pool to a target
 abbrev pub Relates : Spec → ℕ → ℕ → Option ℕ → Type 0
-Relates spec rel source target = IsSomeAnd (slice_get spec.base.rels rel) (λ r. (r.source ≡ source) × (r.target ≡ target))
+Relates spec rel source target =
+    IsSomeAnd (slice_get spec.base.rels rel) (λ r. (r.source ≡ source) × (r.target ≡ target))
 
 -- the inclusion fits a premise
 abbrev pub IsPlainInc : Spec → Option ℕ → Inc → Type 0
 IsPlainInc spec premise (Own set) = (premise ≢ None) × (set < length spec.base.sets)
-IsPlainInc spec premise (Target set path) = IsPathUnder spec premise path × (referred_pool spec path.field ≡ Some 1) × (set < length spec.base.sets)
-IsPlainInc spec premise (OwnPair rel path) = IsPathUnder spec premise path × Relates spec rel (structure_of premise) (referred_pool spec path.field)
+IsPlainInc spec premise (Target set path) =
+    IsPathUnder spec premise path × (referred_pool spec path.field ≡ Some 1)
+    × (set < length spec.base.sets)
+IsPlainInc spec premise (OwnPair rel path) =
+    IsPathUnder spec premise path
+    × Relates spec rel (structure_of premise) (referred_pool spec path.field)
 IsPlainInc spec premise _ = ⊥
 
 -- the set of a premise is declared

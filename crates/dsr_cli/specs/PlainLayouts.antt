@@ -18,7 +18,8 @@ size_bits (f ∷ fs) = width_bits f.width + size_bits fs
 -- the places of fields from a bit on
 abbrev pub placed : ℕ → List Field → List FieldPlace
 placed bit [] = []
-placed bit (f ∷ fs) = record { bit = bit; width = f.width; length = None } ∷ placed (bit + width_bits f.width) fs
+placed bit (f ∷ fs) =
+    record { bit = bit; width = f.width; length = None } ∷ placed (bit + width_bits f.width) fs
 
 -- the places of a structure's fields
 abbrev pub structure_places : Structure → List FieldPlace
@@ -33,11 +34,13 @@ abbrev pub count_in : List ℕ → ℕ
 count_in bytes = bytes_value Little bytes 0 2
 
 abbrev pub pool_of : Spec → List ℕ → PoolNumbers
-pool_of spec bytes = record { start = size_of spec 0; slot = size_of spec 1; count = count_in bytes; code = 1; step = 1; none = 0 }
+pool_of spec bytes =
+    record { start = size_of spec 0; slot = size_of spec 1; count = count_in bytes; code = 1; step = 1; none = 0 }
 
 -- the layout of structures and one pool
 abbrev pub layout_with : List Structure → PoolNumbers → ℕ → Layout
-layout_with structures pool length = record { length = length; order = Little; pools = pool ∷ []; fields = map structure_places structures }
+layout_with structures pool length =
+    record { length = length; order = Little; pools = pool ∷ []; fields = map structure_places structures }
 
 abbrev pub plain_layout : Spec → List ℕ → Layout
 plain_layout spec bytes = layout_with spec.base.structures (pool_of spec bytes) (length bytes)

@@ -17,7 +17,8 @@ record_at slot = record { pool = 1; slot = slot }
 
 -- the element is a record of the structure: the head, or one of the pool
 abbrev pub IsRecord : List ℕ → ℕ → Element → Type 0
-IsRecord bytes structure e = ((structure ≡ 0) × (e ≡ head)) ⊎ ((structure ≡ 1) × (e.pool ≡ 1) × (e.slot < count_in bytes))
+IsRecord bytes structure e =
+    ((structure ≡ 0) × (e ≡ head)) ⊎ ((structure ≡ 1) × (e.pool ≡ 1) × (e.slot < count_in bytes))
 
 -- the field begins at a byte of its record, and ends within it
 pub record LiesAt (spec : Spec) (layout : Layout) (field : FieldRef) (offset : ℕ) : Type 0 where

@@ -26,15 +26,19 @@ head_path rel rule = path_under rel rule.premise rule.inc
 
 -- the value that the rule gives the head under the relation, if any, is the number
 abbrev pub GivesValue : Layout → List ℕ → ℕ → Rule → ℕ → Type 0
-GivesValue layout bytes rel rule n = (path : Path) → head_path rel rule ≡ Some path → value_at layout bytes head 0 path ≡ Some n
+GivesValue layout bytes rel rule n =
+    (path : Path) → head_path rel rule ≡ Some path → value_at layout bytes head 0 path ≡ Some n
 
 -- every value of the head under the relation is the number
 abbrev pub ValuesAre : Spec → Layout → List ℕ → ℕ → ℕ → Type 0
-ValuesAre spec layout bytes rel n = (value : ℕ) → IsPair spec layout bytes rel head (Num value) → value ≡ n
+ValuesAre spec layout bytes rel n =
+    (value : ℕ) → IsPair spec layout bytes rel head (Num value) → value ≡ n
 
 -- the slot to which the rule leads the head under the relation
 abbrev pub LeadsHead : Layout → List ℕ → ℕ → Rule → ℕ → Type 0
-LeadsHead layout bytes rel rule slot = (path : Path) × (head_path rel rule ≡ Some path) × (value_at layout bytes head 0 path ≡ Some (slot + 1)) × (slot < count_in bytes)
+LeadsHead layout bytes rel rule slot =
+    (path : Path) × (head_path rel rule ≡ Some path)
+    × (value_at layout bytes head 0 path ≡ Some (slot + 1)) × (slot < count_in bytes)
 
 -- the slot is put among the slots, unless it stands there already
 abbrev pub AddsTarget : Layout → List ℕ → ℕ → Rule → List ℕ → List ℕ → Type 0
@@ -46,7 +50,8 @@ AddsTarget layout bytes rel rule old new =
 pub record AreTargets (spec : Spec) (layout : Layout) (bytes : List ℕ) (rel : ℕ) (slots : List ℕ) : Type 0 where
   pub distinct : IsDistinct slots
   pub all : (slot : ℕ) → IsPair spec layout bytes rel head (Elem (record_at slot)) → IsIn slot slots
-  pub only : (slot : ℕ) → IsIn slot slots → IsPair spec layout bytes rel head (Elem (record_at slot))
+  pub only :
+      (slot : ℕ) → IsIn slot slots → IsPair spec layout bytes rel head (Elem (record_at slot))
 
 -- the only binding of the only constraint
 abbrev pub the_binding : BoundConstraint

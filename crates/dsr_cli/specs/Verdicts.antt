@@ -23,11 +23,13 @@ pub record IsChecked (files : Files) (words : List (List ℕ)) (spec : Spec) (la
 
 -- where the shelf tells its files: the image that the words name is consistent
 abbrev pub FindsConsistent : Option Files → List (List ℕ) → Type 0
-FindsConsistent held words = IfSome held (λ files. (spec : Spec) × (layout : Layout) × (image : List ℕ) × IsChecked files words spec layout image × IsConsistent spec layout image)
+FindsConsistent held words =
+    IfSome held (λ files. (spec : Spec) × (layout : Layout) × (image : List ℕ) × IsChecked files words spec layout image × IsConsistent spec layout image)
 
 -- it isn't consistent
 abbrev pub FindsInconsistent : Option Files → List (List ℕ) → Type 0
-FindsInconsistent held words = IfSome held (λ files. (spec : Spec) × (layout : Layout) × (image : List ℕ) × IsChecked files words spec layout image × (IsConsistent spec layout image → ⊥))
+FindsInconsistent held words =
+    IfSome held (λ files. (spec : Spec) × (layout : Layout) × (image : List ℕ) × IsChecked files words spec layout image × (IsConsistent spec layout image → ⊥))
 
 -- the second word names a text that means a specification, whose tree is printed so
 pub record IsPrinted (files : Files) (words : List (List ℕ)) (out : List ℕ) : Type 0 where

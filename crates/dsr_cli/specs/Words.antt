@@ -10,12 +10,14 @@ is_odd (b ∷ bs) = nat_eq b 45
 
 -- a command, with as many words behind it as it takes
 abbrev pub is_call : List ℕ → ℕ → Bool
-is_call command names = (bytes_eq command (codes "check") && nat_eq names 2) || (bytes_eq command (codes "text") && nat_eq names 1)
+is_call command names =
+    (bytes_eq command (codes "check") && nat_eq names 2) || (bytes_eq command (codes "text") && nat_eq names 1)
 
 -- no word, an odd word, a first word that is no command, or a number of words that isn't the command's
 abbrev pub is_usage : List (List ℕ) → Bool
 is_usage [] = true
-is_usage (command ∷ names) = list_any is_odd (command ∷ names) || not (is_call command (length names))
+is_usage (command ∷ names) =
+    list_any is_odd (command ∷ names) || not (is_call command (length names))
 
 -- the first word is `text`
 abbrev pub is_text : List (List ℕ) → Bool

@@ -22,11 +22,13 @@ use Rattle.dsr_constraint.specs.declared.widths.Constants.{Constants}
 
 -- what the variables of a constraint stand for
 abbrev pub scope_told : Scope → ScopeOf
-scope_told scope = record { known = known_of scope.known; binder = option_map (λ b. b.now) scope.binder; quant = scope.quant }
+scope_told scope =
+    record { known = known_of scope.known; binder = option_map (λ b. b.now) scope.binder; quant = scope.quant }
 
 -- where a size of two names that counts nothing is told: at the second one where the first is known
 abbrev pub unknown_place : ScopeOf → PlacedName → PlacedName → ℕ
-unknown_place scope a b = if is_some (named_variable scope.binder a.name) || is_some (scope.known.relation a.name) then b.place else a.place
+unknown_place scope a b =
+    if is_some (named_variable scope.binder a.name) || is_some (scope.known.relation a.name) then b.place else a.place
 
 -- the widths of constants are those that rules give among these names
 abbrev pub Narrow : Known → Constants → Type 0
@@ -34,25 +36,31 @@ Narrow known constants = AreLeast (known_of known) constants.rules.now constants
 
 -- the faults of joins and of units
 abbrev pub faults_of_joins : Scope → Constants → List Join → List Fault
-faults_of_joins scope constants joins = joins_faults (scope_told scope) constants.rules.now (in_joins (map join_shape joins))
+faults_of_joins scope constants joins =
+    joins_faults (scope_told scope) constants.rules.now (in_joins (map join_shape joins))
 
 abbrev pub faults_of_units : Scope → Constants → List UnitOf → List Fault
-faults_of_units scope constants units = units_faults (scope_told scope) constants.rules.now (in_units (map unit_shape units))
+faults_of_units scope constants units =
+    units_faults (scope_told scope) constants.rules.now (in_units (map unit_shape units))
 
 -- typed joins and units behind a first one
 abbrev pub joins_behind : FormulaShape → Scope → List Join → FormulaShapes
-joins_behind first scope joins = MoreOf first (typed_joins (scope_told scope) (in_joins (map join_shape joins)))
+joins_behind first scope joins =
+    MoreOf first (typed_joins (scope_told scope) (in_joins (map join_shape joins)))
 
 abbrev pub units_behind : FormulaShape → Scope → List UnitOf → FormulaShapes
-units_behind first scope units = MoreOf first (typed_units (scope_told scope) (in_units (map unit_shape units)))
+units_behind first scope units =
+    MoreOf first (typed_units (scope_told scope) (in_units (map unit_shape units)))
 
 -- what is wrong with a constraint of this number, apart from its form and a limit
 abbrev pub own_faults_of : Checker → ℕ → ConstraintOf → List Fault
-own_faults_of checker i c = own_faults (known_of checker.known) checker.constants.rules.now (get bytes_eq checker.numbers.now) i (constraint_shape c)
+own_faults_of checker i c =
+    own_faults (known_of checker.known) checker.constants.rules.now (get bytes_eq checker.numbers.now) i (constraint_shape c)
 
 -- what is wrong with it at all
 abbrev pub faults_of : Checker → ℕ → ConstraintOf → List Fault
-faults_of checker i c = constraint_faults (known_of checker.known) checker.constants.rules.now (get bytes_eq checker.numbers.now) i (constraint_shape c)
+faults_of checker i c =
+    constraint_faults (known_of checker.known) checker.constants.rules.now (get bytes_eq checker.numbers.now) i (constraint_shape c)
 
 -- why a constraint without such faults has no normal form
 abbrev pub faults_of_form : Known → ConstraintOf → List Fault

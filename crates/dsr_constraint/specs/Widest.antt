@@ -23,7 +23,8 @@ read_field scope (inclusions.Member member set) = None
 
 -- the bits of the field at a place; 64 where none is known
 abbrev pub field_width : Known → Option FieldRef → ℕ
-field_width known place = option_map_or (λ f. width_bits f.width) (option_and_then (declared_field known.base) place) 64
+field_width known place =
+    option_map_or (λ f. width_bits f.width) (option_and_then (declared_field known.base) place) 64
 
 -- the bits of the field that a rule reads for a pair
 abbrev pub given_width : Known → Rule → ℕ
@@ -32,7 +33,8 @@ given_width known r = field_width known (read_field (scope_of known r) r.inclusi
 -- the least of the widths that rules give to a relation, or 64
 abbrev pub least_width : Known → List Rule → ℕ → ℕ
 least_width known [] rel = 64
-least_width known (r ∷ rs) rel = min (if is_at rel (given_relation known r.inclusion) then given_width known r else 64) (least_width known rs rel)
+least_width known (r ∷ rs) rel =
+    min (if is_at rel (given_relation known r.inclusion) then given_width known r else 64) (least_width known rs rel)
 
 -- for each relation the least of its widths
 pub record AreLeast (known : Known) (rs : List Rule) (least : List ℕ) : Type 0 where

@@ -9,5 +9,7 @@ use Rattle.dsr_faults.specs.declared.refusals.SpecFault.TheVariants as spec_faul
 
 -- the refusal tells the kind and the place of the fault of a list that is told; want of memory says nothing
 abbrev pub Tells : List Fault → SpecFault → Type 0
-Tells faults (spec_faults.At kind place) = (c : Condition) × (kind ≡ kind_number c) × IsToldOf faults (record { place = place; condition = c })
+Tells faults (spec_faults.At kind place) =
+    (c : Condition) × (kind ≡ kind_number c)
+    × IsToldOf faults (record { place = place; condition = c })
 Tells faults spec_faults.NoMemory = Unit {0}

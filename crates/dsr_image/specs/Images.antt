@@ -8,7 +8,8 @@ AreClaimed claimed at count = (i : ℕ) → at ≤ i → i < at + count → clai
 
 -- each byte in which the cell has a bit is claimed
 abbrev pub IsCellClaimed : (ℕ → Bool) → Cell → Type 0
-IsCellClaimed claimed cell = (j : ℕ) → cell.bit ≤ j → j < cell.bit + cell.width → claimed (j / 8) ≡ true
+IsCellClaimed claimed cell =
+    (j : ℕ) → cell.bit ≤ j → j < cell.bit + cell.width → claimed (j / 8) ≡ true
 
 -- what was claimed stays so
 abbrev pub StayClaimed : (ℕ → Bool) → (ℕ → Bool) → Type 0

@@ -60,7 +60,8 @@ first (s ∷ rest) = s
 abbrev pub read_back : List (ℕ × ℕ) → ExprShape
 read_back parts = first (run parts [])
 
-run_append : (xs ys : List (ℕ × ℕ)) (stack : List ExprShape) → run (xs ++ ys) stack ≡ run ys (run xs stack)
+run_append :
+    (xs ys : List (ℕ × ℕ)) (stack : List ExprShape) → run (xs ++ ys) stack ≡ run ys (run xs stack)
 run_append [] ys stack = refl
 run_append (x ∷ xs) ys stack = run_append xs ys (taken x.0 x.1 stack)
 
@@ -101,7 +102,9 @@ is_same (TimesOf a b) (TimesOf c d) = is_same a c && is_same b d
 is_same (OverOf a b) (OverOf c d) = is_same a c && is_same b d
 is_same _ _ = false
 
-both : (F : ExprShape → ExprShape → ExprShape) (p q : Bool) (a b c d : ExprShape) → (p ≡ true → a ≡ c) → (q ≡ true → b ≡ d) → (p && q) ≡ true → F a b ≡ F c d
+both :
+    (F : ExprShape → ExprShape → ExprShape) (p q : Bool) (a b c d : ExprShape) → (p ≡ true → a ≡ c)
+    → (q ≡ true → b ≡ d) → (p && q) ≡ true → F a b ≡ F c d
 both F p q a b c d f g e =
     let left = f (first_so p q e) in
     let right = g (second_so p q e) in
@@ -110,10 +113,14 @@ both F p q a b c d f g e =
 same_so : (s t : ExprShape) → is_same s t ≡ true → s ≡ t
 same_so (NumOf m) (NumOf n) e = ap NumOf ((unsigned_Decides m n).0 e)
 same_so (FixedOf m) (FixedOf n) e = ap FixedOf ((unsigned_Decides m n).0 e)
-same_so (SumOf a b) (SumOf c d) e = both SumOf (is_same a c) (is_same b d) a b c d (same_so a c) (same_so b d) e
-same_so (LessOf a b) (LessOf c d) e = both LessOf (is_same a c) (is_same b d) a b c d (same_so a c) (same_so b d) e
-same_so (TimesOf a b) (TimesOf c d) e = both TimesOf (is_same a c) (is_same b d) a b c d (same_so a c) (same_so b d) e
-same_so (OverOf a b) (OverOf c d) e = both OverOf (is_same a c) (is_same b d) a b c d (same_so a c) (same_so b d) e
+same_so (SumOf a b) (SumOf c d) e =
+    both SumOf (is_same a c) (is_same b d) a b c d (same_so a c) (same_so b d) e
+same_so (LessOf a b) (LessOf c d) e =
+    both LessOf (is_same a c) (is_same b d) a b c d (same_so a c) (same_so b d) e
+same_so (TimesOf a b) (TimesOf c d) e =
+    both TimesOf (is_same a c) (is_same b d) a b c d (same_so a c) (same_so b d) e
+same_so (OverOf a b) (OverOf c d) e =
+    both OverOf (is_same a c) (is_same b d) a b c d (same_so a c) (same_so b d) e
 same_so s t e = absurd (true≢false (sym e))
 
 itself : (s : ExprShape) → is_same s s ≡ true

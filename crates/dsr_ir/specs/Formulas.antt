@@ -63,7 +63,8 @@ built (suc zero) formulas (row ∷ rows) = (EveryOf row ∷ formulas, rows)
 built (suc (suc zero)) (part ∷ formulas) rows = (NotOf part ∷ formulas, rows)
 built (suc (suc (suc zero))) (part ∷ formulas) rows = (GivenOf part ∷ formulas, rows)
 built (suc (suc (suc (suc zero)))) formulas rows = (formulas, NoneOf ∷ rows)
-built (suc (suc (suc (suc (suc k))))) (first ∷ formulas) (row ∷ rows) = (formulas, MoreOf first row ∷ rows)
+built (suc (suc (suc (suc (suc k))))) (first ∷ formulas) (row ∷ rows) =
+    (formulas, MoreOf first row ∷ rows)
 built n formulas rows = (formulas, rows)
 
 abbrev step : Word → Stacks → Stacks
@@ -93,7 +94,9 @@ mutual
   read (GivenOf part) stacks = run_append (postfix part) (inl 3 ∷ []) stacks ∙ ap (run (inl 3 ∷ [])) (read part stacks)
   read (LeafOf atom) stacks = refl
 
-  read_row : (row : FormulaShapes) (stacks : Stacks) → run (row_postfix row) stacks ≡ (stacks.0, row ∷ stacks.1)
+  read_row :
+      (row : FormulaShapes) (stacks : Stacks)
+      → run (row_postfix row) stacks ≡ (stacks.0, row ∷ stacks.1)
   read_row NoneOf stacks = refl
   read_row (MoreOf first rest) stacks =
       run_append (postfix first) (row_postfix rest ++ inl 5 ∷ []) stacks

@@ -11,4 +11,5 @@ pool_numbers layout pool = if pool == 0 then None else slice_get layout.pools (p
 
 -- the place of a field among those that its structure declares
 abbrev pub field_place : Layout → FieldRef → Option FieldPlace
-field_place layout field = option_and_then (λ places. slice_get places field.field) (slice_get layout.fields field.structure)
+field_place layout field =
+    option_and_then (λ places. slice_get places field.field) (slice_get layout.fields field.structure)

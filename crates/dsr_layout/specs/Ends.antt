@@ -9,12 +9,15 @@ use Rattle.dsr_layout.specs.Tables.{clip, clip_place, end_in}
 
 -- the clipped bit at which the own fields of a structure begin; a parent is declared before it
 abbrev pub start_in : List (Option ℕ) → ℕ → Option ℕ → Option ℕ
-start_in ends i parent = option_map_or (λ p. if nat_lt p i then end_in ends p else Some 0) parent (Some 0)
+start_in ends i parent =
+    option_map_or (λ p. if nat_lt p i then end_in ends p else Some 0) parent (Some 0)
 
 -- the clipped byte boundary behind fields
 abbrev pub end_behind : (ℕ → Option ℕ) → Option ℕ → List Field → Option ℕ
-end_behind fixed start fields = option_and_then (λ bit. option_map (λ e. clip (up_to_byte (clip e))) (bit_behind_fields fixed bit fields)) start
+end_behind fixed start fields =
+    option_and_then (λ bit. option_map (λ e. clip (up_to_byte (clip e))) (bit_behind_fields fixed bit fields)) start
 
 -- the clipped places of fields
 abbrev pub clipped_places : (ℕ → Option ℕ) → Option ℕ → List Field → Option (List FieldPlace)
-clipped_places fixed start fields = option_and_then (λ bit. option_map (map clip_place) (placed fixed bit fields)) start
+clipped_places fixed start fields =
+    option_and_then (λ bit. option_map (map clip_place) (placed fixed bit fields)) start

@@ -42,4 +42,5 @@ IsInRange spec layout (Pair rel e target) = IsPairInRange spec layout rel e targ
 
 -- all facts of the model are such
 abbrev pub FactsLieInRange : Spec → List ℕ → Layout → Type 0
-FactsLieInRange spec bytes layout = (fact : Fact) → IsFact spec layout bytes fact → IsInRange spec layout fact
+FactsLieInRange spec bytes layout =
+    (fact : Fact) → IsFact spec layout bytes fact → IsInRange spec layout fact

@@ -33,7 +33,9 @@ use Rattle.dsr_meaning.specs.Typed.{HasAtom, pool_at}
 
 -- what holds wherever an image has a layout under a specification
 abbrev pub OfEachLayout : (Spec → List ℕ → Layout → Type 0) → Type 0
-OfEachLayout P = (spec : Spec) (bytes : List ℕ) (layout : Layout) → IsLayoutOf spec bytes layout → P spec bytes layout
+OfEachLayout P =
+    (spec : Spec) (bytes : List ℕ) (layout : Layout) → IsLayoutOf spec bytes layout
+    → P spec bytes layout
 
 -- ---- sizes
 
@@ -43,10 +45,12 @@ bits_of base bytes structure = size_of (fixed_value base bytes) base.structures 
 
 -- where the structure has a size, each entry of its field ends within it
 abbrev pub LiesInStructure : Structures → List ℕ → FieldRef → FieldPlace → Type 0
-LiesInStructure base bytes field place = IfSome (bits_of base bytes field.structure) (λ bits. (index : ℕ) → index < entry_count place → place.bit + (index + 1) * width_bits place.width ≤ bits)
+LiesInStructure base bytes field place =
+    IfSome (bits_of base bytes field.structure) (λ bits. (index : ℕ) → index < entry_count place → place.bit + (index + 1) * width_bits place.width ≤ bits)
 
 abbrev pub FieldsLieInStructures : Structures → List ℕ → Layout → Type 0
-FieldsLieInStructures base bytes layout = (field : FieldRef) → IfSome (field_place layout field) (LiesInStructure base bytes field)
+FieldsLieInStructures base bytes layout =
+    (field : FieldRef) → IfSome (field_place layout field) (LiesInStructure base bytes field)
 
 -- a structure extends another one, which is declared before it
 pub record Extends (structures : List Structure) (child parent : ℕ) : Type 0 where
@@ -60,10 +64,13 @@ abbrev pub IsNoLarger : (ℕ → Option ℕ) → ℕ → ℕ → Type 0
 IsNoLarger size a b = IfSome (size a) (λ smaller. IfSome (size b) (λ larger. smaller ≤ larger))
 
 abbrev pub ParentsAreNoLarger : (ℕ → Option ℕ) → List Structure → Type 0
-ParentsAreNoLarger fixed structures = (child parent : ℕ) → Extends structures child parent → IsNoLarger (size_of fixed structures) parent child
+ParentsAreNoLarger fixed structures =
+    (child parent : ℕ) → Extends structures child parent
+    → IsNoLarger (size_of fixed structures) parent child
 
 abbrev pub StructuresHaveSizes : Structures → List ℕ → Type 0
-StructuresHaveSizes base bytes = (i : ℕ) (s : Structure) → slice_get base.structures i ≡ Some s → IsSome (bits_of base bytes i)
+StructuresHaveSizes base bytes =
+    (i : ℕ) (s : Structure) → slice_get base.structures i ≡ Some s → IsSome (bits_of base bytes i)
 
 -- so many bytes have all bits of the head
 abbrev pub HoldHead : Structures → List ℕ → ℕ → Type 0
@@ -73,15 +80,20 @@ HoldHead base bytes count = IfSome (bits_of base bytes base.head) (λ bits. bits
 
 -- a slot of the pool has all bits of the structure
 abbrev pub HasRoomFor : Structures → List ℕ → ℕ → PoolNumbers → Type 0
-HasRoomFor base bytes structure n = IfSome (bits_of base bytes structure) (λ bits. bits ≤ 8 * n.slot)
+HasRoomFor base bytes structure n =
+    IfSome (bits_of base bytes structure) (λ bits. bits ≤ 8 * n.slot)
 
 -- each pool for its structure
 abbrev pub PoolsHaveRoom : Spec → List ℕ → Layout → Type 0
-PoolsHaveRoom spec bytes layout = (p : ℕ) (d : Pool) → pool_at spec.base p ≡ Some d → IfSome (pool_numbers layout p) (HasRoomFor spec.base bytes d.structure)
+PoolsHaveRoom spec bytes layout =
+    (p : ℕ) (d : Pool) → pool_at spec.base p ≡ Some d
+    → IfSome (pool_numbers layout p) (HasRoomFor spec.base bytes d.structure)
 
 -- the pool of each set for the structure of the set
 abbrev pub SetsHaveRoom : Spec → List ℕ → Layout → Type 0
-SetsHaveRoom spec bytes layout = (k : ℕ) (s : SetDecl) → slice_get spec.base.sets k ≡ Some s → IfSome (pool_numbers layout s.pool) (HasRoomFor spec.base bytes s.structure)
+SetsHaveRoom spec bytes layout =
+    (k : ℕ) (s : SetDecl) → slice_get spec.base.sets k ≡ Some s
+    → IfSome (pool_numbers layout s.pool) (HasRoomFor spec.base bytes s.structure)
 
 -- the byte is one of the head's
 abbrev pub IsByteOfHead : Structures → List ℕ → ℕ → Type 0
@@ -89,19 +101,25 @@ IsByteOfHead base bytes at = IsSomeAnd (bytes_of (bits_of base bytes) base.head)
 
 -- no byte is one of the head and of a pool
 abbrev pub HeadIsApart : Spec → List ℕ → Layout → Type 0
-HeadIsApart spec bytes layout = (p at : ℕ) (n : PoolNumbers) → pool_numbers layout p ≡ Some n → IsByteOfHead spec.base bytes at → IsByteOf n at → ⊥
+HeadIsApart spec bytes layout =
+    (p at : ℕ) (n : PoolNumbers) → pool_numbers layout p ≡ Some n → IsByteOfHead spec.base bytes at
+    → IsByteOf n at → ⊥
 
 -- ---- references and values
 
 -- the number fits each field that refers to the pool
 abbrev pub FitsReferences : Structures → ℕ → ℕ → Type 0
-FitsReferences base pool value = (place : FieldRef) (f : Field) → declared_field base place ≡ Some f → kind_pool f.kind ≡ Some pool → value < 2 ^ width_bits f.width
+FitsReferences base pool value =
+    (place : FieldRef) (f : Field) → declared_field base place ≡ Some f
+    → kind_pool f.kind ≡ Some pool → value < 2 ^ width_bits f.width
 
 abbrev pub NonesFitReferences : Spec → List ℕ → Layout → Type 0
-NonesFitReferences spec bytes layout = (pool value : ℕ) → IsNoneOf layout pool value → FitsReferences spec.base pool value
+NonesFitReferences spec bytes layout =
+    (pool value : ℕ) → IsNoneOf layout pool value → FitsReferences spec.base pool value
 
 abbrev pub CodesFitReferences : Spec → List ℕ → Layout → Type 0
-CodesFitReferences spec bytes layout = (pool slot value : ℕ) → IsCodeOf layout pool slot value → FitsReferences spec.base pool value
+CodesFitReferences spec bytes layout =
+    (pool slot value : ℕ) → IsCodeOf layout pool slot value → FitsReferences spec.base pool value
 
 -- some constraint compares values of the relation with the size, by a comparison that they may meet by being as large
 pub record ComparesWithSize (spec : Spec) (rel : ℕ) (measure : Measure) : Type 0 where
@@ -119,7 +137,10 @@ pub record GivesValuesOf (spec : Spec) (rel : ℕ) (path : Path) : Type 0 where
   pub gives : given_path rel rule.inc ≡ Some path
 
 abbrev pub CountsFitValues : Spec → List ℕ → Layout → Type 0
-CountsFitValues spec bytes layout = (rel : ℕ) (measure : Measure) (path : Path) → ComparesWithSize spec rel measure → GivesValuesOf spec rel path → IfSome (field_place layout path.field) (λ place. greatest_size spec layout measure < 2 ^ width_bits place.width)
+CountsFitValues spec bytes layout =
+    (rel : ℕ) (measure : Measure) (path : Path) → ComparesWithSize spec rel measure
+    → GivesValuesOf spec rel path
+    → IfSome (field_place layout path.field) (λ place. greatest_size spec layout measure < 2 ^ width_bits place.width)
 
 -- ---- refusals
 

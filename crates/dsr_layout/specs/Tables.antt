@@ -25,8 +25,10 @@ end_in ends i = slice_index_or ends i (Some 0)
 
 -- the size of a structure in bits, which has no value where it was clipped
 abbrev pub size_in : List (Option ℕ) → ℕ → Option ℕ
-size_in ends i = option_and_then (λ e. if nat_lt e (2 ^ 64 - 1) then Some e else None) (end_in ends i)
+size_in ends i =
+    option_and_then (λ e. if nat_lt e (2 ^ 64 - 1) then Some e else None) (end_in ends i)
 
 -- the table has the clipped end of each structure
 abbrev pub HoldsEnds : (ℕ → Option ℕ) → List Structure → List (Option ℕ) → Type 0
-HoldsEnds fixed structures ends = (i : ℕ) → end_in ends i ≡ option_map clip (end_of fixed (lineage structures i))
+HoldsEnds fixed structures ends =
+    (i : ℕ) → end_in ends i ≡ option_map clip (end_of fixed (lineage structures i))

@@ -49,7 +49,9 @@ IsConsistent spec layout bytes = AreSatisfied (IsFact spec layout bytes) spec
 
 -- constraints in order of declaration, and bindings least first
 abbrev pub Comes : BoundConstraint → BoundConstraint → Type 0
-Comes v w = (v.constraint < w.constraint) ⊎ ((v.constraint ≡ w.constraint) × BindingPrecedes v.binding w.binding)
+Comes v w =
+    (v.constraint < w.constraint)
+    ⊎ ((v.constraint ≡ w.constraint) × BindingPrecedes v.binding w.binding)
 
 -- each comes before all later ones
 abbrev pub AreInOrder : List BoundConstraint → Type 0
@@ -68,9 +70,15 @@ pub record IsFirstViolated (is_fact : Fact → Type 0) (spec : Spec) (order : Li
   pub violated : IsViolated is_fact spec v
   pub at : ℕ
   pub placed : slice_get order at ≡ Some v.constraint
-  pub none_before : (k : ℕ) (w : BoundConstraint) → k < at → slice_get order k ≡ Some w.constraint → IsViolated is_fact spec w → ⊥
-  pub least : (b : Binding) → IsViolated is_fact spec (record { constraint = v.constraint; binding = b }) → BindingPrecedes b v.binding → ⊥
+  pub none_before :
+      (k : ℕ) (w : BoundConstraint) → k < at → slice_get order k ≡ Some w.constraint
+      → IsViolated is_fact spec w → ⊥
+  pub least :
+      (b : Binding) → IsViolated is_fact spec (record { constraint = v.constraint; binding = b })
+      → BindingPrecedes b v.binding → ⊥
 
 -- no constraint of the order has a violated binding
 abbrev pub NoneIsViolated : (Fact → Type 0) → Spec → List ℕ → Type 0
-NoneIsViolated is_fact spec order = (k : ℕ) (w : BoundConstraint) → slice_get order k ≡ Some w.constraint → IsViolated is_fact spec w → ⊥
+NoneIsViolated is_fact spec order =
+    (k : ℕ) (w : BoundConstraint) → slice_get order k ≡ Some w.constraint
+    → IsViolated is_fact spec w → ⊥

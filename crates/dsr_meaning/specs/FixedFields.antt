@@ -15,7 +15,8 @@ no_values field = None
 -- the bit at which one of a structure's own fields begins, where the lengths before it are numbers
 abbrev pub own_bit : List Structure → ℕ → Option ℕ
 own_bit [] k = None
-own_bit (s ∷ ancestors) k = option_and_then (λ start. bit_behind_fields no_values start (take k s.fields)) (end_of no_values ancestors)
+own_bit (s ∷ ancestors) k =
+    option_and_then (λ start. bit_behind_fields no_values start (take k s.fields)) (end_of no_values ancestors)
 
 -- the fields that `Head` itself declares
 abbrev pub head_fields : Structures → List Field
@@ -29,11 +30,13 @@ abbrev pub is_fixed : Field → Bool
 is_fixed f = f.fixed && is_none f.len
 
 abbrev pub cell_at : Order → Field → ℕ → Cell
-cell_at order f bit = record { bit = bit; width = width_bits f.width; bytewise = is_bytewise f.width; order = order }
+cell_at order f bit =
+    record { bit = bit; width = width_bits f.width; bytewise = is_bytewise f.width; order = order }
 
 -- the cell of a fixed field, by its number among the fields that `Head` itself declares
 abbrev pub fixed_cell : Structures → ℕ → Option Cell
-fixed_cell base k = option_and_then (λ f. if is_fixed f then option_map (cell_at base.order f) (own_bit (lineage base.structures base.head) k) else None) (slice_get (head_fields base) k)
+fixed_cell base k =
+    option_and_then (λ f. if is_fixed f then option_map (cell_at base.order f) (own_bit (lineage base.structures base.head) k) else None) (slice_get (head_fields base) k)
 
 -- the value of a fixed field
 abbrev pub fixed_value : Structures → List ℕ → ℕ → Option ℕ

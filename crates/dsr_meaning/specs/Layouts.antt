@@ -14,7 +14,8 @@ use Rattle.dsr_meaning.specs.Places.{lineage, size_of, own_places}
 -- what each item of a list has, by its number, which counts from n; none where one has nothing
 abbrev pub collect_at : {S T : Type 0} → (ℕ → S → Option T) → ℕ → List S → Option (List T)
 collect_at f n [] = Some []
-collect_at f n (x ∷ xs) = option_and_then (λ y. option_map (λ ys. y ∷ ys) (collect_at f (suc n) xs)) (f n x)
+collect_at f n (x ∷ xs) =
+    option_and_then (λ y. option_map (λ ys. y ∷ ys) (collect_at f (suc n) xs)) (f n x)
 
 -- a structure's size in bytes, by the sizes in bits
 abbrev pub bytes_of : (ℕ → Option ℕ) → ℕ → Option ℕ
@@ -45,7 +46,8 @@ abbrev pub pools_of : (ℕ → Option ℕ) → (ℕ → Option ℕ) → List Poo
 pools_of fixed size pools = collect_at (λ _ p. pool_of fixed size p) 1 pools
 
 abbrev pub places_of : (ℕ → Option ℕ) → List Structure → Option (List (List FieldPlace))
-places_of fixed structures = collect_at (λ i _. own_places fixed (lineage structures i)) 0 structures
+places_of fixed structures =
+    collect_at (λ i _. own_places fixed (lineage structures i)) 0 structures
 
 -- the layout, by the values of the fixed fields; none where some expression has no value
 abbrev pub layout_with : (ℕ → Option ℕ) → Structures → ℕ → Option Layout

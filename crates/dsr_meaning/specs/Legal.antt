@@ -25,7 +25,9 @@ pub record IsByteOf (n : PoolNumbers) (at : ℕ) : Type 0 where
 
 -- no byte is one of two pools
 abbrev pub AreApart : Layout → Type 0
-AreApart layout = (p q at : ℕ) (m n : PoolNumbers) → p ≢ q → pool_numbers layout p ≡ Some m → pool_numbers layout q ≡ Some n → IsByteOf m at → IsByteOf n at → ⊥
+AreApart layout =
+    (p q at : ℕ) (m n : PoolNumbers) → p ≢ q → pool_numbers layout p ≡ Some m
+    → pool_numbers layout q ≡ Some n → IsByteOf m at → IsByteOf n at → ⊥
 
 -- entries of whole bytes begin at a byte
 pub record IsLegalPlace (place : FieldPlace) : Type 0 where
@@ -44,7 +46,8 @@ entry_count place = unwrap_or place.length 1
 
 -- so many bits from the start of a record on are its own: those of a slot, or the image's where it is the head
 abbrev pub HasBits : Layout → Element → ℕ → Type 0
-HasBits layout e bits = MatchBool (nat_eq e.pool 0) (bits ≤ 8 * layout.length) (IsSomeAnd (pool_numbers layout e.pool) (λ n. (e.slot < n.count) × (bits ≤ 8 * n.slot)))
+HasBits layout e bits =
+    MatchBool (nat_eq e.pool 0) (bits ≤ 8 * layout.length) (IsSomeAnd (pool_numbers layout e.pool) (λ n. (e.slot < n.count) × (bits ≤ 8 * n.slot)))
 
 -- the record has an entry of the field
 pub record HasEntry (layout : Layout) (e : Element) (field : FieldRef) (index : ℕ) : Type 0 where

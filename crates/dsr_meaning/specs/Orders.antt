@@ -27,11 +27,14 @@ abbrev pub FactPrecedes : Fact → Fact → Type 0
 FactPrecedes (Member s a) (Member t b) = (s < t) ⊎ ((s ≡ t) × Precedes a b)
 FactPrecedes (Member s a) (Pair r b y) = Unit {0}
 FactPrecedes (Pair r a x) (Member t b) = ⊥
-FactPrecedes (Pair r a x) (Pair q b y) = (r < q) ⊎ ((r ≡ q) × (Precedes a b ⊎ ((a ≡ b) × TargetPrecedes x y)))
+FactPrecedes (Pair r a x) (Pair q b y) =
+    (r < q) ⊎ ((r ≡ q) × (Precedes a b ⊎ ((a ≡ b) × TargetPrecedes x y)))
 
 -- instances are ordered by rule, then record, then index
 abbrev pub InstancePrecedes : Instance → Instance → Type 0
-InstancePrecedes i j = (i.rule < j.rule) ⊎ ((i.rule ≡ j.rule) × (Precedes i.elem j.elem ⊎ ((i.elem ≡ j.elem) × (i.index < j.index))))
+InstancePrecedes i j =
+    (i.rule < j.rule)
+    ⊎ ((i.rule ≡ j.rule) × (Precedes i.elem j.elem ⊎ ((i.elem ≡ j.elem) × (i.index < j.index))))
 
 -- bindings of fewer variables come first, and those of as many are ordered by their elements, the first before the second
 abbrev pub BindingPrecedes : Binding → Binding → Type 0

@@ -28,7 +28,8 @@ plain_extent f = record { bits = width_bits f.width; entries = option_map (λ _.
 -- fields that follow each other from a bit on begin at a byte where they have to
 abbrev pub AreAligned : ℕ → List Field → Type 0
 AreAligned bit [] = Unit {0}
-AreAligned bit (f ∷ fs) = (IsTrue (begins_byte f) → bit % 8 ≡ 0) × AreAligned (bit_behind bit (plain_extent f)) fs
+AreAligned bit (f ∷ fs) =
+    (IsTrue (begins_byte f) → bit % 8 ≡ 0) × AreAligned (bit_behind bit (plain_extent f)) fs
 
 pub record IsPlaceableStructure (s : Structure) : Type 0 where
   pub few_fields : length s.fields ≤ 64

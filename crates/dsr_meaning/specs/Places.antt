@@ -12,7 +12,8 @@ use Rattle.dsr_meaning.specs.Extents.{Extent, up_to_byte, bit_behind}
 -- a structure by its number and its ancestors, the nearest first, among structures of which the last declared comes first
 abbrev pub lineage_in : List Structure → ℕ → List Structure
 lineage_in [] i = []
-lineage_in (s ∷ earlier) i = if nat_eq i (length earlier) then s ∷ option_map_or (lineage_in earlier) s.parent [] else lineage_in earlier i
+lineage_in (s ∷ earlier) i =
+    if nat_eq i (length earlier) then s ∷ option_map_or (lineage_in earlier) s.parent [] else lineage_in earlier i
 
 -- a structure by its number and its ancestors, the nearest first
 abbrev pub lineage : List Structure → ℕ → List Structure
@@ -25,22 +26,32 @@ entries_of fixed (Some e) = option_map Some (value_of fixed e)
 
 -- what a field takes up
 abbrev pub extent_of : (ℕ → Option ℕ) → Field → Option Extent
-extent_of fixed f = option_map (λ entries. record { bits = width_bits f.width; entries = entries }) (entries_of fixed f.len)
+extent_of fixed f =
+    option_map (λ entries. record { bits = width_bits f.width; entries = entries }) (entries_of fixed f.len)
 
 -- the bit behind fields that follow each other from a bit on
 abbrev pub bit_behind_fields : (ℕ → Option ℕ) → ℕ → List Field → Option ℕ
 bit_behind_fields fixed bit [] = Some bit
-bit_behind_fields fixed bit (f ∷ fs) = option_and_then (λ e. bit_behind_fields fixed (bit_behind bit e) fs) (extent_of fixed f)
+bit_behind_fields fixed bit (f ∷ fs) =
+    option_and_then (λ e. bit_behind_fields fixed (bit_behind bit e) fs) (extent_of fixed f)
+
+-- the place of a field at the bit, with its entries
+abbrev pub placed_at : ℕ → Field → Extent → FieldPlace
+placed_at bit f e = record { bit = bit; width = f.width; length = e.entries }
 
 -- the places of fields that follow each other from a bit on
 abbrev pub placed : (ℕ → Option ℕ) → ℕ → List Field → Option (List FieldPlace)
 placed fixed bit [] = Some []
-placed fixed bit (f ∷ fs) = option_and_then (λ e. option_map (λ places. record { bit = bit; width = f.width; length = e.entries } ∷ places) (placed fixed (bit_behind bit e) fs)) (extent_of fixed f)
+placed fixed bit (f ∷ fs) =
+    option_and_then
+        (λ e. option_map (λ places. placed_at bit f e ∷ places) (placed fixed (bit_behind bit e) fs))
+        (extent_of fixed f)
 
 -- the byte boundary behind the fields of a structure, whose own stand behind those of its ancestors
 abbrev pub end_of : (ℕ → Option ℕ) → List Structure → Option ℕ
 end_of fixed [] = Some 0
-end_of fixed (s ∷ ancestors) = option_and_then (λ start. option_map up_to_byte (bit_behind_fields fixed start s.fields)) (end_of fixed ancestors)
+end_of fixed (s ∷ ancestors) =
+    option_and_then (λ start. option_map up_to_byte (bit_behind_fields fixed start s.fields)) (end_of fixed ancestors)
 
 -- the size of a structure in bits
 abbrev pub size_of : (ℕ → Option ℕ) → List Structure → ℕ → Option ℕ
@@ -49,4 +60,5 @@ size_of fixed structures i = option_and_then in_range (end_of fixed (lineage str
 -- the places of a structure's own fields
 abbrev pub own_places : (ℕ → Option ℕ) → List Structure → Option (List FieldPlace)
 own_places fixed [] = None
-own_places fixed (s ∷ ancestors) = option_and_then (λ start. placed fixed start s.fields) (end_of fixed ancestors)
+own_places fixed (s ∷ ancestors) =
+    option_and_then (λ start. placed fixed start s.fields) (end_of fixed ancestors)

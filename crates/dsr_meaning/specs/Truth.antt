@@ -38,8 +38,10 @@ element_of (bindings.Pair x y) Second = Some y
 -- the size of a set is the number of its members, and that of a variable under a relation the number of its different targets or sources
 abbrev pub HasSize : (Fact → Type 0) → Binding → Measure → ℕ → Type 0
 HasSize is_fact b (Whole set) n = AreMany (λ e. is_fact (facts.Member set e)) n
-HasSize is_fact b (Out v rel) n = IsSomeAnd (element_of b v) (λ x. AreMany (λ t. is_fact (facts.Pair rel x t)) n)
-HasSize is_fact b (Into rel v) n = IsSomeAnd (element_of b v) (λ y. AreMany (λ e. is_fact (facts.Pair rel e (Elem y))) n)
+HasSize is_fact b (Out v rel) n =
+    IsSomeAnd (element_of b v) (λ x. AreMany (λ t. is_fact (facts.Pair rel x t)) n)
+HasSize is_fact b (Into rel v) n =
+    IsSomeAnd (element_of b v) (λ y. AreMany (λ e. is_fact (facts.Pair rel e (Elem y))) n)
 
 -- the number that values are compared with
 abbrev pub HasBound : (Fact → Type 0) → Binding → Bound → ℕ → Type 0
@@ -48,11 +50,16 @@ HasBound is_fact b (bounds.Size measure) n = HasSize is_fact b measure n
 
 -- the atom is true
 abbrev pub AtomHolds : (Fact → Type 0) → Binding → Atom → Type 0
-AtomHolds is_fact b (atoms.Member v set) = IsSomeAnd (element_of b v) (λ x. is_fact (facts.Member set x))
-AtomHolds is_fact b (atoms.Pair v w rel) = IsSomeAnd (element_of b v) (λ x. IsSomeAnd (element_of b w) (λ y. is_fact (facts.Pair rel x (Elem y))))
-AtomHolds is_fact b (atoms.Count measure op k) = (n : ℕ) × HasSize is_fact b measure n × Compares op n k
-AtomHolds is_fact b (atoms.Value v rel op bound) = IsSomeAnd (element_of b v) (λ x. (n : ℕ) × HasBound is_fact b bound n × ((value : ℕ) → is_fact (facts.Pair rel x (Num value)) → Compares op value n))
+AtomHolds is_fact b (atoms.Member v set) =
+    IsSomeAnd (element_of b v) (λ x. is_fact (facts.Member set x))
+AtomHolds is_fact b (atoms.Pair v w rel) =
+    IsSomeAnd (element_of b v) (λ x. IsSomeAnd (element_of b w) (λ y. is_fact (facts.Pair rel x (Elem y))))
+AtomHolds is_fact b (atoms.Count measure op k) =
+    (n : ℕ) × HasSize is_fact b measure n × Compares op n k
+AtomHolds is_fact b (atoms.Value v rel op bound) =
+    IsSomeAnd (element_of b v) (λ x. (n : ℕ) × HasBound is_fact b bound n × ((value : ℕ) → is_fact (facts.Pair rel x (Num value)) → Compares op value n))
 
 -- the literal is true; that it is only tested has no influence
 abbrev pub LiteralHolds : (Fact → Type 0) → Binding → Literal → Type 0
-LiteralHolds is_fact b literal = MatchBool literal.negated (AtomHolds is_fact b literal.atom → ⊥) (AtomHolds is_fact b literal.atom)
+LiteralHolds is_fact b literal =
+    MatchBool literal.negated (AtomHolds is_fact b literal.atom → ⊥) (AtomHolds is_fact b literal.atom)

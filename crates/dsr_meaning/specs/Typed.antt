@@ -60,14 +60,17 @@ pub record IsOtherStructure (base : Structures) (i : ℕ) : Type 0 where
 
 -- no name of a list stands twice there
 abbrev pub AreDifferent : List (List ℕ) → Type 0
-AreDifferent names = (i j : ℕ) (name : List ℕ) → slice_get names i ≡ Some name → slice_get names j ≡ Some name → i ≡ j
+AreDifferent names =
+    (i j : ℕ) (name : List ℕ) → slice_get names i ≡ Some name → slice_get names j ≡ Some name
+    → i ≡ j
 
 -- ---- structures that descend from others
 
 -- the numbers of a structure's ancestors, the nearest first, among structures of which the last declared comes first
 abbrev pub ancestors_among : List Structure → ℕ → List ℕ
 ancestors_among [] i = []
-ancestors_among (s ∷ earlier) i = if nat_eq i (length earlier) then option_map_or (λ p. p ∷ ancestors_among earlier p) s.parent [] else ancestors_among earlier i
+ancestors_among (s ∷ earlier) i =
+    if nat_eq i (length earlier) then option_map_or (λ p. p ∷ ancestors_among earlier p) s.parent [] else ancestors_among earlier i
 
 -- the numbers of a structure's ancestors, the nearest first
 abbrev pub ancestors : List Structure → ℕ → List ℕ
@@ -94,8 +97,11 @@ HasName f = f.kind ≢ Gap
 
 -- no other field of its structure, and none of an ancestor's, has the name
 pub record HasOwnName (base : Structures) (i : ℕ) (s : Structure) (k : ℕ) (f : Field) : Type 0 where
-  pub own : (j : ℕ) (g : Field) → slice_get s.fields j ≡ Some g → HasName g → g.name ≡ f.name → j ≡ k
-  pub inherited : (a : ℕ) (t : Structure) (g : Field) → IsIn a (ancestors base.structures i) → slice_get base.structures a ≡ Some t → IsIn g t.fields → HasName g → g.name ≢ f.name
+  pub own :
+      (j : ℕ) (g : Field) → slice_get s.fields j ≡ Some g → HasName g → g.name ≡ f.name → j ≡ k
+  pub inherited :
+      (a : ℕ) (t : Structure) (g : Field) → IsIn a (ancestors base.structures i)
+      → slice_get base.structures a ≡ Some t → IsIn g t.fields → HasName g → g.name ≢ f.name
 
 -- a gap is bytes without a name
 pub record IsGap (f : Field) : Type 0 where
@@ -119,7 +125,9 @@ pub record MayBeFixed (base : Structures) (i : ℕ) (s : Structure) (k : ℕ) (f
   pub in_head : i ≡ base.head
   pub scalar : f.len ≡ None
   pub own : All HasKnownLength (take k s.fields)
-  pub inherited : (a : ℕ) (t : Structure) → IsIn a (ancestors base.structures i) → slice_get base.structures a ≡ Some t → All HasKnownLength t.fields
+  pub inherited :
+      (a : ℕ) (t : Structure) → IsIn a (ancestors base.structures i)
+      → slice_get base.structures a ≡ Some t → All HasKnownLength t.fields
 
 -- a field with its number, of a structure with its number
 pub record IsTypedField (base : Structures) (i : ℕ) (s : Structure) (k : ℕ) (f : Field) : Type 0 where
@@ -164,7 +172,8 @@ pub record IsTypedSet (base : Structures) (s : SetDecl) : Type 0 where
   pub structure : IsOtherStructure base s.structure
   pub view : IsSomeAnd (pool_at base s.pool) (λ d. Descends base.structures s.structure d.structure)
   pub except : IfSome s.except (IsPlainSetOf base s.pool)
-  pub complement_view : IsSome s.except → IsSomeAnd (pool_at base s.pool) (λ d. s.structure ≡ d.structure)
+  pub complement_view :
+      IsSome s.except → IsSomeAnd (pool_at base s.pool) (λ d. s.structure ≡ d.structure)
 
 pub record IsTypedRel (base : Structures) (r : Rel) : Type 0 where
   pub source : r.source ≤ length base.pools
@@ -178,7 +187,8 @@ symbol_names base = map (λ s. s.name) base.sets ++ map (λ r. r.name) base.rels
 pub record AreTyped (base : Structures) : Type 0 where
   pub version : (1 ≤ base.version) × (base.version ≤ 2)
   pub head : IsSomeAnd (slice_get base.structures base.head) (λ s. s.name ≡ codes "Head")
-  pub structures : (i : ℕ) (s : Structure) → slice_get base.structures i ≡ Some s → IsTypedStructure base i s
+  pub structures :
+      (i : ℕ) (s : Structure) → slice_get base.structures i ≡ Some s → IsTypedStructure base i s
   pub pools : (i : ℕ) (d : Pool) → slice_get base.pools i ≡ Some d → IsTypedPool base (suc i) d
   pub sets : All (IsTypedSet base) base.sets
   pub rels : All (IsTypedRel base) base.rels
@@ -193,7 +203,8 @@ pub record AreTyped (base : Structures) : Type 0 where
 
 -- the structure by which the premise's record is read
 abbrev pub premise_structure : Structures → Option ℕ → ℕ
-premise_structure base premise = option_map_or (λ n. option_map_or (λ s. s.structure) (slice_get base.sets n) base.head) premise base.head
+premise_structure base premise =
+    option_map_or (λ n. option_map_or (λ s. s.structure) (slice_get base.sets n) base.head) premise base.head
 
 -- a field of the premise's record
 pub record IsFieldOf (base : Structures) (premise : Option ℕ) (place : FieldRef) (f : Field) : Type 0 where
@@ -245,7 +256,8 @@ pub record CountsSlots (base : Structures) (span : Span) (pool : ℕ) : Type 0 w
 
 -- a relation with this source, 0 for the head, and this target
 abbrev pub Relates : Structures → ℕ → ℕ → Option ℕ → Type 0
-Relates base rel source target = IsSomeAnd (slice_get base.rels rel) (λ r. (r.source ≡ source) × (r.target ≡ target))
+Relates base rel source target =
+    IsSomeAnd (slice_get base.rels rel) (λ r. (r.source ≡ source) × (r.target ≡ target))
 
 -- the path reads the target of a relation with this source
 pub record GivesTarget (base : Structures) (rule : Rule) (rel source : ℕ) (path : Path) : Type 0 where
@@ -256,10 +268,13 @@ pub record GivesTarget (base : Structures) (rule : Rule) (rel source : ℕ) (pat
 -- what a rule gives: a member of a plain set of its pool, or a pair of a relation of its pools
 abbrev pub IsTypedInc : Structures → Rule → Inc → Type 0
 IsTypedInc base rule (Own set) = IsPlainSetOf base (pool_of_premise base rule.premise) set
-IsTypedInc base rule (Target set path) = (pool : ℕ) × IsPlainSetOf base pool set × Reads base rule path (Some pool)
+IsTypedInc base rule (Target set path) =
+    (pool : ℕ) × IsPlainSetOf base pool set × Reads base rule path (Some pool)
 IsTypedInc base rule (Slot set pool) = IsPlainSetOf base pool set × CountsSlots base rule.span pool
-IsTypedInc base rule (OwnPair rel path) = GivesTarget base rule rel (pool_of_premise base rule.premise) path
-IsTypedInc base rule (SlotPair rel pool path) = CountsSlots base rule.span pool × GivesTarget base rule rel pool path
+IsTypedInc base rule (OwnPair rel path) =
+    GivesTarget base rule rel (pool_of_premise base rule.premise) path
+IsTypedInc base rule (SlotPair rel pool path) =
+    CountsSlots base rule.span pool × GivesTarget base rule rel pool path
 
 pub record IsTypedRule (base : Structures) (rule : Rule) : Type 0 where
   pub premise : IfSome rule.premise (λ n. IsSomeAnd (slice_get base.sets n) (λ s. s.except ≡ None))
@@ -287,8 +302,10 @@ pool_of_var base quant _ = None
 -- a set, the targets of a variable or its sources
 abbrev pub IsTypedMeasure : Structures → Quant → Measure → Type 0
 IsTypedMeasure base quant (Whole set) = set < length base.sets
-IsTypedMeasure base quant (Out v rel) = IsSomeAnd (slice_get base.rels rel) (λ r. pool_of_var base quant v ≡ Some r.source)
-IsTypedMeasure base quant (Into rel v) = IsSomeAnd (slice_get base.rels rel) (λ r. IsSome r.target × (pool_of_var base quant v ≡ r.target))
+IsTypedMeasure base quant (Out v rel) =
+    IsSomeAnd (slice_get base.rels rel) (λ r. pool_of_var base quant v ≡ Some r.source)
+IsTypedMeasure base quant (Into rel v) =
+    IsSomeAnd (slice_get base.rels rel) (λ r. IsSome r.target × (pool_of_var base quant v ≡ r.target))
 
 -- what is counted are records
 abbrev pub CountsRecords : Structures → Measure → Type 0
@@ -297,12 +314,16 @@ CountsRecords base _ = Unit {0}
 
 -- a number fits each field that gives a value of the relation
 abbrev pub FitsValues : Spec → ℕ → ℕ → Type 0
-FitsValues spec rel k = (rule : Rule) (path : Path) (f : Field) → IsIn rule spec.rules → IsTrue (gives (symbols.Rel rel) rule.inc) → target_of rule.inc ≡ Some path → declared_field spec.base path.field ≡ Some f → k < 2 ^ width_bits f.width
+FitsValues spec rel k =
+    (rule : Rule) (path : Path) (f : Field) → IsIn rule spec.rules
+    → IsTrue (gives (symbols.Rel rel) rule.inc) → target_of rule.inc ≡ Some path
+    → declared_field spec.base path.field ≡ Some f → k < 2 ^ width_bits f.width
 
 -- a number that fits, or a count of records
 abbrev pub IsTypedBound : Spec → Quant → ℕ → Bound → Type 0
 IsTypedBound spec quant rel (bounds.Num k) = FitsValues spec rel k
-IsTypedBound spec quant rel (bounds.Size measure) = IsTypedMeasure spec.base quant measure × CountsRecords spec.base measure
+IsTypedBound spec quant rel (bounds.Size measure) =
+    IsTypedMeasure spec.base quant measure × CountsRecords spec.base measure
 
 -- sizes are compared by `<=`, `>=` and `=`
 abbrev pub ComparesSizes : Op → Type 0
@@ -313,10 +334,15 @@ ComparesSizes _ = ⊥
 
 -- variables have the pools of the set or relation; complements stand in no membership, where their bases stand for them
 abbrev pub IsTypedAtom : Spec → Quant → Atom → Type 0
-IsTypedAtom spec quant (atoms.Member v set) = (pool : ℕ) × (pool_of_var spec.base quant v ≡ Some pool) × IsPlainSetOf spec.base pool set
-IsTypedAtom spec quant (atoms.Pair v w rel) = IsSomeAnd (slice_get spec.base.rels rel) (λ r. IsSome r.target × (pool_of_var spec.base quant v ≡ Some r.source) × (pool_of_var spec.base quant w ≡ r.target))
-IsTypedAtom spec quant (atoms.Count measure op k) = IsTypedMeasure spec.base quant measure × ComparesSizes op
-IsTypedAtom spec quant (atoms.Value v rel op bound) = IsSomeAnd (slice_get spec.base.rels rel) (λ r. (r.target ≡ None) × (pool_of_var spec.base quant v ≡ Some r.source)) × IsTypedBound spec quant rel bound
+IsTypedAtom spec quant (atoms.Member v set) =
+    (pool : ℕ) × (pool_of_var spec.base quant v ≡ Some pool) × IsPlainSetOf spec.base pool set
+IsTypedAtom spec quant (atoms.Pair v w rel) =
+    IsSomeAnd (slice_get spec.base.rels rel) (λ r. IsSome r.target × (pool_of_var spec.base quant v ≡ Some r.source) × (pool_of_var spec.base quant w ≡ r.target))
+IsTypedAtom spec quant (atoms.Count measure op k) =
+    IsTypedMeasure spec.base quant measure × ComparesSizes op
+IsTypedAtom spec quant (atoms.Value v rel op bound) =
+    IsSomeAnd (slice_get spec.base.rels rel) (λ r. (r.target ≡ None) × (pool_of_var spec.base quant v ≡ Some r.source))
+    × IsTypedBound spec quant rel bound
 
 -- only memberships are negated
 abbrev pub MayBeNegated : Atom → Type 0
@@ -334,7 +360,9 @@ pub record IsTypedConj (spec : Spec) (quant : Quant) (conj : Conj) : Type 0 wher
 
 -- the atom stands in some literal of the constraint
 abbrev pub HasAtom : Constraint → Atom → Type 0
-HasAtom c atom = (conj : Conj) × (literal : Literal) × IsIn conj c.conjs × IsIn literal conj.literals × (literal.atom ≡ atom)
+HasAtom c atom =
+    (conj : Conj) × (literal : Literal) × IsIn conj c.conjs × IsIn literal conj.literals
+    × (literal.atom ≡ atom)
 
 pub record IsTypedConstraint (spec : Spec) (c : Constraint) : Type 0 where
   pub quant : IsTypedQuant spec.base c.quant

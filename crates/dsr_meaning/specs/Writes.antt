@@ -22,7 +22,8 @@ AreCellsApart c d = AreBitsApart c.bit c.width d.bit d.width
 
 -- every bit of the cell stays
 abbrev pub HasSameBits : Cell → List ℕ → List ℕ → Type 0
-HasSameBits cell old new = (j : ℕ) → cell.bit ≤ j → j < cell.bit + cell.width → bit_of new j ≡ bit_of old j
+HasSameBits cell old new =
+    (j : ℕ) → cell.bit ≤ j → j < cell.bit + cell.width → bit_of new j ≡ bit_of old j
 
 -- every bit outside of a range stays
 abbrev pub OthersStay : ℕ → ℕ → List ℕ → List ℕ → Type 0
@@ -36,4 +37,6 @@ pub record Puts (cell : Cell) (value : ℕ) (old new : List ℕ) : Type 0 where
 
 -- each cell that shares no bit with the cell keeps its value
 abbrev pub BesideStay : Cell → List ℕ → List ℕ → Type 0
-BesideStay cell old new = (other : Cell) → IsFieldCell other → AreCellsApart other cell → cell_value new other ≡ cell_value old other
+BesideStay cell old new =
+    (other : Cell) → IsFieldCell other → AreCellsApart other cell
+    → cell_value new other ≡ cell_value old other

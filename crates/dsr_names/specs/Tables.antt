@@ -18,7 +18,8 @@ is_named (Some n) q = bytes_eq n q
 
 -- what is known of a name after one more was entered under a number; the first entry counts
 abbrev pub entered : (List ℕ → Option ℕ) → List ℕ → ℕ → List ℕ → Option ℕ
-entered known name number q = if is_some (known q) then known q else (if bytes_eq name q then Some number else None)
+entered known name number q =
+    if is_some (known q) then known q else (if bytes_eq name q then Some number else None)
 
 -- the name of a field; a gap has none
 abbrev pub field_name : Field → Option (List ℕ)
@@ -30,12 +31,14 @@ all_ancestors base = each_at (λ i _. ancestors base.structures i ∷ []) 0 base
 
 -- the field that a structure itself declares under a name
 abbrev pub own_field : NameTables → List ℕ → ℕ → Option FieldRef
-own_field tables q i = option_and_then (λ t. option_map (λ k. record { structure = i; field = k }) (get bytes_eq t q)) (slice_get tables.fields.items i)
+own_field tables q i =
+    option_and_then (λ t. option_map (λ k. record { structure = i; field = k }) (get bytes_eq t q)) (slice_get tables.fields.items i)
 
 -- the first of several structures to declare a field of this name
 abbrev pub first_field : NameTables → List ℕ → List ℕ → Option FieldRef
 first_field tables q [] = None
-first_field tables q (i ∷ is) = if is_some (own_field tables q i) then own_field tables q i else first_field tables q is
+first_field tables q (i ∷ is) =
+    if is_some (own_field tables q i) then own_field tables q i else first_field tables q is
 
 abbrev pub line_of : NameTables → ℕ → List ℕ
 line_of tables i = slice_index_or (map (λ v. v.items) tables.ancestors.items) i []

@@ -14,7 +14,8 @@ is_large size = nat_lt 16 size.conjunctions || nat_lt 8 size.longest
 
 -- the counted size of two lists, one behind the other
 abbrev pub added : Size → Size → Size
-added a b = record { conjunctions = min (a.conjunctions + b.conjunctions) 17; longest = max a.longest b.longest }
+added a b =
+    record { conjunctions = min (a.conjunctions + b.conjunctions) 17; longest = max a.longest b.longest }
 
 -- the counted size of two lists that are joined
 abbrev pub multiplied : Size → Size → Size

@@ -14,5 +14,6 @@ refusal_told faults.NoMemory = None
 
 -- the fault is the first one of the formula; want of memory is met only where the first two faults are not there
 abbrev pub IsTold : FormulaShape → NormalFault → Type 0
-IsTold formula faults.NoMemory = (negates false formula ≡ false) × (is_too_large (distributed false false formula) ≡ false)
+IsTold formula faults.NoMemory =
+    (negates false formula ≡ false) × (is_too_large (distributed false false formula) ≡ false)
 IsTold formula fault = refusal_of formula ≡ refusal_told fault

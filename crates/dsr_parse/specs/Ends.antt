@@ -26,31 +26,36 @@ braced_text fields = mark_of sign.OpenBrace ▸ fields ▸ mark_of sign.CloseBra
 
 -- what stands behind the count of a pool
 abbrev pub pool_end : Syntax
-pool_end = row (maybe (expr_behind (a_word keyword.Slot)) ∷ expr_behind (a_word keyword.At) ∷ expr_behind (a_word keyword.Codes) ∷ expr_behind (a_word keyword.Step) ∷ expr_behind (a_word keyword.None) ∷ mark sign.Semicolon ∷ [])
+pool_end =
+    row (maybe (expr_behind (a_word keyword.Slot)) ∷ expr_behind (a_word keyword.At) ∷ expr_behind (a_word keyword.Codes) ∷ expr_behind (a_word keyword.Step) ∷ expr_behind (a_word keyword.None) ∷ mark sign.Semicolon ∷ [])
 
 abbrev pub pool_end_text : PoolEnd → Phrase
-pool_end_text p = maybe_text (behind_text keyword.Slot) (option_map expr_shape p.slot) ▸ behind_text keyword.At (expr_shape p.start) ▸ behind_text keyword.Codes (expr_shape p.code) ▸ behind_text keyword.Step (expr_shape p.step) ▸ behind_text keyword.None (expr_shape p.none) ▸ mark_of sign.Semicolon
+pool_end_text p =
+    maybe_text (behind_text keyword.Slot) (option_map expr_shape p.slot) ▸ behind_text keyword.At (expr_shape p.start) ▸ behind_text keyword.Codes (expr_shape p.code) ▸ behind_text keyword.Step (expr_shape p.step) ▸ behind_text keyword.None (expr_shape p.none) ▸ mark_of sign.Semicolon
 
 -- what stands behind the index of a rule
 abbrev pub rule_end : Syntax
 rule_end = row (maybe guards ∷ mark sign.Gives ∷ inclusion ∷ mark sign.Semicolon ∷ [])
 
 abbrev pub rule_end_text : Option Guards → Inclusion → Phrase
-rule_end_text g i = maybe_text guards_text g ▸ mark_of sign.Gives ▸ inclusion_text i ▸ mark_of sign.Semicolon
+rule_end_text g i =
+    maybe_text guards_text g ▸ mark_of sign.Gives ▸ inclusion_text i ▸ mark_of sign.Semicolon
 
 -- what stands behind the comma of a pair
 abbrev pub pair_end : Syntax
 pair_end = row (path ∷ mark sign.Greater ∷ word keyword.In ∷ name ∷ [])
 
 abbrev pub pair_end_text : Path → PlacedName → Phrase
-pair_end_text p relation = path_text p ▸ mark_of sign.Greater ▸ word_of keyword.In ▸ name_text relation
+pair_end_text p relation =
+    path_text p ▸ mark_of sign.Greater ▸ word_of keyword.In ▸ name_text relation
 
 -- what stands behind the colon of a constraint
 abbrev pub constraint_end : Syntax
 constraint_end = row (maybe quantifier ∷ The (a_formula 0) ∷ mark sign.Semicolon ∷ [])
 
 abbrev pub constraint_end_text : Option Quantifier → Formula → Phrase
-constraint_end_text q f = maybe_text quantifier_text q ▸ formula_text (formula_shape f) ▸ mark_of sign.Semicolon
+constraint_end_text q f =
+    maybe_text quantifier_text q ▸ formula_text (formula_shape f) ▸ mark_of sign.Semicolon
 
 -- the units that open a construct
 abbrev pub not_unit : ℕ → Syntax
@@ -60,4 +65,5 @@ abbrev pub given_unit : ℕ → Syntax
 given_unit depth = Then (nesting depth (a_word keyword.Given)) (The (a_unit (suc depth)))
 
 abbrev pub group : ℕ → Syntax
-group depth = row (nesting depth (a_mark sign.OpenParenthesis) ∷ The (a_formula (suc depth)) ∷ mark sign.CloseParenthesis ∷ [])
+group depth =
+    row (nesting depth (a_mark sign.OpenParenthesis) ∷ The (a_formula (suc depth)) ∷ mark sign.CloseParenthesis ∷ [])

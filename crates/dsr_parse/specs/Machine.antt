@@ -36,7 +36,8 @@ nullable (The p) = false
 -- the kinds with which the texts of a part begin
 abbrev pub first_of : Part → List Class
 first_of (an_expression depth) = a_number ∷ a_name ∷ a_mark sign.OpenParenthesis ∷ []
-first_of _ = a_word keyword.Not ∷ a_word keyword.Given ∷ a_mark sign.OpenParenthesis ∷ a_word keyword.Size ∷ a_mark sign.Less ∷ a_word keyword.Head ∷ a_name ∷ []
+first_of _ =
+    a_word keyword.Not ∷ a_word keyword.Given ∷ a_mark sign.OpenParenthesis ∷ a_word keyword.Size ∷ a_mark sign.Less ∷ a_word keyword.Head ∷ a_name ∷ []
 
 -- the kinds with which the texts of a right side begin
 abbrev pub first : Syntax → List Class
@@ -58,10 +59,13 @@ pub record Move : Type 0 where
   pub stack : List Syntax
 
 -- how the machine enters a right side with a token, where `into` says how it enters a part
-abbrev pub enter : (Part → Token → ℕ → List Syntax → Option Move) → Syntax → Token → ℕ → List Syntax → Option Move
-enter into (One charge class) t n k = if accepts class t then Some (record { over = is_over charge n; count = count_after charge n; stack = k }) else None
+abbrev pub enter :
+    (Part → Token → ℕ → List Syntax → Option Move) → Syntax → Token → ℕ → List Syntax → Option Move
+enter into (One charge class) t n k =
+    if accepts class t then Some (record { over = is_over charge n; count = count_after charge n; stack = k }) else None
 enter into Empty t n k = None
-enter into (Then a b) t n k = if may_begin a t then enter into a t n (b ∷ k) else (if nullable a then enter into b t n k else None)
+enter into (Then a b) t n k =
+    if may_begin a t then enter into a t n (b ∷ k) else (if nullable a then enter into b t n k else None)
 enter into (Either a b) t n k = if may_begin a t then enter into a t n k else enter into b t n k
 enter into (Many a) t n k = enter into a t n (Many a ∷ k)
 enter into (The p) t n k = into p t n k
@@ -76,7 +80,8 @@ into_part p t n k = enter not_into (rule_of p) t n k
 -- a step of the machine
 abbrev pub step : List Syntax → Token → ℕ → Option Move
 step [] t n = None
-step (s ∷ k) t n = if may_begin s t then enter into_part s t n k else (if nullable s then step k t n else None)
+step (s ∷ k) t n =
+    if may_begin s t then enter into_part s t n k else (if nullable s then step k t n else None)
 
 -- nothing more has to come
 abbrev pub is_done : List Syntax → Bool

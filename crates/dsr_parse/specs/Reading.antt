@@ -26,7 +26,8 @@ pub record Standing : Type 0 where
 
 -- from one place to the other the machine goes from what had to come before to what has to come after, whatever follows
 pub record Goes (before after : List Syntax) (x y : Standing) : Type 0 where
-  pub passes : (k : List Syntax) → run x.rest x.counted (before ++ k) ≡ run y.rest y.counted (after ++ k)
+  pub passes :
+      (k : List Syntax) → run x.rest x.counted (before ++ k) ≡ run y.rest y.counted (after ++ k)
 
 -- how the machine ends where a reader stops
 abbrev pub EndsBy : Stop → Outcome → Type 0

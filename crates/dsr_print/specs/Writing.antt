@@ -51,10 +51,12 @@ abbrev pub given_text : UnitTree → Phrase
 given_text unit = word keyword.Given ▸ unit_text unit
 
 abbrev pub parenthesized_text : FormulaTree → Phrase
-parenthesized_text formula = mark sign.OpenParenthesis ▸ formula_text formula ▸ mark sign.CloseParenthesis
+parenthesized_text formula =
+    mark sign.OpenParenthesis ▸ formula_text formula ▸ mark sign.CloseParenthesis
 
 abbrev pub skipped_text : ExprTree → Phrase
 skipped_text length = (word keyword.Skip ▸ expr_text length) ▸ mark sign.Semicolon
 
 abbrev pub pair_text : Var → Var → PlacedName → Phrase
-pair_text first second relation = mark sign.Less ▸ var_text first ▸ mark sign.Comma ▸ var_text second ▸ mark sign.Greater ▸ word keyword.In ▸ name_text relation
+pair_text first second relation =
+    mark sign.Less ▸ var_text first ▸ mark sign.Comma ▸ var_text second ▸ mark sign.Greater ▸ word keyword.In ▸ name_text relation

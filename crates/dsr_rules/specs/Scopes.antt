@@ -40,10 +40,12 @@ scope_told s = record {
 
 -- what a guard tests is no reference of the record, as far as is known; what it compares is no number
 abbrev pub is_no_reference : Scope → Var → Option FieldRef → Bool
-is_no_reference scope var field = is_other_head scope var || field_is scope.known.base is_number field
+is_no_reference scope var field =
+    is_other_head scope var || field_is scope.known.base is_number field
 
 abbrev pub is_no_number : Scope → Var → Option FieldRef → Bool
-is_no_number scope var field = is_other_head scope var || field_is scope.known.base is_reference field
+is_no_number scope var field =
+    is_other_head scope var || field_is scope.known.base is_reference field
 
 -- the faults of a guard of each form
 abbrev pub tested_faults : Scope → ℕ → RefTest → Path → List Fault
@@ -66,7 +68,8 @@ abbrev pub pair_names : Scope → Term → Path → PlacedName → List Fault
 pair_names scope term path relation = inclusion_names scope (inclusions.Pair 0 term path relation)
 
 abbrev pub pair_faults : Scope → ℕ → Term → Path → PlacedName → List Fault
-pair_faults scope place term path relation = inclusion_faults scope (inclusions.Pair place term path relation)
+pair_faults scope place term path relation =
+    inclusion_faults scope (inclusions.Pair place term path relation)
 
 -- ---- members
 
@@ -76,25 +79,31 @@ set_names scope set = unknown (plain_set scope.known set.name) set
 
 -- the names of a member that stand for nothing, and all its faults
 abbrev pub names_of_member : Scope → Var → Option MemberPart → PlacedName → List Fault
-names_of_member scope var part set = inclusion_names scope (inclusions.Member (record { var = var; part = part }) set)
+names_of_member scope var part set =
+    inclusion_names scope (inclusions.Member (record { var = var; part = part }) set)
 
 abbrev pub faults_of_member : Scope → Var → Option MemberPart → PlacedName → List Fault
-faults_of_member scope var part set = inclusion_faults scope (inclusions.Member (record { var = var; part = part }) set)
+faults_of_member scope var part set =
+    inclusion_faults scope (inclusions.Member (record { var = var; part = part }) set)
 
 -- of the target of a reference
 abbrev pub target_names : Scope → Var → PlacedName → Option PlacedName → PlacedName → List Fault
-target_names scope var field index set = names_of_member scope var (Some (parts.Field field index)) set
+target_names scope var field index set =
+    names_of_member scope var (Some (parts.Field field index)) set
 
 abbrev pub target_faults : Scope → Var → PlacedName → Option PlacedName → PlacedName → List Fault
-target_faults scope var field index set = faults_of_member scope var (Some (parts.Field field index)) set
+target_faults scope var field index set =
+    faults_of_member scope var (Some (parts.Field field index)) set
 
 -- a path leads to no record of a pool, as far as is known
 abbrev pub leads_elsewhere : Scope → Var → Option FieldRef → Option ℕ → Bool
-leads_elsewhere scope var field pool = is_other_head scope var || field_is scope.known.base (refers_elsewhere pool) field
+leads_elsewhere scope var field pool =
+    is_other_head scope var || field_is scope.known.base (refers_elsewhere pool) field
 
 -- of the slot of a pool at an index
 abbrev pub slot_names : Scope → PlacedName → PlacedName → PlacedName → List Fault
-slot_names scope pool index set = names_of_member scope (vars.Name pool) (Some (parts.Slot index)) set
+slot_names scope pool index set =
+    names_of_member scope (vars.Name pool) (Some (parts.Slot index)) set
 
 abbrev pub slot_member_faults : Scope → Var → PlacedName → PlacedName → List Fault
 slot_member_faults scope var index set = faults_of_member scope var (Some (parts.Slot index)) set

@@ -9,7 +9,8 @@ abbrev pub Rose : ℕ → ℕ → Type 0
 Rose old new = min (old + 1) (2 ^ 64 - 1) ≤ new
 
 -- `Failed` makes this call the last that failed, and each other answer leaves the mark
-abbrev pub Marks : {T : Type 0} → Result T ShelfFault → Missed → Option Missed → Option Missed → Type 0
+abbrev pub Marks :
+    {T : Type 0} → Result T ShelfFault → Missed → Option Missed → Option Missed → Type 0
 Marks (Err Failed) missed old new = new ≡ Some missed
 Marks (Err NoMemory) missed old new = new ≡ old
 Marks (Ok x) missed old new = new ≡ old

@@ -11,7 +11,8 @@ Files = FinMap (slice_cmp nat_cmp) (List ℕ)
 
 -- where the files are told, the name is held, and these are its first bytes, up to the cap
 abbrev pub IsFrontOf : Option Files → List ℕ → ℕ → List ℕ → Type 0
-IsFrontOf held name cap bytes = IfSome held (λ files. IsSomeAnd (get files name) (λ whole. bytes ≡ take cap whole))
+IsFrontOf held name cap bytes =
+    IfSome held (λ files. IsSomeAnd (get files name) (λ whole. bytes ≡ take cap whole))
 
 -- the files are told, and none has the name
 abbrev pub Lacks : Option Files → List ℕ → Type 0
@@ -23,4 +24,6 @@ with_file held name bytes = option_map (λ files. insert files name bytes) held
 
 -- under each other name stands what stood there
 abbrev pub OthersStand : Option Files → Option Files → List ℕ → Type 0
-OthersStand old new name = (other : List ℕ) → other ≢ name → option_map (λ files. get files other) new ≡ option_map (λ files. get files other) old
+OthersStand old new name =
+    (other : List ℕ) → other ≢ name
+    → option_map (λ files. get files other) new ≡ option_map (λ files. get files other) old

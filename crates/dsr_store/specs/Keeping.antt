@@ -17,7 +17,8 @@ files_of files = from_entries (entries_of files)
 -- the place of the first file of the name, where the list's own places begin at n
 abbrev pub place_from : ℕ → List ℕ → List Held → Option ℕ
 place_from n name [] = None
-place_from n name (file ∷ files) = if bytes_eq name file.name then Some n else place_from (n + 1) name files
+place_from n name (file ∷ files) =
+    if bytes_eq name file.name then Some n else place_from (n + 1) name files
 
 -- the same, as a shelf that tells its files
 abbrev pub held_in : List Held → Option Files

@@ -19,7 +19,8 @@ is_named (Some n) q = bytes_eq n q
 
 -- what is known of a name after one more was entered under a number; the first entry counts
 abbrev pub entered : (List ℕ → Option ℕ) → List ℕ → ℕ → List ℕ → Option ℕ
-entered known name number q = if is_some (known q) then known q else (if bytes_eq name q then Some number else None)
+entered known name number q =
+    if is_some (known q) then known q else (if bytes_eq name q then Some number else None)
 
 -- what the tables tell of the names of a tree
 abbrev pub told_by : Tree → NameTables → Names
@@ -37,17 +38,26 @@ told_by tree tables = record {
 
 -- the tables of pools, sets, relations and supplies have the first number of each name
 pub record HaveSymbols (tree : Tree) (tables : SymbolTables) : Type 0 where
-  pub pools : (q : List ℕ) → get bytes_eq tables.pools q ≡ position_from (λ p. is_named (Some p.name.name) q) 0 tree.pools
-  pub sets : (q : List ℕ) → get bytes_eq tables.sets q ≡ position_from (λ s. is_named (Some s.name.name) q) 0 tree.sets
-  pub relations : (q : List ℕ) → get bytes_eq tables.relations q ≡ position_from (λ r. is_named (Some r.name.name) q) 0 tree.relations
-  pub supplies : (q : List ℕ) → get bytes_eq tables.supplies q ≡ position_from (λ f. is_named (Some f.pool.name) q) 0 tree.supplies
+  pub pools :
+      (q : List ℕ)
+      → get bytes_eq tables.pools q ≡ position_from (λ p. is_named (Some p.name.name) q) 0 tree.pools
+  pub sets :
+      (q : List ℕ)
+      → get bytes_eq tables.sets q ≡ position_from (λ s. is_named (Some s.name.name) q) 0 tree.sets
+  pub relations :
+      (q : List ℕ)
+      → get bytes_eq tables.relations q ≡ position_from (λ r. is_named (Some r.name.name) q) 0 tree.relations
+  pub supplies :
+      (q : List ℕ)
+      → get bytes_eq tables.supplies q ≡ position_from (λ f. is_named (Some f.pool.name) q) 0 tree.supplies
 
 abbrev pub known_of : NamesOfTree → Names
 known_of names = told_by names.tree.now names.tables.now
 
 -- where a field stands
 abbrev pub place_of : Position → FieldPosition
-place_of at = record { structure = at.structure; number = at.number; in_head = at.in_head; on_byte = at.on_byte; behind_open = at.behind_open }
+place_of at =
+    record { structure = at.structure; number = at.number; in_head = at.in_head; on_byte = at.on_byte; behind_open = at.behind_open }
 
 -- all numbers for which names stand, and the next ones, are numbers of 32 bits
 abbrev pub Fit : (List ℕ → Option ℕ) → Type 0

@@ -86,9 +86,11 @@ bare_measure (measures.Size size) = measures.Size (bare_size size)
 
 abbrev pub bare_atom : Atom → Atom
 bare_atom (atoms.Count size bound number) = atoms.Count (bare_size size) bound (bare_number number)
-bare_atom (atoms.Pair place first second relation) = atoms.Pair 0 (bare_var first) (bare_var second) (bare_name relation)
+bare_atom (atoms.Pair place first second relation) =
+    atoms.Pair 0 (bare_var first) (bare_var second) (bare_name relation)
 bare_atom (atoms.Member var set) = atoms.Member (bare_var var) (bare_name set)
-bare_atom (atoms.Value var relation compare measure) = atoms.Value (bare_var var) (bare_name relation) compare (bare_measure measure)
+bare_atom (atoms.Value var relation compare measure) =
+    atoms.Value (bare_var var) (bare_name relation) compare (bare_measure measure)
 
 -- formulas
 abbrev mutual
@@ -128,39 +130,46 @@ abbrev pub bare_place : ℕ → ℕ
 bare_place place = 0
 
 abbrev pub bare_named_field : NamedFieldTree → NamedFieldTree
-bare_named_field f = record { fixed = option_map bare_place f.fixed; width = bare_width f.width; name = bare_name f.name; length = option_map bare_expr f.length; content = option_map bare_content f.content }
+bare_named_field f =
+    record { fixed = option_map bare_place f.fixed; width = bare_width f.width; name = bare_name f.name; length = option_map bare_expr f.length; content = option_map bare_content f.content }
 
 abbrev pub bare_field : FieldTree → FieldTree
 bare_field (named field) = named (bare_named_field field)
 bare_field (skipped place length) = skipped 0 (bare_expr length)
 
 abbrev pub bare_structure : StructureTree → StructureTree
-bare_structure s = record { place = 0; name = bare_name s.name; parent = option_map bare_name s.parent; fields = map bare_field s.fields }
+bare_structure s =
+    record { place = 0; name = bare_name s.name; parent = option_map bare_name s.parent; fields = map bare_field s.fields }
 
 -- pools, sets, relations, supplies
 abbrev pub bare_pool : PoolTree → PoolTree
-bare_pool p = record { place = 0; name = bare_name p.name; structure = bare_name p.structure; count = bare_expr p.count; slot = option_map bare_expr p.slot; start = bare_expr p.start; code = bare_expr p.code; step = bare_expr p.step; none = bare_expr p.none }
+bare_pool p =
+    record { place = 0; name = bare_name p.name; structure = bare_name p.structure; count = bare_expr p.count; slot = option_map bare_expr p.slot; start = bare_expr p.start; code = bare_expr p.code; step = bare_expr p.step; none = bare_expr p.none }
 
 abbrev pub bare_view : View → View
 bare_view (views.As place structure) = views.As 0 (bare_name structure)
 bare_view (views.Except place set) = views.Except 0 (bare_name set)
 
 abbrev pub bare_set : Set → Set
-bare_set s = record { place = 0; name = bare_name s.name; pool = bare_name s.pool; view = option_map bare_view s.view }
+bare_set s =
+    record { place = 0; name = bare_name s.name; pool = bare_name s.pool; view = option_map bare_view s.view }
 
 abbrev pub bare_target : Target → Target
 bare_target (targets.Number place) = targets.Number 0
 bare_target (targets.Pool name) = targets.Pool (bare_name name)
 
 abbrev pub bare_relation : Relation → Relation
-bare_relation r = record { place = 0; name = bare_name r.name; source = bare_var r.source; target = bare_target r.target }
+bare_relation r =
+    record { place = 0; name = bare_name r.name; source = bare_var r.source; target = bare_target r.target }
 
 abbrev pub bare_fresh : Fresh → Fresh
-bare_fresh f = record { place = 0; pool = bare_name f.pool; first = bare_name f.first; rest = map bare_name f.rest }
+bare_fresh f =
+    record { place = 0; pool = bare_name f.pool; first = bare_name f.first; rest = map bare_name f.rest }
 
 -- rules
 abbrev pub bare_path : Path → Path
-bare_path p = record { var = bare_var p.var; field = bare_name p.field; index = option_map bare_name p.index }
+bare_path p =
+    record { var = bare_var p.var; field = bare_name p.field; index = option_map bare_name p.index }
 
 abbrev pub bare_premise : Premise → Premise
 bare_premise (premises.Head place) = premises.Head 0
@@ -175,7 +184,8 @@ bare_span s = record { name = bare_name s.name; index = bare_index s.index }
 
 abbrev pub bare_guard : Guard → Guard
 bare_guard (guards.Tested place test path) = guards.Tested 0 test (bare_path path)
-bare_guard (guards.Compared path compare number) = guards.Compared (bare_path path) compare (bare_number number)
+bare_guard (guards.Compared path compare number) =
+    guards.Compared (bare_path path) compare (bare_number number)
 
 abbrev pub bare_guards : Guards → Guards
 bare_guards g = record { first = bare_guard g.first; rest = map bare_guard g.rest }
@@ -185,18 +195,22 @@ bare_term (terms.Head place) = terms.Head 0
 bare_term (terms.Named name index) = terms.Named (bare_name name) (option_map bare_name index)
 
 abbrev pub bare_member_part : MemberPart → MemberPart
-bare_member_part (member_parts.Field field index) = member_parts.Field (bare_name field) (option_map bare_name index)
+bare_member_part (member_parts.Field field index) =
+    member_parts.Field (bare_name field) (option_map bare_name index)
 bare_member_part (member_parts.Slot index) = member_parts.Slot (bare_name index)
 
 abbrev pub bare_member : Member → Member
 bare_member m = record { var = bare_var m.var; part = option_map bare_member_part m.part }
 
 abbrev pub bare_inclusion : Inclusion → Inclusion
-bare_inclusion (inclusions.Pair place term path relation) = inclusions.Pair 0 (bare_term term) (bare_path path) (bare_name relation)
-bare_inclusion (inclusions.Member member set) = inclusions.Member (bare_member member) (bare_name set)
+bare_inclusion (inclusions.Pair place term path relation) =
+    inclusions.Pair 0 (bare_term term) (bare_path path) (bare_name relation)
+bare_inclusion (inclusions.Member member set) =
+    inclusions.Member (bare_member member) (bare_name set)
 
 abbrev pub bare_rule : Rule → Rule
-bare_rule r = record { place = 0; premise = bare_premise r.premise; span = option_map bare_span r.span; guards = option_map bare_guards r.guards; inclusion = bare_inclusion r.inclusion }
+bare_rule r =
+    record { place = 0; premise = bare_premise r.premise; span = option_map bare_span r.span; guards = option_map bare_guards r.guards; inclusion = bare_inclusion r.inclusion }
 
 -- constraints
 abbrev pub bare_binder : Binder → Binder
@@ -207,8 +221,10 @@ abbrev pub bare_quantifier : Quantifier → Quantifier
 bare_quantifier q = record { place = 0; binder = bare_binder q.binder; symbol = bare_name q.symbol }
 
 abbrev pub bare_constraint : ConstraintTree → ConstraintTree
-bare_constraint c = record { place = 0; name = bare_name c.name; quantifier = option_map bare_quantifier c.quantifier; formula = bare_formula c.formula }
+bare_constraint c =
+    record { place = 0; name = bare_name c.name; quantifier = option_map bare_quantifier c.quantifier; formula = bare_formula c.formula }
 
 -- a whole tree
 abbrev pub bare_tree : TreeShape → TreeShape
-bare_tree t = record { place = 0; version = bare_number t.version; order = t.order; structures = map bare_structure t.structures; pools = map bare_pool t.pools; sets = map bare_set t.sets; relations = map bare_relation t.relations; supplies = map bare_fresh t.supplies; rules = map bare_rule t.rules; constraints = map bare_constraint t.constraints }
+bare_tree t =
+    record { place = 0; version = bare_number t.version; order = t.order; structures = map bare_structure t.structures; pools = map bare_pool t.pools; sets = map bare_set t.sets; relations = map bare_relation t.relations; supplies = map bare_fresh t.supplies; rules = map bare_rule t.rules; constraints = map bare_constraint t.constraints }

@@ -88,13 +88,15 @@ is_bytewise _ = true
 
 -- a width of bits that isn't one from 1 to 32
 abbrev pub width_faults : Width → List Fault
-width_faults (widths.Bits place number) = when (not (nat_le 1 number.number && nat_le number.number 32)) conditions.Width number.place
+width_faults (widths.Bits place number) =
+    when (not (nat_le 1 number.number && nat_le number.number 32)) conditions.Width number.place
 width_faults _ = []
 
 -- a constant that is too wide for its field, or a pool that isn't declared
 abbrev pub content_faults : (List ℕ → Option ℕ) → Width → Option Content → List Fault
 content_faults pool width None = []
-content_faults pool width (Some (contents.Init place number)) = when (nat_le (2 ^ entry_bits width) number.number) conditions.Width number.place
+content_faults pool width (Some (contents.Init place number)) =
+    when (nat_le (2 ^ entry_bits width) number.number) conditions.Width number.place
 content_faults pool width (Some (contents.Refers place name)) = unknown_name pool name
 
 -- what a field takes up; how many entries an array has is no matter for where a byte begins, since behind it one does
@@ -120,7 +122,8 @@ abbrev pub has_open : List FieldTree → Bool
 has_open fields = any_of is_open fields
 
 abbrev pub is_open_structure : Names → ℕ → Bool
-is_open_structure names a = option_map_or (λ s. has_open s.fields) (slice_get names.tree.structures a) false
+is_open_structure names a =
+    option_map_or (λ s. has_open s.fields) (slice_get names.tree.structures a) false
 
 abbrev pub inherits_open : Names → ℕ → Bool
 inherits_open names i = any_of (is_open_structure names) (ancestors_of names i)
@@ -138,7 +141,8 @@ pub record FieldPosition : Type 0 where
 
 -- whether a structure has the name twice: in an earlier field of its own, or in one that it inherits
 abbrev pub is_declared_above : Names → FieldPosition → List ℕ → Bool
-is_declared_above names at q = not (is_at at.number (own_field names at.structure q)) || inherits names at.structure q
+is_declared_above names at q =
+    not (is_at at.number (own_field names at.structure q)) || inherits names at.structure q
 
 -- whether a field may not be fixed where it stands: outside of `Head`, as an array, or behind a length that isn't a number
 abbrev pub is_misplaced : FieldPosition → NamedFieldTree → Bool
@@ -170,10 +174,12 @@ is_not_before i (Some p) = nat_le i p
 
 abbrev pub parent_faults : Names → ℕ → Option PlacedName → List Fault
 parent_faults names i None = []
-parent_faults names i (Some q) = unknown_name (used_structure names) q ++ when (is_not_before i (used_structure names q.name)) conditions.SubtypeLoop q.place
+parent_faults names i (Some q) =
+    unknown_name (used_structure names) q ++ when (is_not_before i (used_structure names q.name)) conditions.SubtypeLoop q.place
 
 abbrev pub position_of : Names → ℕ → StructureTree → ℕ → FieldPosition
-position_of names i s j = record { structure = i; number = j; in_head = is_head s.name.name; on_byte = ends_byte (take j s.fields); behind_open = inherits_open names i || has_open (take j s.fields) }
+position_of names i s j =
+    record { structure = i; number = j; in_head = is_head s.name.name; on_byte = ends_byte (take j s.fields); behind_open = inherits_open names i || has_open (take j s.fields) }
 
 abbrev pub structure_faults : Names → ℕ → StructureTree → List Fault
 structure_faults names i s =
@@ -251,7 +257,8 @@ all_sets names (q ∷ qs) = is_some (plain_set names q.name) && all_sets names q
 
 -- whether a set is one of another pool
 abbrev pub is_elsewhere : Names → Option ℕ → PlacedName → Bool
-is_elsewhere names pool q = disagree pool (option_and_then (set_pool names) (plain_set names q.name))
+is_elsewhere names pool q =
+    disagree pool (option_and_then (set_pool names) (plain_set names q.name))
 
 -- whether a supply that names a pool and sets alone avoids a set of another pool
 abbrev pub is_supply_mismatch : Names → Option ℕ → List PlacedName → Bool

@@ -41,7 +41,8 @@ operator s = One (counted 32) (a_mark s)
 
 -- parentheses in an expression, at most 32 deep
 abbrev pub factor : ℕ → Syntax
-factor depth = choice number (name ∷ row (One (opening depth 32) (a_mark sign.OpenParenthesis) ∷ The (an_expression (suc depth)) ∷ mark sign.CloseParenthesis ∷ []) ∷ [])
+factor depth =
+    choice number (name ∷ row (One (opening depth 32) (a_mark sign.OpenParenthesis) ∷ The (an_expression (suc depth)) ∷ mark sign.CloseParenthesis ∷ []) ∷ [])
 
 abbrev pub product_sign : Syntax
 product_sign = Either (operator sign.Times) (operator sign.Over)
@@ -77,7 +78,8 @@ abbrev pub size_part : Syntax
 size_part = Then (mark sign.Dot) name
 
 abbrev pub size_tail : Syntax
-size_tail = row (mark sign.OpenParenthesis ∷ var ∷ maybe size_part ∷ mark sign.CloseParenthesis ∷ [])
+size_tail =
+    row (mark sign.OpenParenthesis ∷ var ∷ maybe size_part ∷ mark sign.CloseParenthesis ∷ [])
 
 abbrev pub size_by : Charge → Syntax
 size_by charge = Then (One charge (a_word keyword.Size)) size_tail
@@ -86,7 +88,8 @@ abbrev pub bound : Syntax
 bound = choice (mark sign.AtMost) (mark sign.AtLeast ∷ mark sign.Equal ∷ [])
 
 abbrev pub compare : Syntax
-compare = choice (mark sign.Equal) (mark sign.Differs ∷ mark sign.Less ∷ mark sign.AtMost ∷ mark sign.Greater ∷ mark sign.AtLeast ∷ [])
+compare =
+    choice (mark sign.Equal) (mark sign.Differs ∷ mark sign.Less ∷ mark sign.AtMost ∷ mark sign.Greater ∷ mark sign.AtLeast ∷ [])
 
 -- an atom is counted at its first token: a formula has at most 128
 abbrev pub literal : Charge
@@ -96,13 +99,15 @@ abbrev pub count_atom : Syntax
 count_atom = row (size_by literal ∷ bound ∷ number ∷ [])
 
 abbrev pub pair_atom : Syntax
-pair_atom = row (One literal (a_mark sign.Less) ∷ var ∷ mark sign.Comma ∷ var ∷ mark sign.Greater ∷ word keyword.In ∷ name ∷ [])
+pair_atom =
+    row (One literal (a_mark sign.Less) ∷ var ∷ mark sign.Comma ∷ var ∷ mark sign.Greater ∷ word keyword.In ∷ name ∷ [])
 
 abbrev pub measure : Syntax
 measure = Either number (size_by free)
 
 abbrev pub atom_tail : Syntax
-atom_tail = Either (row (word keyword.In ∷ name ∷ [])) (row (mark sign.Dot ∷ name ∷ compare ∷ measure ∷ []))
+atom_tail =
+    Either (row (word keyword.In ∷ name ∷ [])) (row (mark sign.Dot ∷ name ∷ compare ∷ measure ∷ []))
 
 abbrev pub var_atom : Syntax
 var_atom = Then (var_by literal) atom_tail
@@ -141,7 +146,8 @@ rule_of (a_unit depth) = unit depth
 -- ---- structures
 
 abbrev pub width : Syntax
-width = choice (word keyword.U8) (word keyword.U16 ∷ word keyword.U32 ∷ word keyword.U64 ∷ row (word keyword.Bits ∷ number ∷ []) ∷ [])
+width =
+    choice (word keyword.U8) (word keyword.U16 ∷ word keyword.U32 ∷ word keyword.U64 ∷ row (word keyword.Bits ∷ number ∷ []) ∷ [])
 
 abbrev pub brackets : Syntax
 brackets = Then (expr_behind (a_mark sign.OpenBracket)) (mark sign.CloseBracket)
@@ -150,7 +156,8 @@ abbrev pub content : Syntax
 content = Either (row (mark sign.Arrow ∷ name ∷ [])) (row (word keyword.Init ∷ number ∷ []))
 
 abbrev pub named_field : Syntax
-named_field = row (maybe (word keyword.Fixed) ∷ width ∷ name ∷ maybe brackets ∷ maybe content ∷ mark sign.Semicolon ∷ [])
+named_field =
+    row (maybe (word keyword.Fixed) ∷ width ∷ name ∷ maybe brackets ∷ maybe content ∷ mark sign.Semicolon ∷ [])
 
 abbrev pub skip : Syntax
 skip = Then (expr_behind (a_word keyword.Skip)) (mark sign.Semicolon)
@@ -162,12 +169,14 @@ abbrev pub parent : Syntax
 parent = Then (word keyword.Extends) name
 
 abbrev pub structure : Syntax
-structure = row (word keyword.Structure ∷ name ∷ maybe parent ∷ mark sign.OpenBrace ∷ Many field ∷ mark sign.CloseBrace ∷ [])
+structure =
+    row (word keyword.Structure ∷ name ∷ maybe parent ∷ mark sign.OpenBrace ∷ Many field ∷ mark sign.CloseBrace ∷ [])
 
 -- ---- pools, sets, relations, supplies
 
 abbrev pub pool : Syntax
-pool = row (word keyword.Pool ∷ name ∷ mark sign.Colon ∷ name ∷ brackets ∷ maybe (expr_behind (a_word keyword.Slot))
+pool =
+    row (word keyword.Pool ∷ name ∷ mark sign.Colon ∷ name ∷ brackets ∷ maybe (expr_behind (a_word keyword.Slot))
     ∷ expr_behind (a_word keyword.At) ∷ expr_behind (a_word keyword.Codes) ∷ expr_behind (a_word keyword.Step) ∷ expr_behind (a_word keyword.None) ∷ mark sign.Semicolon ∷ [])
 
 abbrev pub view : Syntax
@@ -180,13 +189,15 @@ abbrev pub target : Syntax
 target = Either (word keyword.Number) name
 
 abbrev pub relation : Syntax
-relation = row (word keyword.Relation ∷ name ∷ mark sign.Colon ∷ var ∷ mark sign.Arrow ∷ target ∷ mark sign.Semicolon ∷ [])
+relation =
+    row (word keyword.Relation ∷ name ∷ mark sign.Colon ∷ var ∷ mark sign.Arrow ∷ target ∷ mark sign.Semicolon ∷ [])
 
 abbrev pub more_name : Syntax
 more_name = row (mark sign.Comma ∷ name ∷ [])
 
 abbrev pub fresh : Syntax
-fresh = row (word keyword.Fresh ∷ name ∷ word keyword.Avoid ∷ name ∷ Many more_name ∷ mark sign.Semicolon ∷ [])
+fresh =
+    row (word keyword.Fresh ∷ name ∷ word keyword.Avoid ∷ name ∷ Many more_name ∷ mark sign.Semicolon ∷ [])
 
 -- ---- rules
 
@@ -206,10 +217,12 @@ abbrev pub span : Syntax
 span = row (mark sign.Comma ∷ name ∷ word keyword.In ∷ index_source ∷ [])
 
 abbrev pub ref_test : Syntax
-ref_test = choice (word keyword.Legal) (word keyword.Illegal ∷ word keyword.None ∷ word keyword.Some ∷ [])
+ref_test =
+    choice (word keyword.Legal) (word keyword.Illegal ∷ word keyword.None ∷ word keyword.Some ∷ [])
 
 abbrev pub guard : Syntax
-guard = Either (row (ref_test ∷ mark sign.OpenParenthesis ∷ path ∷ mark sign.CloseParenthesis ∷ [])) (row (path ∷ compare ∷ number ∷ []))
+guard =
+    Either (row (ref_test ∷ mark sign.OpenParenthesis ∷ path ∷ mark sign.CloseParenthesis ∷ [])) (row (path ∷ compare ∷ number ∷ []))
 
 abbrev pub more_guard : Syntax
 more_guard = Then (word keyword.And) guard
@@ -221,13 +234,15 @@ abbrev pub term : Syntax
 term = Either (word keyword.Head) (Then name index)
 
 abbrev pub member_part : Syntax
-member_part = Either (row (mark sign.Dot ∷ name ∷ index ∷ [])) (row (mark sign.OpenBracket ∷ name ∷ mark sign.CloseBracket ∷ []))
+member_part =
+    Either (row (mark sign.Dot ∷ name ∷ index ∷ [])) (row (mark sign.OpenBracket ∷ name ∷ mark sign.CloseBracket ∷ []))
 
 abbrev pub member : Syntax
 member = Then var (maybe member_part)
 
 abbrev pub pair_inclusion : Syntax
-pair_inclusion = row (mark sign.Less ∷ term ∷ mark sign.Comma ∷ path ∷ mark sign.Greater ∷ word keyword.In ∷ name ∷ [])
+pair_inclusion =
+    row (mark sign.Less ∷ term ∷ mark sign.Comma ∷ path ∷ mark sign.Greater ∷ word keyword.In ∷ name ∷ [])
 
 abbrev pub member_inclusion : Syntax
 member_inclusion = row (member ∷ word keyword.In ∷ name ∷ [])
@@ -236,7 +251,8 @@ abbrev pub inclusion : Syntax
 inclusion = Either pair_inclusion member_inclusion
 
 abbrev pub rule : Syntax
-rule = row (word keyword.Rule ∷ premise ∷ maybe span ∷ maybe guards ∷ mark sign.Gives ∷ inclusion ∷ mark sign.Semicolon ∷ [])
+rule =
+    row (word keyword.Rule ∷ premise ∷ maybe span ∷ maybe guards ∷ mark sign.Gives ∷ inclusion ∷ mark sign.Semicolon ∷ [])
 
 -- ---- constraints
 
@@ -251,7 +267,8 @@ abbrev pub quantifier : Syntax
 quantifier = row (word keyword.Forall ∷ binder ∷ word keyword.In ∷ name ∷ colon ∷ [])
 
 abbrev pub constraint : Syntax
-constraint = row (word keyword.Constraint ∷ name ∷ colon ∷ maybe quantifier ∷ The (a_formula 0) ∷ mark sign.Semicolon ∷ [])
+constraint =
+    row (word keyword.Constraint ∷ name ∷ colon ∷ maybe quantifier ∷ The (a_formula 0) ∷ mark sign.Semicolon ∷ [])
 
 -- ---- a whole text
 
@@ -265,4 +282,5 @@ abbrev pub order : Syntax
 order = row (word keyword.Order ∷ endian ∷ mark sign.Semicolon ∷ [])
 
 abbrev pub spec : Syntax
-spec = row (version ∷ order ∷ Many structure ∷ Many pool ∷ Many set ∷ Many relation ∷ Many fresh ∷ Many rule ∷ Many constraint ∷ [])
+spec =
+    row (version ∷ order ∷ Many structure ∷ Many pool ∷ Many set ∷ Many relation ∷ Many fresh ∷ Many rule ∷ Many constraint ∷ [])

@@ -49,7 +49,8 @@ supply_number t q = position_from (λ f. bytes_eq f.pool.name q) 0 t.supplies
 
 -- the fixed field that a structure itself declares under a name, by its number among all fields there
 abbrev pub fixed_in : TreeShape → Option ℕ → List ℕ → Option ℕ
-fixed_in t structure q = option_and_then (λ s. position_from (has_fixed_name q) 0 s.fields) (option_and_then (slice_get t.structures) structure)
+fixed_in t structure q =
+    option_and_then (λ s. position_from (has_fixed_name q) 0 s.fields) (option_and_then (slice_get t.structures) structure)
 
 -- that of `Head`
 abbrev pub fixed_number : TreeShape → List ℕ → Option ℕ
@@ -72,11 +73,13 @@ with_ancestors ancestors (Some p) = p ∷ ancestors p
 -- the ancestors of a structure by its number, the nearest first, among structures of which the last declared comes first
 abbrev pub ancestors_in : (List ℕ → Option ℕ) → List StructureTree → ℕ → List ℕ
 ancestors_in number [] i = []
-ancestors_in number (s ∷ earlier) i = if nat_eq i (length earlier) then with_ancestors (ancestors_in number earlier) (parent_number number i s.parent) else ancestors_in number earlier i
+ancestors_in number (s ∷ earlier) i =
+    if nat_eq i (length earlier) then with_ancestors (ancestors_in number earlier) (parent_number number i s.parent) else ancestors_in number earlier i
 
 -- those of each structure, in order of declaration
 abbrev pub all_ancestors : (List ℕ → Option ℕ) → List StructureTree → List (List ℕ)
-all_ancestors number structures = each_at (λ i _. ancestors_in number (reverse structures) i ∷ []) 0 structures
+all_ancestors number structures =
+    each_at (λ i _. ancestors_in number (reverse structures) i ∷ []) 0 structures
 
 -- all that conditions on declarations ask of names
 pub record Names : Type 0 where
@@ -96,7 +99,8 @@ asked_structures t = take 65 t.structures
 
 -- what the names of a tree stand for
 abbrev pub names_of : TreeShape → Names
-names_of t = record { tree = t; structure = structure_number t; fields = map field_number t.structures; ancestors = all_ancestors (structure_number t) (asked_structures t); fixed = fixed_number t; pool = pool_number t; set = set_number t; relation = relation_number t; supply = supply_number t }
+names_of t =
+    record { tree = t; structure = structure_number t; fields = map field_number t.structures; ancestors = all_ancestors (structure_number t) (asked_structures t); fixed = fixed_number t; pool = pool_number t; set = set_number t; relation = relation_number t; supply = supply_number t }
 
 -- the structure of a name as a parent, a pool's structure or a set's: `Head` is none of these
 abbrev pub used_structure : Names → List ℕ → Option ℕ
@@ -120,7 +124,8 @@ descends names i a = nat_eq i a || any_of (nat_eq a) (ancestors_of names i)
 
 -- the structure of a pool
 abbrev pub pool_structure : Names → ℕ → Option ℕ
-pool_structure names p = option_and_then (λ d. used_structure names d.structure.name) (slice_get names.tree.pools p)
+pool_structure names p =
+    option_and_then (λ d. used_structure names d.structure.name) (slice_get names.tree.pools p)
 
 -- whether a set is declared as a complement
 abbrev pub is_complement : Option View → Bool
@@ -129,7 +134,8 @@ is_complement _ = false
 
 -- the set of a name where no complement may stand
 abbrev pub plain_number : Names → ℕ → Option ℕ
-plain_number names n = option_and_then (λ s. if is_complement s.view then None else Some n) (slice_get names.tree.sets n)
+plain_number names n =
+    option_and_then (λ s. if is_complement s.view then None else Some n) (slice_get names.tree.sets n)
 
 abbrev pub plain_set : Names → List ℕ → Option ℕ
 plain_set names q = option_and_then (plain_number names) (names.set q)

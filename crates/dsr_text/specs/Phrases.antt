@@ -27,6 +27,10 @@ in_turn phrase (x ∷ xs) = phrase x ▸ in_turn phrase xs
 -- the phrase stands first among tokens, which go on with the others: its tokens are these, at the places that it keeps
 pub data Says : Phrase → List Lexeme → List Lexeme → Type 0 where
   says_nothing : (rest : List Lexeme) → Says silent rest rest
-  says : (t : Token) (place : ℕ) (rest : List Lexeme) → Says (said t) (record { token = t; place = place } ∷ rest) rest
-  says_at : (t : Token) (place : ℕ) (rest : List Lexeme) → Says (said_at t place) (record { token = t; place = place } ∷ rest) rest
+  says :
+      (t : Token) (place : ℕ) (rest : List Lexeme)
+      → Says (said t) (record { token = t; place = place } ∷ rest) rest
+  says_at :
+      (t : Token) (place : ℕ) (rest : List Lexeme)
+      → Says (said_at t place) (record { token = t; place = place } ∷ rest) rest
   says_both : {a b : Phrase} {x y z : List Lexeme} → Says a x y → Says b y z → Says (a ▸ b) x z

@@ -47,9 +47,17 @@ pub record IsNoToken (text : List ℕ) (place : ℕ) : Type 0 where
 
 -- the place of the first token that continues no text of the grammar, whatever the limits; or the text's end, where its tokens only begin one
 pub data IsUnexpected (text : List ℕ) : ℕ → Type 0 where
-  at_token : (before : List Lexeme) (found : Lexeme) → StandFirst text (before ++ found ∷ []) → IsFront before → ((over : Bool) → LeadsOn before found.token over → ⊥) → IsUnexpected text found.place
-  at_end : (ls : List Lexeme) → IsLexed text ls → IsFront ls → (IsSentence ls → ⊥) → IsUnexpected text (length text)
+  at_token :
+      (before : List Lexeme) (found : Lexeme) → StandFirst text (before ++ found ∷ [])
+      → IsFront before → ((over : Bool) → LeadsOn before found.token over → ⊥)
+      → IsUnexpected text found.place
+  at_end :
+      (ls : List Lexeme) → IsLexed text ls → IsFront ls → (IsSentence ls → ⊥)
+      → IsUnexpected text (length text)
 
 -- the place of the first token that continues some text of the grammar, and always goes over a limit
 pub data IsPastLimit (text : List ℕ) : ℕ → Type 0 where
-  past_limit : (before : List Lexeme) (found : Lexeme) → StandFirst text (before ++ found ∷ []) → IsFront before → LeadsOn before found.token true → (LeadsOn before found.token false → ⊥) → IsPastLimit text found.place
+  past_limit :
+      (before : List Lexeme) (found : Lexeme) → StandFirst text (before ++ found ∷ [])
+      → IsFront before → LeadsOn before found.token true → (LeadsOn before found.token false → ⊥)
+      → IsPastLimit text found.place

@@ -70,11 +70,23 @@ pub record Marked : Type 0 where
 
 -- the texts of a right side, where `rule` has the production of each part, between what is counted before it and behind it
 pub data Derives (rule : Part → Syntax) : Syntax → ℕ → ℕ → List Marked → Type 0 where
-  one : (charge : Charge) (class : Class) (n : ℕ) (t : Token) → IsOf class t → Derives rule (One charge class) n (count_after charge n) (record { token = t; over = is_over charge n } ∷ [])
+  one :
+      (charge : Charge) (class : Class) (n : ℕ) (t : Token) → IsOf class t
+      → Derives rule (One charge class) n (count_after charge n) (record { token = t; over = is_over charge n } ∷ [])
   empty : (n : ℕ) → Derives rule Empty n n []
-  both : {a b : Syntax} {n k m : ℕ} {x y : List Marked} → Derives rule a n k x → Derives rule b k m y → Derives rule (Then a b) n m (x ++ y)
-  left : {a b : Syntax} {n m : ℕ} {x : List Marked} → Derives rule a n m x → Derives rule (Either a b) n m x
-  right : {a b : Syntax} {n m : ℕ} {x : List Marked} → Derives rule b n m x → Derives rule (Either a b) n m x
+  both :
+      {a b : Syntax} {n k m : ℕ} {x y : List Marked} → Derives rule a n k x → Derives rule b k m y
+      → Derives rule (Then a b) n m (x ++ y)
+  left :
+      {a b : Syntax} {n m : ℕ} {x : List Marked} → Derives rule a n m x
+      → Derives rule (Either a b) n m x
+  right :
+      {a b : Syntax} {n m : ℕ} {x : List Marked} → Derives rule b n m x
+      → Derives rule (Either a b) n m x
   no_more : {a : Syntax} (n : ℕ) → Derives rule (Many a) n n []
-  more : {a : Syntax} {n k m : ℕ} {x y : List Marked} → Derives rule a n k x → Derives rule (Many a) k m y → Derives rule (Many a) n m (x ++ y)
-  part : {p : Part} {n m : ℕ} {x : List Marked} → Derives rule (rule p) n m x → Derives rule (The p) n m x
+  more :
+      {a : Syntax} {n k m : ℕ} {x y : List Marked} → Derives rule a n k x
+      → Derives rule (Many a) k m y → Derives rule (Many a) n m (x ++ y)
+  part :
+      {p : Part} {n m : ℕ} {x : List Marked} → Derives rule (rule p) n m x
+      → Derives rule (The p) n m x

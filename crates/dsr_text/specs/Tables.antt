@@ -88,11 +88,14 @@ typed_content names (Some (contents.Refers place name)) = kinds.Refers (pool_in 
 
 -- a gap of n bytes is an array of n bytes without a name
 abbrev pub typed_field : Names → FieldTree → Field
-typed_field names (named f) = record { name = f.name.name; fixed = is_some f.fixed; width = typed_width f.width; len = option_map (typed_expr names.fixed) f.length; kind = typed_content names f.content }
-typed_field names (skipped place length) = record { name = []; fixed = false; width = widths.U8; len = Some (typed_expr names.fixed length); kind = kinds.Gap }
+typed_field names (named f) =
+    record { name = f.name.name; fixed = is_some f.fixed; width = typed_width f.width; len = option_map (typed_expr names.fixed) f.length; kind = typed_content names f.content }
+typed_field names (skipped place length) =
+    record { name = []; fixed = false; width = widths.U8; len = Some (typed_expr names.fixed length); kind = kinds.Gap }
 
 abbrev pub typed_structure : Names → StructureTree → Structure
-typed_structure names s = record { name = s.name.name; parent = option_map (number_in (used_structure names)) s.parent; fields = map (typed_field names) s.fields }
+typed_structure names s =
+    record { name = s.name.name; parent = option_map (number_in (used_structure names)) s.parent; fields = map (typed_field names) s.fields }
 
 -- ---- pools, and the sets that their supplies avoid
 
@@ -100,17 +103,20 @@ abbrev pub avoided_by : Names → Fresh → List ℕ
 avoided_by names f = map (number_in names.set) (f.first ∷ f.rest)
 
 abbrev pub avoided : Names → List ℕ → Option (List ℕ)
-avoided names pool = option_map (avoided_by names) (option_and_then (slice_get names.tree.supplies) (names.supply pool))
+avoided names pool =
+    option_map (avoided_by names) (option_and_then (slice_get names.tree.supplies) (names.supply pool))
 
 abbrev pub typed_pool : Names → PoolTree → Pool
-typed_pool names p = record { name = p.name.name; structure = number_in (used_structure names) p.structure; count = typed_expr names.fixed p.count; slot = option_map (typed_expr names.fixed) p.slot; start = typed_expr names.fixed p.start; code = typed_expr names.fixed p.code; step = typed_expr names.fixed p.step; none = typed_expr names.fixed p.none; avoid = avoided names p.name.name }
+typed_pool names p =
+    record { name = p.name.name; structure = number_in (used_structure names) p.structure; count = typed_expr names.fixed p.count; slot = option_map (typed_expr names.fixed) p.slot; start = typed_expr names.fixed p.start; code = typed_expr names.fixed p.code; step = typed_expr names.fixed p.step; none = typed_expr names.fixed p.none; avoid = avoided names p.name.name }
 
 -- ---- sets and relations
 
 -- the structure by which a set is read: its pool's, or one that is named
 abbrev pub set_structure : Names → Set → Option View → ℕ
 set_structure names s (Some (views.As place q)) = number_in (used_structure names) q
-set_structure names s _ = unwrap_or (option_and_then (pool_structure names) (names.pool s.pool.name)) 0
+set_structure names s _ =
+    unwrap_or (option_and_then (pool_structure names) (names.pool s.pool.name)) 0
 
 -- the set of which a set is the complement
 abbrev pub typed_except : Names → Option View → Option ℕ
@@ -118,7 +124,8 @@ typed_except names (Some (views.Except place q)) = Some (number_in names.set q)
 typed_except names _ = None
 
 abbrev pub typed_set : Names → Set → SetDecl
-typed_set names s = record { name = s.name.name; pool = pool_in names s.pool; structure = set_structure names s s.view; except = typed_except names s.view }
+typed_set names s =
+    record { name = s.name.name; pool = pool_in names s.pool; structure = set_structure names s s.view; except = typed_except names s.view }
 
 abbrev pub typed_source : Names → Var → ℕ
 typed_source names (vars.Head place) = 0
@@ -129,7 +136,8 @@ typed_target names (targets.Number place) = None
 typed_target names (targets.Pool q) = Some (pool_in names q)
 
 abbrev pub typed_relation : Names → Relation → Rel
-typed_relation names r = record { name = r.name.name; source = typed_source names r.source; target = typed_target names r.target }
+typed_relation names r =
+    record { name = r.name.name; source = typed_source names r.source; target = typed_target names r.target }
 
 -- ---- all declarations before the rules
 
@@ -138,7 +146,8 @@ abbrev pub version_of : ℕ → ℕ
 version_of n = if nat_eq n 2 then 2 else 1
 
 abbrev pub tables_with : Names → Structures
-tables_with names = record { version = version_of names.tree.version.number; order = names.tree.order; head = unwrap_or (names.structure (codes "Head")) 0; structures = map (typed_structure names) names.tree.structures; pools = map (typed_pool names) names.tree.pools; sets = map (typed_set names) names.tree.sets; rels = map (typed_relation names) names.tree.relations }
+tables_with names =
+    record { version = version_of names.tree.version.number; order = names.tree.order; head = unwrap_or (names.structure (codes "Head")) 0; structures = map (typed_structure names) names.tree.structures; pools = map (typed_pool names) names.tree.pools; sets = map (typed_set names) names.tree.sets; rels = map (typed_relation names) names.tree.relations }
 
 -- the tables of structures, pools, sets, relations and supplies
 abbrev pub tables : TreeShape → Structures

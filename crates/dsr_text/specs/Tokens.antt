@@ -123,10 +123,19 @@ is_keyword second _ = true
 
 -- how each token is spelled, whatever its size; `second` says whether the text is of version 2
 pub data Spells (second : Bool) : List ℕ → Token → Type 0 where
-  a_keyword : (k : Keyword) → IsTrue (is_keyword second k) → Spells second (keyword_spelling k) (token.Keyword k)
-  a_name : (b : ℕ) (bytes : List ℕ) → IsTrue (is_letter b) → IsTrue (every is_in_word bytes) → ((k : Keyword) → IsTrue (is_keyword second k) → b ∷ bytes ≢ keyword_spelling k) → Spells second (b ∷ bytes) (token.Name (b ∷ bytes))
-  a_decimal : (d : ℕ) (digits : List ℕ) → IsTrue (every is_digit (d ∷ digits)) → Spells second (d ∷ digits) (token.Number (value_after 10 0 (d ∷ digits)))
-  a_hexadecimal : (d : ℕ) (digits : List ℕ) → IsTrue (every is_hexadecimal_digit (d ∷ digits)) → Spells second (codes "0x" ++ d ∷ digits) (token.Number (value_after 16 0 (d ∷ digits)))
+  a_keyword :
+      (k : Keyword) → IsTrue (is_keyword second k)
+      → Spells second (keyword_spelling k) (token.Keyword k)
+  a_name :
+      (b : ℕ) (bytes : List ℕ) → IsTrue (is_letter b) → IsTrue (every is_in_word bytes)
+      → ((k : Keyword) → IsTrue (is_keyword second k) → b ∷ bytes ≢ keyword_spelling k)
+      → Spells second (b ∷ bytes) (token.Name (b ∷ bytes))
+  a_decimal :
+      (d : ℕ) (digits : List ℕ) → IsTrue (every is_digit (d ∷ digits))
+      → Spells second (d ∷ digits) (token.Number (value_after 10 0 (d ∷ digits)))
+  a_hexadecimal :
+      (d : ℕ) (digits : List ℕ) → IsTrue (every is_hexadecimal_digit (d ∷ digits))
+      → Spells second (codes "0x" ++ d ∷ digits) (token.Number (value_after 16 0 (d ∷ digits)))
   a_sign : (s : Sign) → Spells second (sign_spelling s) (token.Sign s)
 
 -- names of at most 32 bytes, and numbers of 64 bits
@@ -138,7 +147,9 @@ IsWithinLimits _ = Unit {0}
 -- a token before the rest of a text: its spelling is the longest that fits there, and it is within the limits
 pub record Stands (second : Bool) (bytes : List ℕ) (found : Token) (rest : List ℕ) : Type 0 where
   pub spelled : Spells second bytes found
-  pub longest : (other : Token) (longer after : List ℕ) → Spells second longer other → bytes ++ rest ≡ longer ++ after → length longer ≤ length bytes
+  pub longest :
+      (other : Token) (longer after : List ℕ) → Spells second longer other
+      → bytes ++ rest ≡ longer ++ after → length longer ≤ length bytes
   pub limits : IsWithinLimits found
 
 -- nothing, or what begins with a line feed
@@ -149,13 +160,20 @@ EndsLine (b ∷ rest) = b ≡ 10
 -- what stands at a place before the rest of a text, with its tokens: a blank, a comment from `#` to the end of its line, or a token
 pub data Begins (second : Bool) (place : ℕ) : List ℕ → List ℕ → List Lexeme → Type 0 where
   a_blank : (b : ℕ) (rest : List ℕ) → IsTrue (is_blank b) → Begins second place (b ∷ []) rest []
-  a_comment : (bytes rest : List ℕ) → IsTrue (every is_in_line bytes) → EndsLine rest → Begins second place (35 ∷ bytes) rest []
-  a_token : (bytes rest : List ℕ) (found : Token) → Stands second bytes found rest → Begins second place bytes rest (record { token = found; place = place } ∷ [])
+  a_comment :
+      (bytes rest : List ℕ) → IsTrue (every is_in_line bytes) → EndsLine rest
+      → Begins second place (35 ∷ bytes) rest []
+  a_token :
+      (bytes rest : List ℕ) (found : Token) → Stands second bytes found rest
+      → Begins second place bytes rest (record { token = found; place = place } ∷ [])
 
 -- a text at a place, cut into the tokens of its front and what is left at a later place
 pub data IsCut (second : Bool) : ℕ → List ℕ → List Lexeme → ℕ → List ℕ → Type 0 where
   here : {place : ℕ} {text : List ℕ} → IsCut second place text [] place text
-  further : {place : ℕ} {bytes rest : List ℕ} {found : List Lexeme} {more : List Lexeme} {to : ℕ} {left : List ℕ} → Begins second place bytes rest found → IsCut second (place + length bytes) rest more to left → IsCut second place (bytes ++ rest) (found ++ more) to left
+  further :
+      {place : ℕ} {bytes rest : List ℕ} {found : List Lexeme} {more : List Lexeme} {to : ℕ} {left : List ℕ}
+      → Begins second place bytes rest found → IsCut second (place + length bytes) rest more to left
+      → IsCut second place (bytes ++ rest) (found ++ more) to left
 
 -- `version`
 abbrev pub is_version : Token → Bool
@@ -182,4 +200,6 @@ pub record HasTokenFault (text : List ℕ) (place : ℕ) : Type 0 where
   pub left : List ℕ
   pub cut : IsCut (is_second_version before) 0 text before place left
   pub some : left ≢ []
-  pub none : (bytes rest : List ℕ) (found : List Lexeme) → Begins (is_second_version before) place bytes rest found → left ≢ bytes ++ rest
+  pub none :
+      (bytes rest : List ℕ) (found : List Lexeme)
+      → Begins (is_second_version before) place bytes rest found → left ≢ bytes ++ rest

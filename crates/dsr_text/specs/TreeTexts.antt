@@ -147,7 +147,8 @@ size_part_text name = mark sign.Dot ▸ name_text name
 
 -- what stands behind `size`
 abbrev pub size_tail_text : Size → Phrase
-size_tail_text s = mark sign.OpenParenthesis ▸ var_text s.var ▸ maybe_text size_part_text s.part ▸ mark sign.CloseParenthesis
+size_tail_text s =
+    mark sign.OpenParenthesis ▸ var_text s.var ▸ maybe_text size_part_text s.part ▸ mark sign.CloseParenthesis
 
 abbrev pub size_text : Size → Phrase
 size_text s = word_at keyword.Size s.place ▸ size_tail_text s
@@ -158,9 +159,11 @@ measure_text (measures.Size size) = size_text size
 
 abbrev pub atom_text : Atom → Phrase
 atom_text (atoms.Count size bound number) = size_text size ▸ bound_text bound ▸ number_text number
-atom_text (atoms.Pair place first second relation) = mark_at sign.Less place ▸ var_text first ▸ mark sign.Comma ▸ var_text second ▸ mark sign.Greater ▸ word keyword.In ▸ name_text relation
+atom_text (atoms.Pair place first second relation) =
+    mark_at sign.Less place ▸ var_text first ▸ mark sign.Comma ▸ var_text second ▸ mark sign.Greater ▸ word keyword.In ▸ name_text relation
 atom_text (atoms.Member var set) = var_text var ▸ word keyword.In ▸ name_text set
-atom_text (atoms.Value var relation compare measure) = var_text var ▸ mark sign.Dot ▸ name_text relation ▸ compare_text compare ▸ measure_text measure
+atom_text (atoms.Value var relation compare measure) =
+    var_text var ▸ mark sign.Dot ▸ name_text relation ▸ compare_text compare ▸ measure_text measure
 
 abbrev mutual
   pub formula_text : FormulaTree → Phrase
@@ -211,17 +214,20 @@ abbrev pub fixed_text : ℕ → Phrase
 fixed_text place = word_at keyword.Fixed place
 
 abbrev pub named_field_text : NamedFieldTree → Phrase
-named_field_text f = maybe_text fixed_text f.fixed ▸ width_text f.width ▸ name_text f.name ▸ maybe_text brackets_text f.length ▸ maybe_text content_text f.content ▸ mark sign.Semicolon
+named_field_text f =
+    maybe_text fixed_text f.fixed ▸ width_text f.width ▸ name_text f.name ▸ maybe_text brackets_text f.length ▸ maybe_text content_text f.content ▸ mark sign.Semicolon
 
 abbrev pub field_text : FieldTree → Phrase
 field_text (named field) = named_field_text field
-field_text (skipped place length) = (word_at keyword.Skip place ▸ expr_text length) ▸ mark sign.Semicolon
+field_text (skipped place length) =
+    (word_at keyword.Skip place ▸ expr_text length) ▸ mark sign.Semicolon
 
 abbrev pub parent_text : PlacedName → Phrase
 parent_text parent = word keyword.Extends ▸ name_text parent
 
 abbrev pub structure_text : StructureTree → Phrase
-structure_text s = word_at keyword.Structure s.place ▸ name_text s.name ▸ maybe_text parent_text s.parent ▸ mark sign.OpenBrace ▸ in_turn field_text s.fields ▸ mark sign.CloseBrace
+structure_text s =
+    word_at keyword.Structure s.place ▸ name_text s.name ▸ maybe_text parent_text s.parent ▸ mark sign.OpenBrace ▸ in_turn field_text s.fields ▸ mark sign.CloseBrace
 
 -- ---- pools, sets, relations, supplies
 
@@ -230,27 +236,31 @@ abbrev pub behind_text : Keyword → ExprTree → Phrase
 behind_text k e = word k ▸ expr_text e
 
 abbrev pub pool_text : PoolTree → Phrase
-pool_text p = word_at keyword.Pool p.place ▸ name_text p.name ▸ mark sign.Colon ▸ name_text p.structure ▸ brackets_text p.count ▸ maybe_text (behind_text keyword.Slot) p.slot ▸ behind_text keyword.At p.start ▸ behind_text keyword.Codes p.code ▸ behind_text keyword.Step p.step ▸ behind_text keyword.None p.none ▸ mark sign.Semicolon
+pool_text p =
+    word_at keyword.Pool p.place ▸ name_text p.name ▸ mark sign.Colon ▸ name_text p.structure ▸ brackets_text p.count ▸ maybe_text (behind_text keyword.Slot) p.slot ▸ behind_text keyword.At p.start ▸ behind_text keyword.Codes p.code ▸ behind_text keyword.Step p.step ▸ behind_text keyword.None p.none ▸ mark sign.Semicolon
 
 abbrev pub view_text : View → Phrase
 view_text (views.As place structure) = word_at keyword.As place ▸ name_text structure
 view_text (views.Except place set) = word_at keyword.Except place ▸ name_text set
 
 abbrev pub set_text : Set → Phrase
-set_text s = word_at keyword.Set s.place ▸ name_text s.name ▸ word keyword.Of ▸ name_text s.pool ▸ maybe_text view_text s.view ▸ mark sign.Semicolon
+set_text s =
+    word_at keyword.Set s.place ▸ name_text s.name ▸ word keyword.Of ▸ name_text s.pool ▸ maybe_text view_text s.view ▸ mark sign.Semicolon
 
 abbrev pub target_text : Target → Phrase
 target_text (targets.Number place) = word_at keyword.Number place
 target_text (targets.Pool name) = name_text name
 
 abbrev pub relation_text : Relation → Phrase
-relation_text r = word_at keyword.Relation r.place ▸ name_text r.name ▸ mark sign.Colon ▸ var_text r.source ▸ mark sign.Arrow ▸ target_text r.target ▸ mark sign.Semicolon
+relation_text r =
+    word_at keyword.Relation r.place ▸ name_text r.name ▸ mark sign.Colon ▸ var_text r.source ▸ mark sign.Arrow ▸ target_text r.target ▸ mark sign.Semicolon
 
 abbrev pub more_name_text : PlacedName → Phrase
 more_name_text name = mark sign.Comma ▸ name_text name
 
 abbrev pub fresh_text : Fresh → Phrase
-fresh_text f = word_at keyword.Fresh f.place ▸ name_text f.pool ▸ word keyword.Avoid ▸ name_text f.first ▸ in_turn more_name_text f.rest ▸ mark sign.Semicolon
+fresh_text f =
+    word_at keyword.Fresh f.place ▸ name_text f.pool ▸ word keyword.Avoid ▸ name_text f.first ▸ in_turn more_name_text f.rest ▸ mark sign.Semicolon
 
 -- ---- rules
 
@@ -282,8 +292,10 @@ abbrev pub test_text : RefTest × ℕ → Phrase
 test_text test = word_at (test_word test.0) test.1
 
 abbrev pub guard_text : Guard → Phrase
-guard_text (guards.Tested place test path) = test_text (test, place) ▸ mark sign.OpenParenthesis ▸ path_text path ▸ mark sign.CloseParenthesis
-guard_text (guards.Compared path compare number) = path_text path ▸ compare_text compare ▸ number_text number
+guard_text (guards.Tested place test path) =
+    test_text (test, place) ▸ mark sign.OpenParenthesis ▸ path_text path ▸ mark sign.CloseParenthesis
+guard_text (guards.Compared path compare number) =
+    path_text path ▸ compare_text compare ▸ number_text number
 
 abbrev pub more_guard_text : Guard → Phrase
 more_guard_text guard = word keyword.And ▸ guard_text guard
@@ -296,35 +308,43 @@ term_text (terms.Head place) = word_at keyword.Head place
 term_text (terms.Named name index) = name_text name ▸ maybe_text index_text index
 
 abbrev pub member_part_text : MemberPart → Phrase
-member_part_text (member_parts.Field field index) = mark sign.Dot ▸ name_text field ▸ maybe_text index_text index
-member_part_text (member_parts.Slot index) = mark sign.OpenBracket ▸ name_text index ▸ mark sign.CloseBracket
+member_part_text (member_parts.Field field index) =
+    mark sign.Dot ▸ name_text field ▸ maybe_text index_text index
+member_part_text (member_parts.Slot index) =
+    mark sign.OpenBracket ▸ name_text index ▸ mark sign.CloseBracket
 
 abbrev pub member_text : Member → Phrase
 member_text m = var_text m.var ▸ maybe_text member_part_text m.part
 
 abbrev pub inclusion_text : Inclusion → Phrase
-inclusion_text (inclusions.Pair place term path relation) = mark_at sign.Less place ▸ term_text term ▸ mark sign.Comma ▸ path_text path ▸ mark sign.Greater ▸ word keyword.In ▸ name_text relation
+inclusion_text (inclusions.Pair place term path relation) =
+    mark_at sign.Less place ▸ term_text term ▸ mark sign.Comma ▸ path_text path ▸ mark sign.Greater ▸ word keyword.In ▸ name_text relation
 inclusion_text (inclusions.Member member set) = member_text member ▸ word keyword.In ▸ name_text set
 
 abbrev pub rule_text : Rule → Phrase
-rule_text r = word_at keyword.Rule r.place ▸ premise_text r.premise ▸ maybe_text span_text r.span ▸ maybe_text guards_text r.guards ▸ mark sign.Gives ▸ inclusion_text r.inclusion ▸ mark sign.Semicolon
+rule_text r =
+    word_at keyword.Rule r.place ▸ premise_text r.premise ▸ maybe_text span_text r.span ▸ maybe_text guards_text r.guards ▸ mark sign.Gives ▸ inclusion_text r.inclusion ▸ mark sign.Semicolon
 
 -- ---- constraints
 
 abbrev pub binder_text : Binder → Phrase
 binder_text (binders.One name) = name_text name
-binder_text (binders.Pair place first second) = mark_at sign.Less place ▸ name_text first ▸ mark sign.Comma ▸ name_text second ▸ mark sign.Greater
+binder_text (binders.Pair place first second) =
+    mark_at sign.Less place ▸ name_text first ▸ mark sign.Comma ▸ name_text second ▸ mark sign.Greater
 
 abbrev pub quantifier_text : Quantifier → Phrase
-quantifier_text q = word_at keyword.Forall q.place ▸ binder_text q.binder ▸ word keyword.In ▸ name_text q.symbol ▸ mark sign.Colon
+quantifier_text q =
+    word_at keyword.Forall q.place ▸ binder_text q.binder ▸ word keyword.In ▸ name_text q.symbol ▸ mark sign.Colon
 
 abbrev pub constraint_text : ConstraintTree → Phrase
-constraint_text c = word_at keyword.Constraint c.place ▸ name_text c.name ▸ mark sign.Colon ▸ maybe_text quantifier_text c.quantifier ▸ formula_text c.formula ▸ mark sign.Semicolon
+constraint_text c =
+    word_at keyword.Constraint c.place ▸ name_text c.name ▸ mark sign.Colon ▸ maybe_text quantifier_text c.quantifier ▸ formula_text c.formula ▸ mark sign.Semicolon
 
 -- ---- a whole tree
 
 abbrev pub version_line : ℕ → PlacedNumber → Phrase
-version_line place version = word_at keyword.Version place ▸ number_text version ▸ mark sign.Semicolon
+version_line place version =
+    word_at keyword.Version place ▸ number_text version ▸ mark sign.Semicolon
 
 abbrev pub version_text : TreeShape → Phrase
 version_text t = version_line t.place t.version
@@ -337,4 +357,5 @@ abbrev pub order_text : Order → Phrase
 order_text order = word keyword.Order ▸ endian_text order ▸ mark sign.Semicolon
 
 abbrev pub tree_text : TreeShape → Phrase
-tree_text t = version_text t ▸ order_text t.order ▸ in_turn structure_text t.structures ▸ in_turn pool_text t.pools ▸ in_turn set_text t.sets ▸ in_turn relation_text t.relations ▸ in_turn fresh_text t.supplies ▸ in_turn rule_text t.rules ▸ in_turn constraint_text t.constraints
+tree_text t =
+    version_text t ▸ order_text t.order ▸ in_turn structure_text t.structures ▸ in_turn pool_text t.pools ▸ in_turn set_text t.sets ▸ in_turn relation_text t.relations ▸ in_turn fresh_text t.supplies ▸ in_turn rule_text t.rules ▸ in_turn constraint_text t.constraints

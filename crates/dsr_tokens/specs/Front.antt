@@ -27,7 +27,8 @@ pub record StandsAt (second : Bool) (text : List ℕ) (found : Token) (len : ℕ
 
 -- no token stands at the front
 abbrev pub NoneStands : Bool → List ℕ → Type 0
-NoneStands second text = (found : Token) (bytes rest : List ℕ) → Stands second bytes found rest → text ≢ bytes ++ rest
+NoneStands second text =
+    (found : Token) (bytes rest : List ℕ) → Stands second bytes found rest → text ≢ bytes ++ rest
 
 -- the token at the front, or that none stands there
 abbrev pub FindsFront : Bool → List ℕ → Option Found → Type 0

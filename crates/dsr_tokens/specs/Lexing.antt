@@ -16,7 +16,9 @@ pub record IsGap (text : List ℕ) (len : ℕ) : Type 0 where
 -- a blank or a comment of this length comes first, or none does
 abbrev pub FindsGap : List ℕ → Option ℕ → Type 0
 FindsGap text (Some len) = IsGap text len
-FindsGap text None = (second : Bool) (place : ℕ) (bytes rest : List ℕ) → Begins second place bytes rest [] → text ≢ bytes ++ rest
+FindsGap text None =
+    (second : Bool) (place : ℕ) (bytes rest : List ℕ) → Begins second place bytes rest []
+    → text ≢ bytes ++ rest
 
 -- a step from a place to a later one
 pub record Steps (old new : List Lexeme) (text : List ℕ) (place next : ℕ) : Type 0 where
@@ -31,13 +33,16 @@ pub record Steps (old new : List Lexeme) (text : List ℕ) (place next : ℕ) : 
 -- a step, or that none can be made
 abbrev pub StepsOn : List Lexeme → List Lexeme → List ℕ → ℕ → Result (Option ℕ) NoMemory → Type 0
 StepsOn old new text place (Ok (Some next)) = Steps old new text place next
-StepsOn old new text place (Ok None) = (new ≡ old) × ((bytes rest : List ℕ) (found : List Lexeme) → Begins (is_second_version old) place bytes rest found → drop place text ≢ bytes ++ rest)
+StepsOn old new text place (Ok None) =
+    (new ≡ old)
+    × ((bytes rest : List ℕ) (found : List Lexeme) → Begins (is_second_version old) place bytes rest found → drop place text ≢ bytes ++ rest)
 StepsOn old new text place (Err _) = Unit {0}
 
 -- the tokens of a text, or those before the place of its first bytes that are none
 abbrev pub AreFrontTokens : List ℕ → List Lexeme → Option ℕ → Type 0
 AreFrontTokens text lexemes None = IsLexed text lexemes
-AreFrontTokens text lexemes (Some place) = (fault : HasTokenFault text place) × (fault.before ≡ lexemes)
+AreFrontTokens text lexemes (Some place) =
+    (fault : HasTokenFault text place) × (fault.before ≡ lexemes)
 
 -- the tokens of a text, or the place where it has none
 abbrev pub Lexes : List ℕ → Result (Vec Lexeme Global) TokenFault → Type 0

@@ -22,4 +22,5 @@ kind_number conditions.TooManyAtoms = 13
 
 -- the least place comes first, and at one place the condition of the least number
 abbrev pub is_before : Fault → Fault → Bool
-is_before f g = nat_lt f.place g.place || (nat_eq f.place g.place && nat_lt (kind_number f.condition) (kind_number g.condition))
+is_before f g =
+    nat_lt f.place g.place || (nat_eq f.place g.place && nat_lt (kind_number f.condition) (kind_number g.condition))

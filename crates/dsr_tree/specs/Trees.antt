@@ -43,7 +43,8 @@ mutual
 
   pub data MoreFactorTrees : Type 0 where
     no_factors : MoreFactorTrees
-    more_factors : (sign : ProductSign) (factor : FactorTree) (rest : MoreFactorTrees) → MoreFactorTrees
+    more_factors :
+        (sign : ProductSign) (factor : FactorTree) (rest : MoreFactorTrees) → MoreFactorTrees
 
   pub data FactorTree : Type 0 where
     number_tree : (number : PlacedNumber) → FactorTree
@@ -166,7 +167,8 @@ pub data FieldTree : Type 0 where
   skipped : (place : ℕ) (length : ExprTree) → FieldTree
 
 abbrev pub named_shape : NamedField → NamedFieldTree
-named_shape f = record { fixed = f.fixed; width = f.width; name = f.name; length = option_map expr_shape f.length; content = f.content }
+named_shape f =
+    record { fixed = f.fixed; width = f.width; name = f.name; length = option_map expr_shape f.length; content = f.content }
 
 -- the shape of a field
 abbrev pub field_shape : Field → FieldTree
@@ -182,7 +184,8 @@ pub record StructureTree : Type 0 where
 
 -- the shape of a structure
 abbrev pub structure_shape : Structure → StructureTree
-structure_shape s = record { place = s.place; name = s.name; parent = s.parent; fields = map field_shape s.fields }
+structure_shape s =
+    record { place = s.place; name = s.name; parent = s.parent; fields = map field_shape s.fields }
 
 -- a pool
 pub record PoolTree : Type 0 where
@@ -198,7 +201,8 @@ pub record PoolTree : Type 0 where
 
 -- the shape of a pool
 abbrev pub pool_shape : Pool → PoolTree
-pool_shape p = record { place = p.place; name = p.name; structure = p.structure; count = expr_shape p.count; slot = option_map expr_shape p.slot; start = expr_shape p.start; code = expr_shape p.code; step = expr_shape p.step; none = expr_shape p.none }
+pool_shape p =
+    record { place = p.place; name = p.name; structure = p.structure; count = expr_shape p.count; slot = option_map expr_shape p.slot; start = expr_shape p.start; code = expr_shape p.code; step = expr_shape p.step; none = expr_shape p.none }
 
 -- a constraint
 pub record ConstraintTree : Type 0 where
@@ -209,7 +213,8 @@ pub record ConstraintTree : Type 0 where
 
 -- the shape of a constraint
 abbrev pub constraint_shape : Constraint → ConstraintTree
-constraint_shape c = record { place = c.place; name = c.name; quantifier = c.quantifier; formula = formula_shape c.formula }
+constraint_shape c =
+    record { place = c.place; name = c.name; quantifier = c.quantifier; formula = formula_shape c.formula }
 
 -- a whole tree
 pub record TreeShape : Type 0 where
@@ -226,4 +231,5 @@ pub record TreeShape : Type 0 where
 
 -- the shape of a tree
 abbrev pub tree_shape : Tree → TreeShape
-tree_shape t = record { place = t.place; version = t.version; order = t.order; structures = map structure_shape t.structures; pools = map pool_shape t.pools; sets = t.sets; relations = t.relations; supplies = t.supplies; rules = t.rules; constraints = map constraint_shape t.constraints }
+tree_shape t =
+    record { place = t.place; version = t.version; order = t.order; structures = map structure_shape t.structures; pools = map pool_shape t.pools; sets = t.sets; relations = t.relations; supplies = t.supplies; rules = t.rules; constraints = map constraint_shape t.constraints }

@@ -58,12 +58,14 @@ variable_faults scope (var_trees.Name q) = unknown (named_variable scope.binder 
 -- a relation to numbers binds no records
 abbrev pub gives_numbers : Known → Binder → List ℕ → Bool
 gives_numbers known (binders.One name) q = false
-gives_numbers known (binders.Pair place first second) q = option_map_or (λ r. is_none r.target) (relation_named known q) false
+gives_numbers known (binders.Pair place first second) q =
+    option_map_or (λ r. is_none r.target) (relation_named known q) false
 
 -- both variables have one name
 abbrev pub binder_faults : Binder → List Fault
 binder_faults (binders.One name) = []
-binder_faults (binders.Pair place first second) = when (bytes_eq first.name second.name) conditions.NameTwice second.place
+binder_faults (binders.Pair place first second) =
+    when (bytes_eq first.name second.name) conditions.NameTwice second.place
 
 abbrev pub symbol_faults : Known → Binder → PlacedName → List Fault
 symbol_faults known (binders.One name) q = unknown (known.set q.name) q
@@ -116,13 +118,15 @@ size_mismatches scope a (Some b) =
 -- what is counted are numbers
 abbrev pub counts_numbers : Scope → VarTree → Option PlacedName → Bool
 counts_numbers scope a None = false
-counts_numbers scope a (Some b) = counts_targets scope a b && option_map_or (λ r. is_none r.target) (relation_named scope.known b.name) false
+counts_numbers scope a (Some b) =
+    counts_targets scope a b && option_map_or (λ r. is_none r.target) (relation_named scope.known b.name) false
 
 -- ---- constants
 
 -- the field whose values an inclusion gives to a relation, where that is known
 abbrev pub inclusion_field : Known → ℕ → rules.Scope → Inclusion → Option FieldRef
-inclusion_field known rel scope (inclusions.Pair place term path relation) = if is_at rel (known.relation relation.name) then rules.path_field scope path.var path.field else None
+inclusion_field known rel scope (inclusions.Pair place term path relation) =
+    if is_at rel (known.relation relation.name) then rules.path_field scope path.var path.field else None
 inclusion_field known rel scope (inclusions.Member member set) = None
 
 abbrev pub value_field : Known → ℕ → Rule → Option FieldRef
@@ -135,7 +139,8 @@ is_too_narrow k f = nat_le (2 ^ width_bits f.width) k
 -- a constant is too great for the field of some rule of a relation
 abbrev pub is_too_great : Known → List Rule → ℕ → Option ℕ → Bool
 is_too_great known rs k None = false
-is_too_great known rs k (Some rel) = any_of (λ r. field_is known.base (is_too_narrow k) (value_field known rel r)) rs
+is_too_great known rs k (Some rel) =
+    any_of (λ r. field_is known.base (is_too_narrow k) (value_field known rel r)) rs
 
 -- ---- atoms
 
@@ -146,10 +151,12 @@ measure_names scope (measures.Size size) = size_names scope size.var size.part
 
 abbrev pub measure_mismatches : Scope → Measure → Bool
 measure_mismatches scope (measures.Number number) = false
-measure_mismatches scope (measures.Size size) = size_mismatches scope size.var size.part || counts_numbers scope size.var size.part
+measure_mismatches scope (measures.Size size) =
+    size_mismatches scope size.var size.part || counts_numbers scope size.var size.part
 
 abbrev pub measure_faults : Known → List Rule → Option ℕ → Measure → List Fault
-measure_faults known rs rel (measures.Number number) = when (is_too_great known rs number.number rel) conditions.Width number.place
+measure_faults known rs rel (measures.Number number) =
+    when (is_too_great known rs number.number rel) conditions.Width number.place
 measure_faults known rs rel (measures.Size size) = []
 
 -- where an atom begins
@@ -162,13 +169,17 @@ atom_place (atoms.Value var relation compare measure) = rules.var_place var
 -- the names of an atom that stand for nothing
 abbrev pub atom_names : Scope → Atom → List Fault
 atom_names scope (atoms.Count size bound number) = size_names scope size.var size.part
-atom_names scope (atoms.Pair place first second relation) = variable_faults scope first ++ (variable_faults scope second ++ unknown (scope.known.relation relation.name) relation)
-atom_names scope (atoms.Member var set) = variable_faults scope var ++ unknown (scope.known.set set.name) set
-atom_names scope (atoms.Value var relation compare measure) = variable_faults scope var ++ (unknown (scope.known.relation relation.name) relation ++ measure_names scope measure)
+atom_names scope (atoms.Pair place first second relation) =
+    variable_faults scope first ++ (variable_faults scope second ++ unknown (scope.known.relation relation.name) relation)
+atom_names scope (atoms.Member var set) =
+    variable_faults scope var ++ unknown (scope.known.set set.name) set
+atom_names scope (atoms.Value var relation compare measure) =
+    variable_faults scope var ++ (unknown (scope.known.relation relation.name) relation ++ measure_names scope measure)
 
 -- a relation has another source than the first variable, or other targets than the second
 abbrev pub pairs_others : Scope → VarTree → VarTree → Option Rel → Bool
-pairs_others scope first second rel = has_other_source rel (pool_of scope first) || has_other_target rel (pool_of scope second)
+pairs_others scope first second rel =
+    has_other_source rel (pool_of scope first) || has_other_target rel (pool_of scope second)
 
 -- a relation to records has another source than the variable, as has any to numbers
 abbrev pub values_others : Option Rel → Option ℕ → Bool
@@ -177,12 +188,16 @@ values_others (Some r) pool = is_some r.target || disagree pool (Some r.source)
 
 abbrev pub atom_mismatches : Scope → Atom → Bool
 atom_mismatches scope (atoms.Count size bound number) = size_mismatches scope size.var size.part
-atom_mismatches scope (atoms.Pair place first second relation) = pairs_others scope first second (relation_named scope.known relation.name)
-atom_mismatches scope (atoms.Member var set) = disagree (pool_of scope var) (option_map (λ s. s.pool) (set_named scope.known set.name))
-atom_mismatches scope (atoms.Value var relation compare measure) = values_others (relation_named scope.known relation.name) (pool_of scope var) || measure_mismatches scope measure
+atom_mismatches scope (atoms.Pair place first second relation) =
+    pairs_others scope first second (relation_named scope.known relation.name)
+atom_mismatches scope (atoms.Member var set) =
+    disagree (pool_of scope var) (option_map (λ s. s.pool) (set_named scope.known set.name))
+atom_mismatches scope (atoms.Value var relation compare measure) =
+    values_others (relation_named scope.known relation.name) (pool_of scope var) || measure_mismatches scope measure
 
 abbrev pub atom_constants : Scope → List Rule → Atom → List Fault
-atom_constants scope rs (atoms.Value var relation compare measure) = measure_faults scope.known rs (scope.known.relation relation.name) measure
+atom_constants scope rs (atoms.Value var relation compare measure) =
+    measure_faults scope.known rs (scope.known.relation relation.name) measure
 atom_constants scope rs _ = []
 
 -- pools and kinds are asked only where each name stands for something
@@ -283,19 +298,23 @@ own_faults known rs number i c =
 abbrev pub refusal_faults : ConstraintTree → Option Refusal → List Fault
 refusal_faults c None = []
 refusal_faults c (Some negated_value) = negations c.formula
-refusal_faults c (Some too_many_conjunctions) = when true conditions.TooManyConjunctions c.name.place
+refusal_faults c (Some too_many_conjunctions) =
+    when true conditions.TooManyConjunctions c.name.place
 refusal_faults c (Some too_many_atoms) = when true conditions.TooManyAtoms c.name.place
 
 -- the normal form is asked only where nothing else is wrong; 64 constraints are allowed, 128 in version 2
 abbrev pub form_faults : Known → List Fault → ConstraintTree → List Fault
-form_faults known [] c = refusal_faults c (refusal_of (typed_formula (scope_of known c.quantifier) c.formula))
+form_faults known [] c =
+    refusal_faults c (refusal_of (typed_formula (scope_of known c.quantifier) c.formula))
 form_faults known (fault ∷ faults) c = []
 
-abbrev pub constraint_faults : Known → List Rule → (List ℕ → Option ℕ) → ℕ → ConstraintTree → List Fault
+abbrev pub constraint_faults :
+    Known → List Rule → (List ℕ → Option ℕ) → ℕ → ConstraintTree → List Fault
 constraint_faults known rs number i c =
     when (nat_eq i (constraint_limit known.base.version)) conditions.Limit c.name.place
     ++ (own_faults known rs number i c
     ++ form_faults known (own_faults known rs number i c) c)
 
 abbrev pub constraints_faults : Known → List Rule → List ConstraintTree → List Fault
-constraints_faults known rs constraints = each_at (constraint_faults known rs (constraint_number constraints)) 0 constraints
+constraints_faults known rs constraints =
+    each_at (constraint_faults known rs (constraint_number constraints)) 0 constraints

@@ -38,12 +38,14 @@ has_field_name q f = not (is_gap f.kind) && bytes_eq f.name q
 
 -- the field that a structure itself declares under a name
 abbrev pub own_field : Structures → List ℕ → ℕ → Option FieldRef
-own_field base q i = option_and_then (λ s. option_map (λ k. record { structure = i; field = k }) (position_from (has_field_name q) 0 s.fields)) (slice_get base.structures i)
+own_field base q i =
+    option_and_then (λ s. option_map (λ k. record { structure = i; field = k }) (position_from (has_field_name q) 0 s.fields)) (slice_get base.structures i)
 
 -- the first of several structures to declare a field of this name
 abbrev pub first_field : Structures → List ℕ → List ℕ → Option FieldRef
 first_field base q [] = None
-first_field base q (i ∷ is) = if is_some (own_field base q i) then own_field base q i else first_field base q is
+first_field base q (i ∷ is) =
+    if is_some (own_field base q i) then own_field base q i else first_field base q is
 
 -- the field of a structure's records under a name: its own, or that of an ancestor
 abbrev pub record_field : Structures → ℕ → List ℕ → Option FieldRef
@@ -82,7 +84,8 @@ relation_named known q = option_and_then (slice_get known.base.rels) (known.rela
 
 -- the set of a number, where it is no complement
 abbrev pub plain_number : Known → ℕ → Option ℕ
-plain_number known n = option_and_then (λ s. if is_some s.except then None else Some n) (slice_get known.base.sets n)
+plain_number known n =
+    option_and_then (λ s. if is_some s.except then None else Some n) (slice_get known.base.sets n)
 
 -- the set of a name where no complement may stand
 abbrev pub plain_set : Known → List ℕ → Option ℕ

@@ -66,7 +66,8 @@ abbrev mutual
   each_part truth (MoreOf first rest) = if holds truth first then each_part truth rest else false
 
 abbrev pub literal_holds : (Atom → Bool) → Literal → Bool
-literal_holds truth literal = if literal.negated then not (truth literal.atom) else truth literal.atom
+literal_holds truth literal =
+    if literal.negated then not (truth literal.atom) else truth literal.atom
 
 -- all literals are true
 abbrev pub all_hold : (Atom → Bool) → List Literal → Bool
@@ -76,7 +77,8 @@ all_hold truth (first ∷ rest) = if literal_holds truth first then all_hold tru
 -- some conjunction has all its literals true
 abbrev pub one_holds : (Atom → Bool) → List Conj → Bool
 one_holds truth [] = false
-one_holds truth (first ∷ rest) = if all_hold truth first.literals then true else one_holds truth rest
+one_holds truth (first ∷ rest) =
+    if all_hold truth first.literals then true else one_holds truth rest
 
 -- ---- atoms
 
@@ -109,9 +111,12 @@ is_same_bound _ _ = false
 -- two atoms are the same
 abbrev pub is_same_atom : Atom → Atom → Bool
 is_same_atom (atoms.Member v s) (atoms.Member w t) = is_same_var v w && nat_eq s t
-is_same_atom (atoms.Pair a b r) (atoms.Pair c d q) = is_same_var a c && (is_same_var b d && nat_eq r q)
-is_same_atom (atoms.Count m o k) (atoms.Count n p l) = is_same_measure m n && (is_same_op o p && nat_eq k l)
-is_same_atom (atoms.Value v r o b) (atoms.Value w q p c) = is_same_var v w && (nat_eq r q && (is_same_op o p && is_same_bound b c))
+is_same_atom (atoms.Pair a b r) (atoms.Pair c d q) =
+    is_same_var a c && (is_same_var b d && nat_eq r q)
+is_same_atom (atoms.Count m o k) (atoms.Count n p l) =
+    is_same_measure m n && (is_same_op o p && nat_eq k l)
+is_same_atom (atoms.Value v r o b) (atoms.Value w q p c) =
+    is_same_var v w && (nat_eq r q && (is_same_op o p && is_same_bound b c))
 is_same_atom _ _ = false
 
 -- the atoms of a formula, in order, each as often as it stands there
@@ -135,7 +140,8 @@ has_atom (first ∷ rest) atom = if is_same_atom first atom then true else has_a
 -- the different atoms of a list, in the order in which they first stand there, behind those that were seen
 abbrev pub different : (seen atoms : List Atom) → List Atom
 different seen [] = seen
-different seen (atom ∷ rest) = different (if has_atom seen atom then seen else seen ++ atom ∷ []) rest
+different seen (atom ∷ rest) =
+    different (if has_atom seen atom then seen else seen ++ atom ∷ []) rest
 
 -- ---- limits
 

@@ -72,12 +72,15 @@ variable_faults scope q = when (not (is_this scope.name q.name)) conditions.Unkn
 
 -- a field that the record hasn't got
 abbrev pub field_faults : Scope → PlacedName → List Fault
-field_faults scope q = when (is_some scope.structure && is_none (field_of scope q.name)) conditions.UnknownName q.place
+field_faults scope q =
+    when (is_some scope.structure && is_none (field_of scope q.name)) conditions.UnknownName q.place
 
 -- the names of a path that stand for nothing; nothing is asked of the fields of another record than the rule's
 abbrev pub path_names : Scope → Var → PlacedName → List Fault
-path_names scope (vars.Head place) field = if is_none scope.name then field_faults scope field else []
-path_names scope (vars.Name q) field = if is_this scope.name q.name then field_faults scope field else variable_faults scope q
+path_names scope (vars.Head place) field =
+    if is_none scope.name then field_faults scope field else []
+path_names scope (vars.Name q) field =
+    if is_this scope.name q.name then field_faults scope field else variable_faults scope q
 
 -- an index of another name than the rule's
 abbrev pub is_foreign : Scope → Option PlacedName → Bool
@@ -87,11 +90,13 @@ is_foreign scope (Some k) = not (is_this scope.index k.name)
 -- an array is read without index, or under the slots of a pool; a scalar with one
 abbrev pub is_misread : Scope → Option FieldRef → Option PlacedName → Bool
 is_misread scope field None = field_is scope.known.base is_array field
-is_misread scope field (Some k) = field_is scope.known.base (λ f. is_scalar f || scope.over_pool) field
+is_misread scope field (Some k) =
+    field_is scope.known.base (λ f. is_scalar f || scope.over_pool) field
 
 -- an array is longer or shorter than what the index runs over
 abbrev pub has_other_length : Scope → Option FieldRef → Option PlacedName → Bool
-has_other_length scope (Some place) (Some k) = is_this scope.index k.name && (not scope.over_pool && differ scope.entries (field_length scope.known.base place))
+has_other_length scope (Some place) (Some k) =
+    is_this scope.index k.name && (not scope.over_pool && differ scope.entries (field_length scope.known.base place))
 has_other_length scope _ _ = false
 
 abbrev pub index_faults : Scope → Option FieldRef → Option PlacedName → List Fault
@@ -103,7 +108,8 @@ index_faults scope field index =
 
 -- a guard that isn't one of a form, or that compares a reference, or tests a number
 abbrev pub path_faults : Scope → Path → List Fault
-path_faults scope p = path_names scope p.var p.field ++ index_faults scope (path_field scope p.var p.field) p.index
+path_faults scope p =
+    path_names scope p.var p.field ++ index_faults scope (path_field scope p.var p.field) p.index
 
 abbrev pub guard_faults : Scope → Guard → List Fault
 guard_faults scope (guards.Tested place test path) =
@@ -118,7 +124,8 @@ guard_faults scope (guards.Compared path compare number) =
 
 -- a slot at the rule's index: the index is another one, or it doesn't count the slots of the pool
 abbrev pub counts_others : Scope → PlacedName → PlacedName → Bool
-counts_others scope pool k = is_this scope.index k.name && differ scope.entries (option_map (λ d. d.count) (pool_named scope.known pool.name))
+counts_others scope pool k =
+    is_this scope.index k.name && differ scope.entries (option_map (λ d. d.count) (pool_named scope.known pool.name))
 
 abbrev pub slot_faults : Scope → PlacedName → PlacedName → List Fault
 slot_faults scope pool k =
@@ -145,7 +152,8 @@ term_pool scope (terms.Named q (Some k)) = scope.known.pool q.name
 abbrev pub is_no_pair : Scope → Term → Path → Bool
 is_no_pair scope (terms.Head place) path = is_some scope.name
 is_no_pair scope (terms.Named q None) path = false
-is_no_pair scope (terms.Named q (Some k)) path = is_none path.index && field_is scope.known.base is_scalar (path_field scope path.var path.field)
+is_no_pair scope (terms.Named q (Some k)) path =
+    is_none path.index && field_is scope.known.base is_scalar (path_field scope path.var path.field)
 
 -- the relation has another source or other targets than the pair
 abbrev pub relates_others : Scope → Term → Path → Option Rel → Bool
@@ -155,7 +163,8 @@ relates_others scope term path (Some r) =
     || field_is scope.known.base (λ f. is_other_target (kind_pool f.kind) r.target) (path_field scope path.var path.field)
 
 abbrev pub pair_mismatches : Scope → Term → Path → Option Rel → Bool
-pair_mismatches scope term path rel = is_no_pair scope term path || (is_other_head scope path.var || relates_others scope term path rel)
+pair_mismatches scope term path rel =
+    is_no_pair scope term path || (is_other_head scope path.var || relates_others scope term path rel)
 
 -- the member of a set
 abbrev pub member_names : Scope → Var → Option MemberPart → List Fault
@@ -165,7 +174,8 @@ member_names scope (vars.Name q) (Some (parts.Slot k)) = unknown (scope.known.po
 member_names scope (vars.Name q) None = variable_faults scope q
 
 abbrev pub member_faults : Scope → Var → Option MemberPart → List Fault
-member_faults scope var (Some (parts.Field field index)) = index_faults scope (path_field scope var field) index
+member_faults scope var (Some (parts.Field field index)) =
+    index_faults scope (path_field scope var field) index
 member_faults scope (vars.Name q) (Some (parts.Slot k)) = slot_faults scope q k
 member_faults scope _ _ = []
 
@@ -176,7 +186,8 @@ member_pool scope q _ = scope.pool
 
 -- the set, whose pool may be known, has another one than the member, or the member is no record
 abbrev pub member_mismatches : Scope → Var → Option MemberPart → Option ℕ → Bool
-member_mismatches scope var (Some (parts.Field field index)) pool = is_other_head scope var || field_is scope.known.base (refers_elsewhere pool) (path_field scope var field)
+member_mismatches scope var (Some (parts.Field field index)) pool =
+    is_other_head scope var || field_is scope.known.base (refers_elsewhere pool) (path_field scope var field)
 member_mismatches scope (vars.Head place) _ pool = true
 member_mismatches scope (vars.Name q) part pool = disagree (member_pool scope q part) pool
 
@@ -189,7 +200,8 @@ inclusion_place (inclusions.Member member set) = var_place member.var
 abbrev pub inclusion_names : Scope → Inclusion → List Fault
 inclusion_names scope (inclusions.Pair place term path relation) =
     unknown (scope.known.relation relation.name) relation ++ (term_names scope term ++ path_names scope path.var path.field)
-inclusion_names scope (inclusions.Member member set) = unknown (plain_set scope.known set.name) set ++ member_names scope member.var member.part
+inclusion_names scope (inclusions.Member member set) =
+    unknown (plain_set scope.known set.name) set ++ member_names scope member.var member.part
 
 -- what is wrong with its indexes
 abbrev pub inclusion_indexes : Scope → Inclusion → List Fault
@@ -198,8 +210,10 @@ inclusion_indexes scope (inclusions.Pair place term path relation) =
 inclusion_indexes scope (inclusions.Member member set) = member_faults scope member.var member.part
 
 abbrev pub inclusion_mismatches : Scope → Inclusion → Bool
-inclusion_mismatches scope (inclusions.Pair place term path relation) = pair_mismatches scope term path (relation_named scope.known relation.name)
-inclusion_mismatches scope (inclusions.Member member set) = member_mismatches scope member.var member.part (option_map (λ s. s.pool) (plain_named scope.known set.name))
+inclusion_mismatches scope (inclusions.Pair place term path relation) =
+    pair_mismatches scope term path (relation_named scope.known relation.name)
+inclusion_mismatches scope (inclusions.Member member set) =
+    member_mismatches scope member.var member.part (option_map (λ s. s.pool) (plain_named scope.known set.name))
 
 -- pools and kinds are asked only where each name stands for something
 abbrev pub inclusion_faults : Scope → Inclusion → List Fault
@@ -216,12 +230,15 @@ premise_faults known (premises.Member name set) = unknown (plain_set known set.n
 
 -- an index over a pool under another premise than `head`, or over a scalar
 abbrev pub span_index_faults : Scope → Index → List Fault
-span_index_faults scope (indexes.Pool place pool) = when (is_some scope.name) conditions.BadIndex scope.place ++ unknown (scope.known.pool pool.name) pool
-span_index_faults scope (indexes.Array name) = field_faults scope name ++ when (field_is scope.known.base is_scalar (field_of scope name.name)) conditions.BadIndex scope.place
+span_index_faults scope (indexes.Pool place pool) =
+    when (is_some scope.name) conditions.BadIndex scope.place ++ unknown (scope.known.pool pool.name) pool
+span_index_faults scope (indexes.Array name) =
+    field_faults scope name ++ when (field_is scope.known.base is_scalar (field_of scope name.name)) conditions.BadIndex scope.place
 
 abbrev pub span_faults : Scope → Option Span → List Fault
 span_faults scope None = []
-span_faults scope (Some span) = when (is_this scope.name span.name.name) conditions.NameTwice span.name.place ++ span_index_faults scope span.index
+span_faults scope (Some span) =
+    when (is_this scope.name span.name.name) conditions.NameTwice span.name.place ++ span_index_faults scope span.index
 
 -- 128 rules are allowed, and 4 guards in each
 abbrev pub rule_faults : Known → ℕ → Rule → List Fault

@@ -30,7 +30,8 @@ record_name (premises.Member name set) = Some name.name
 -- the structure by which the record is read, where the set is known
 abbrev pub record_structure : Known → Premise → Option ℕ
 record_structure known (premises.Head place) = Some known.base.head
-record_structure known (premises.Member name set) = option_map (λ s. s.structure) (plain_named known set.name)
+record_structure known (premises.Member name set) =
+    option_map (λ s. s.structure) (plain_named known set.name)
 
 -- the pool of the record, where the set is known; that of the head is 0
 abbrev pub record_pool : Known → Premise → Option ℕ
@@ -58,8 +59,10 @@ array_field known structure q = option_and_then (λ i. known.field i q) structur
 
 -- how many entries an index runs over, where its pool or its array is known
 abbrev pub index_entries : Known → Option ℕ → Index → Option ExprShape
-index_entries known structure (indexes.Pool place pool) = option_map (λ d. d.count) (pool_named known pool.name)
-index_entries known structure (indexes.Array name) = option_and_then (field_length known.base) (array_field known structure name.name)
+index_entries known structure (indexes.Pool place pool) =
+    option_map (λ d. d.count) (pool_named known pool.name)
+index_entries known structure (indexes.Array name) =
+    option_and_then (field_length known.base) (array_field known structure name.name)
 
 abbrev pub span_entries : Known → Option ℕ → Option Span → Option ExprShape
 span_entries known structure None = None

@@ -20,14 +20,16 @@ first_of (fault ∷ faults) later = fault ∷ faults
 
 -- declarations are asked first, then rules, then constraints
 abbrev pub faults_over : Structures → TreeShape → List Fault
-faults_over base t = first_of (rules_faults (known_in base) t.rules) (constraints_faults (known_in base) t.rules t.constraints)
+faults_over base t =
+    first_of (rules_faults (known_in base) t.rules) (constraints_faults (known_in base) t.rules t.constraints)
 
 abbrev pub specification_faults : TreeShape → List Fault
 specification_faults t = first_of (declaration_faults t) (faults_over (tables t) t)
 
 -- what a tree without faults means
 abbrev pub specification_over : Structures → TreeShape → Spec
-specification_over base t = record { base = base; rules = typed_rules (known_in base) t.rules; constraints = typed_constraints (known_in base) t.constraints }
+specification_over base t =
+    record { base = base; rules = typed_rules (known_in base) t.rules; constraints = typed_constraints (known_in base) t.constraints }
 
 abbrev pub specification : TreeShape → Spec
 specification t = specification_over (tables t) t

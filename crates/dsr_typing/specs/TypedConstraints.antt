@@ -55,13 +55,15 @@ quant_of known None = Some quants.Once
 quant_of known (Some q) = bound_symbol known q.binder q.symbol.name
 
 abbrev pub scope_of : Known → Option Quantifier → Scope
-scope_of known quantifier = record { known = known; binder = option_map (λ q. q.binder) quantifier; quant = quant_of known quantifier }
+scope_of known quantifier =
+    record { known = known; binder = option_map (λ q. q.binder) quantifier; quant = quant_of known quantifier }
 
 -- the variable that has a name; the first one where both have it
 abbrev pub named_variable : Option Binder → List ℕ → Option Var
 named_variable None q = None
 named_variable (Some (binders.One name)) q = if bytes_eq name.name q then Some vars.First else None
-named_variable (Some (binders.Pair place first second)) q = if bytes_eq first.name q then Some vars.First else if bytes_eq second.name q then Some vars.Second else None
+named_variable (Some (binders.Pair place first second)) q =
+    if bytes_eq first.name q then Some vars.First else if bytes_eq second.name q then Some vars.Second else None
 
 abbrev pub variable : Scope → VarTree → Option Var
 variable scope (var_trees.Head place) = Some vars.Head
@@ -93,7 +95,8 @@ counts_targets scope a b = is_some (variable scope a) && is_some (scope.known.re
 
 -- otherwise it counts the sources of a variable b under a relation a
 abbrev pub counts_sources : Scope → VarTree → PlacedName → Bool
-counts_sources scope a b = is_some (relation_of scope.known a) && is_some (named_variable scope.binder b.name)
+counts_sources scope a b =
+    is_some (relation_of scope.known a) && is_some (named_variable scope.binder b.name)
 
 abbrev pub typed_size : Scope → VarTree → Option PlacedName → Measure
 typed_size scope a None = measures.Whole (number_of (set_of scope.known a))
@@ -106,10 +109,14 @@ typed_measure scope (measure_trees.Number number) = bounds.Num number.number
 typed_measure scope (measure_trees.Size size) = bounds.Size (typed_size scope size.var size.part)
 
 abbrev pub typed_atom : Scope → AtomTree → Atom
-typed_atom scope (atom_trees.Count size bound number) = atoms.Count (typed_size scope size.var size.part) (typed_bound bound) number.number
-typed_atom scope (atom_trees.Pair place first second relation) = atoms.Pair (variable_in scope first) (variable_in scope second) (number_of (scope.known.relation relation.name))
-typed_atom scope (atom_trees.Member var set) = atoms.Member (variable_in scope var) (number_of (scope.known.set set.name))
-typed_atom scope (atom_trees.Value var relation compare measure) = atoms.Value (variable_in scope var) (number_of (scope.known.relation relation.name)) (typed_compare compare) (typed_measure scope measure)
+typed_atom scope (atom_trees.Count size bound number) =
+    atoms.Count (typed_size scope size.var size.part) (typed_bound bound) number.number
+typed_atom scope (atom_trees.Pair place first second relation) =
+    atoms.Pair (variable_in scope first) (variable_in scope second) (number_of (scope.known.relation relation.name))
+typed_atom scope (atom_trees.Member var set) =
+    atoms.Member (variable_in scope var) (number_of (scope.known.set set.name))
+typed_atom scope (atom_trees.Value var relation compare measure) =
+    atoms.Value (variable_in scope var) (number_of (scope.known.relation relation.name)) (typed_compare compare) (typed_measure scope measure)
 
 -- ---- formulas; parentheses leave no trace
 
@@ -143,7 +150,8 @@ base_of base set = option_and_then (λ s. s.except) (slice_get base.sets set)
 -- a member of a complement is no member of its base
 abbrev pub over_base : Literal → Var → Option ℕ → Literal
 over_base literal v None = literal
-over_base literal v (Some set) = record { atom = atoms.Member v set; negated = not literal.negated; given = literal.given }
+over_base literal v (Some set) =
+    record { atom = atoms.Member v set; negated = not literal.negated; given = literal.given }
 
 abbrev pub without_complement_at : Structures → Literal → Atom → Literal
 without_complement_at base literal (atoms.Member v set) = over_base literal v (base_of base set)

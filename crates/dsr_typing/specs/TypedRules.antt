@@ -62,14 +62,17 @@ typed_test ref_tests.None = tests.IsNone
 typed_test ref_tests.Some = tests.IsSome
 
 abbrev pub typed_path : Scope → Var → PlacedName → Option PlacedName → Path
-typed_path scope var field index = record { field = field_in (path_field scope var field); indexed = is_some index }
+typed_path scope var field index =
+    record { field = field_in (path_field scope var field); indexed = is_some index }
 
 abbrev pub path_in : Scope → PathTree → Path
 path_in scope p = typed_path scope p.var p.field p.index
 
 abbrev pub typed_guard : Scope → GuardTree → Guard
-typed_guard scope (guards.Tested place test path) = record { path = path_in scope path; test = typed_test test }
-typed_guard scope (guards.Compared path compare number) = record { path = path_in scope path; test = tests.Cmp (typed_compare compare) number.number }
+typed_guard scope (guards.Tested place test path) =
+    record { path = path_in scope path; test = typed_test test }
+typed_guard scope (guards.Compared path compare number) =
+    record { path = path_in scope path; test = tests.Cmp (typed_compare compare) number.number }
 
 abbrev pub typed_index : Scope → Index → Span
 typed_index scope (indexes.Pool place pool) = spans.Slots (pool_in scope.known pool)
@@ -92,12 +95,15 @@ slot_pool known (vars.Name q) = pool_in known q
 
 abbrev pub typed_member : Scope → ℕ → Var → Option MemberPart → Inc
 typed_member scope set var None = incs.Own set
-typed_member scope set var (Some (parts.Field field index)) = incs.Target set (typed_path scope var field index)
+typed_member scope set var (Some (parts.Field field index)) =
+    incs.Target set (typed_path scope var field index)
 typed_member scope set var (Some (parts.Slot k)) = incs.Slot set (slot_pool scope.known var)
 
 abbrev pub typed_inclusion : Scope → Inclusion → Inc
-typed_inclusion scope (inclusions.Pair place term path relation) = typed_pair scope term (number_of (scope.known.relation relation.name)) (path_in scope path)
-typed_inclusion scope (inclusions.Member member set) = typed_member scope (number_of (plain_set scope.known set.name)) member.var member.part
+typed_inclusion scope (inclusions.Pair place term path relation) =
+    typed_pair scope term (number_of (scope.known.relation relation.name)) (path_in scope path)
+typed_inclusion scope (inclusions.Member member set) =
+    typed_member scope (number_of (plain_set scope.known set.name)) member.var member.part
 
 abbrev pub rule_in : Scope → RuleTree → Rule
 rule_in scope r = record {

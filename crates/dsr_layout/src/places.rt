@@ -6,7 +6,7 @@ ghost use Rattle.dsr_meaning.specs.Extents as extents;
 ghost use Rattle.dsr_meaning.specs.Layouts.{places_of};
 ghost use Rattle.dsr_meaning.specs.Places as meaning;
 ghost use Rattle.dsr_meaning.specs.Refusals.{size_refusals};
-ghost use Rattle.dsr_layout.specs.Ends.{start_in, end_behind, clipped_places};
+ghost use Rattle.dsr_layout.specs.Ends.{start_in, end_behind, own_places_in, LacksPlaces};
 ghost use Rattle.dsr_layout.specs.Tables.{known, clip, clip_place, end_in, size_in, HoldsEnds};
 ghost use Rattle.dsr_layout.specs.Telling.{Tells};
 ghost use Rattle.dsr_layout.specs.declared.faults.LayoutFault.{LayoutFault};
@@ -143,8 +143,8 @@ fn own_places(
     structure: &Structure,
 ) -> Result<Vec<FieldPlace>, LayoutFault>
     ensures sized { IfOk result (λ _. IsSome (size_in ends.now number)) }
-    ensures placed { IfOk result (λ places. clipped_places (known fixed.now) (start_in ends.now number structure.now.parent) structure.now.fields ≡ Some places.items) }
-    ensures refused { IfErr result (λ e. (e ≡ LayoutFault.NoMemory) ⊎ ((e ≡ LayoutFault.Arith) × ((size_in ends.now number ≡ None) ⊎ (clipped_places (known fixed.now) (start_in ends.now number structure.now.parent) structure.now.fields ≡ None)))) }
+    ensures placed { IfOk result (λ places. own_places_in (known fixed.now) ends.now number structure.now ≡ Some places.items) }
+    ensures refused { IfErr result (λ e. (e ≡ LayoutFault.NoMemory) ⊎ ((e ≡ LayoutFault.Arith) × LacksPlaces (known fixed.now) ends.now number structure.now)) }
 {
     if size_in(ends, number).is_none() {
         return Err(LayoutFault::Arith);

@@ -71,10 +71,11 @@ record_start layout e =
 abbrev pub placed_cell : Order → ℕ → ℕ → FieldPlace → Cell
 placed_cell order start index p =
     record {
-        bit = 8 * start + p.bit + index * width_bits p.width;
-        width = width_bits p.width;
-        bytewise = is_bytewise p.width;
-        order = order }
+      bit = 8 * start + p.bit + index * width_bits p.width;
+      width = width_bits p.width;
+      bytewise = is_bytewise p.width;
+      order = order;
+    }
 
 -- the cell of a record's field, at an index where it is an array
 abbrev pub cell_of : Layout → Element → FieldRef → ℕ → Option Cell

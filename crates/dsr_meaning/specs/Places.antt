@@ -44,8 +44,8 @@ abbrev pub placed : (ℕ → Option ℕ) → ℕ → List Field → Option (List
 placed fixed bit [] = Some []
 placed fixed bit (f ∷ fs) =
     option_and_then
-        (λ e. option_map (λ places. placed_at bit f e ∷ places) (placed fixed (bit_behind bit e) fs))
-        (extent_of fixed f)
+    (λ e. option_map (λ places. placed_at bit f e ∷ places) (placed fixed (bit_behind bit e) fs))
+    (extent_of fixed f)
 
 -- the byte boundary behind the fields of a structure, whose own stand behind those of its ancestors
 abbrev pub end_of : (ℕ → Option ℕ) → List Structure → Option ℕ

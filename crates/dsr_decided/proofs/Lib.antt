@@ -1,0 +1,10 @@
+pub mod Active
+pub mod Bounded
+pub mod Derived
+pub mod Instances
+pub mod Listed
+pub mod Models
+pub mod Readings
+pub mod Truths
+pub mod Violations
+pub mod Ways

@@ -1,5 +1,5 @@
 -- Whether an instance is active is decided: it is where it fires and its premise is the head or derived.
-use Rattle.std.proofs.Common.{◌≡◌, ◌<◌, ◌⊎◌, ℕ, List, [], ◌∷◌, None, Some, All, inl, inr, refl}
+use Rattle.std.proofs.Common.{◌≡◌, ◌<◌, ◌⊎◌, ℕ, List, [], ◌∷◌, None, Some, All, inl, inr}
 use Rattle.std.specs.Prelude.{slice_get}
 use Rattle.dsr_ir.specs.declared.declarations.Spec.{Spec}
 use Rattle.dsr_ir.specs.declared.layouts.Layout.{Layout}

@@ -8,7 +8,6 @@ use Rattle.std.proofs.lemmas.Option.{same_Some}
 use Rattle.std.specs.List.{AllByRecursion, list_any, IsDistinct as AllDiffer}
 use Rattle.std.specs.Option.{option_map_or}
 use Rattle.std.specs.Prelude.{slice_get}
-use Rattle.dsr_ir.specs.declared.constraints.Measure.{Measure}
 use Rattle.dsr_ir.specs.declared.constraints.Measure.TheVariants.{Whole, Out, Into}
 use Rattle.dsr_ir.specs.declared.declarations.Rel.{Rel}
 use Rattle.dsr_ir.specs.declared.declarations.Spec.{Spec}
@@ -20,10 +19,8 @@ use Rattle.dsr_ir.specs.declared.tuples.Target.TheVariants.{Elem, Num}
 use Rattle.dsr_meaning.specs.Counting.{IsIn, IsDistinct, AreMany}
 use Rattle.dsr_meaning.specs.Instances.{record_count, set_pool}
 use Rattle.dsr_meaning.specs.Models.{IsFact}
-use Rattle.dsr_meaning.specs.Refusals.{greatest_size}
-use Rattle.dsr_meaning.specs.Truth.{HasSize, element_of}
-use Rattle.dsr_meaning.specs.Typed.{CountsRecords}
-use Rattle.dsr_layout.specs.InRange.{FactsLieInRange, IsRecordOf, IsPairInRange, IsTargetOf}
+use Rattle.dsr_meaning.specs.Truth.{element_of}
+use Rattle.dsr_layout.specs.InRange.{FactsLieInRange, IsRecordOf, IsTargetOf}
 use Rattle.dsr_decided.specs.Sizes.{SizesAreBounded}
 
 module _ {A : Type 0} (number : A → ℕ) where

@@ -13,7 +13,7 @@ use Rattle.dsr_meaning.specs.Models.{Chain, begin, follow, IsDerived, IsFact, Is
 use Rattle.dsr_layout.proofs.SameCounts.{some_before}
 use Rattle.dsr_decided.specs.Deciding.{IsDecided}
 use Rattle.dsr_decided.proofs.Ways.{At}
-use Rattle.dsr_decided.proofs.Listed.{IsListed, alike, below, each, is_none, known, listed_decided, one, opposite, those, two_kinds}
+use Rattle.dsr_decided.proofs.Listed.{IsListed, alike, below, each, is_none, known, one, opposite, those, two_kinds}
 use Rattle.dsr_decided.proofs.Derived.{Path, first, next, IsLeast, derived_decided, derived_listed}
 use Rattle.dsr_decided.proofs.Instances.{Leads, steps, compared_facts, slots}
 
@@ -85,6 +85,3 @@ module _ (spec : Spec) (layout : Layout) (bytes : List ℕ) where
   facts_listed =
       alike (λ fact. (IsDerived spec layout bytes fact × IsPlain fact) ⊎ IsOfComplement fact) (IsFact spec layout bytes) fact_of kind_of
       (two_kinds (λ fact. IsDerived spec layout bytes fact × IsPlain fact) IsOfComplement (those (IsDerived spec layout bytes) IsPlain chains_listed (λ fact _. plain_decided fact)) complements)
-
-  pub facts_decided : (fact : Fact) → IsDecided (IsFact spec layout bytes fact)
-  facts_decided fact = listed_decided (IsFact spec layout bytes) compared_facts facts_listed fact

@@ -1,8 +1,8 @@
 -- What chains derive depends on nothing but what rules read.
-use Rattle.std.proofs.Common.{◌≡◌, ℕ, zero, suc, List, [], ◌∷◌, Option, None, Some, All, inl, inr, refl, sym, subst, ◌∙◌}
+use Rattle.std.proofs.Common.{◌≡◌, ℕ, zero, suc, List, [], ◌∷◌, Option, None, Some, All, inl, inr, refl, sym, ◌∙◌}
 use Rattle.std.proofs.lemmas.List.Elements.{All-nil, All-cons, All-head, All-tail}
 use Rattle.std.proofs.lemmas.Option.{none-some, same_Some}
-use Rattle.std.specs.Prelude.{◌↔◌, slice_get}
+use Rattle.std.specs.Prelude.{slice_get}
 use Rattle.dsr_ir.specs.Rules.{target_of}
 use Rattle.dsr_ir.specs.declared.declarations.Spec.{Spec}
 use Rattle.dsr_ir.specs.declared.layouts.Layout.{Layout}
@@ -20,7 +20,7 @@ use Rattle.dsr_ir.specs.declared.tuples.Target.TheVariants.{Elem, Num}
 use Rattle.dsr_meaning.specs.Cells.{value_at}
 use Rattle.dsr_meaning.specs.Counting.{IsIn}
 use Rattle.dsr_meaning.specs.Instances.{Gives, GuardHolds, HasTarget, Includes, IsInstance}
-use Rattle.dsr_meaning.specs.Models.{Chain, begin, follow, IsDerived, IsFact, IsMemberBy, base_of}
+use Rattle.dsr_meaning.specs.Models.{Chain, begin, follow, IsFact, IsMemberBy, base_of}
 use Rattle.dsr_decided.specs.Reading.{Reads, ReadTheSame}
 
 found_in : {A : Type 0} (xs : List A) (k : ℕ) (x : A) → slice_get xs k ≡ Some x → IsIn x xs
@@ -72,7 +72,7 @@ module _ (spec : Spec) (layout : Layout) (a b : List ℕ) (same : ReadTheSame sp
   chain_over {fact = fact} (follow i rule set chain some g) = follow i rule set (chain_over chain) some (gives i rule fact g)
 
 module _ (spec : Spec) (layout : Layout) (a b : List ℕ) (same : ReadTheSame spec layout a b) where
-  pub member_over : (set : ℕ) (base : Option ℕ) (e : Element) → IsMemberBy spec layout a set base e → IsMemberBy spec layout b set base e
+  member_over : (set : ℕ) (base : Option ℕ) (e : Element) → IsMemberBy spec layout a set base e → IsMemberBy spec layout b set base e
   member_over set None e h = (h.0, chain_over spec layout a b same h.1)
   member_over set (Some base) e h =
       record { pool_is = h.pool_is; slot_below = h.slot_below; outside = λ d. h.outside (d.0, chain_over spec layout b a (both_ways spec layout a b same) d.1) }

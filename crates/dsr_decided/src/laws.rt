@@ -32,7 +32,8 @@ pub fn literals_are_decided()
 
 /// Whether an image is consistent is decided.
 pub fn consistency_is_decided()
-    ensures { (spec : Spec) (layout : Layout) (bytes : List ℕ) → IsDecided (IsConsistent spec layout bytes) }
+    ensures { (spec : Spec) (layout : Layout) (bytes : List ℕ) →
+        IsDecided (IsConsistent spec layout bytes) }
 {}
 
 /// The violated bindings of an image have a list.
@@ -54,8 +55,10 @@ pub fn sizes_are_bounded()
 
 /// Images on which all instances read the same have the same facts, by the same instances.
 pub fn models_depend_on_what_is_read()
-    ensures facts { (spec : Spec) (layout : Layout) (a b : List ℕ) → ReadTheSame spec layout a b →
+    ensures facts { (spec : Spec) (layout : Layout) (a b : List ℕ) →
+        ReadTheSame spec layout a b →
         (fact : Fact) → IsFact spec layout a fact ↔ IsFact spec layout b fact }
-    ensures instances { (spec : Spec) (layout : Layout) (a b : List ℕ) → ReadTheSame spec layout a b →
-        (i : Instance) (fact : Fact) → IsDerivedBy spec layout a i fact ↔ IsDerivedBy spec layout b i fact }
+    ensures instances { (spec : Spec) (layout : Layout) (a b : List ℕ) →
+        ReadTheSame spec layout a b → (i : Instance) (fact : Fact) →
+        IsDerivedBy spec layout a i fact ↔ IsDerivedBy spec layout b i fact }
 {}

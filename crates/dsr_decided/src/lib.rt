@@ -8,6 +8,6 @@
 mod laws;
 
 pub use laws::{
-    consistency_is_decided, facts_are_decided, literals_are_decided,
-    models_depend_on_what_is_read, sizes_are_bounded, sizes_are_there, violations_are_there,
+    consistency_is_decided, facts_are_decided, literals_are_decided, models_depend_on_what_is_read,
+    sizes_are_bounded, sizes_are_there, violations_are_there,
 };

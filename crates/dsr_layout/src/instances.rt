@@ -13,8 +13,8 @@ use crate::faults::LayoutFault;
 use crate::lookups::{field_place, record_count, set_pool};
 use dsr_ir::{Constraint, Layout, Quant, Rule, Span, Spec, Symbol};
 
-// The pool of the records of a rule.
-fn premise_pool(spec: &Spec, rule: &Rule) -> u32
+/// The pool of the records of a rule.
+pub fn premise_pool(spec: &Spec, rule: &Rule) -> u32
     ensures { result ≡ instances.premise_pool spec.now rule.now }
 {
     match rule.premise {
@@ -23,8 +23,8 @@ fn premise_pool(spec: &Spec, rule: &Rule) -> u32
     }
 }
 
-// How many entries an index runs over.
-fn index_count(layout: &Layout, span: Span) -> u64
+/// How many entries an index runs over, 1 where there is none.
+pub fn index_count(layout: &Layout, span: Span) -> u64
     ensures { result ≡ instances.index_count layout.now span }
 {
     match span {

@@ -20,6 +20,7 @@ mod values;
 
 pub use cells::cell;
 pub use faults::LayoutFault;
+pub use instances::{index_count, premise_pool};
 pub use laws::{
     codes_are_of_slots, codes_fit_references, counts_fit_values, facts_lie_in_range,
     fields_lie_in_structures, heads_are_apart_from_pools, heads_fit_their_images,
@@ -27,4 +28,5 @@ pub use laws::{
     records_fit_their_slots, structures_have_sizes,
 };
 pub use layouts::layout;
+pub use lookups::{record_count, set_pool};
 pub use references::{Ref, code_of, slot_of};

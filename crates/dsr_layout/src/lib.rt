@@ -20,6 +20,7 @@ mod values;
 
 pub use cells::cell;
 pub use faults::LayoutFault;
+pub use fixed_fields::is_bytewise;
 pub use instances::{index_count, premise_pool};
 pub use laws::{
     codes_are_of_slots, codes_fit_references, counts_fit_values, facts_lie_in_range,
@@ -28,5 +29,6 @@ pub use laws::{
     records_fit_their_slots, structures_have_sizes,
 };
 pub use layouts::layout;
-pub use lookups::{record_count, set_pool};
+pub use lookups::{field_place, pool_numbers, record_count, set_pool};
+pub use places::width_bits;
 pub use references::{Ref, code_of, slot_of};

@@ -43,12 +43,13 @@ fn own_fields(alloc: Global, structures: &[Structure]) -> Result<Vec<IndexMap<Na
 fn line_of(alloc: Global, earlier: &[Vec<u32>], parent: Option<u32>) -> Result<Vec<u32>, NoMemory>
     ensures { IfOk result (λ line. line.items ≡ option_map_or (λ p. p ∷ slice_index_or (map (λ v. v.items) earlier.now) p []) parent []) }
 {
+    let Some(parent) = parent else {
+        return Ok(Vec::new(alloc));
+    };
     let mut line = Vec::new(alloc);
-    if let Some(parent) = parent {
-        line.push(parent)?;
-        if let Some(above) = earlier.get(parent as usize) {
-            line.extend_from_slice(above)?;
-        }
+    line.push(parent)?;
+    if let Some(above) = earlier.get(parent as usize) {
+        line.extend_from_slice(above)?;
     }
     Ok(line)
 }

@@ -3,13 +3,12 @@ ghost use Rattle.std.specs.Prelude.{◌≡◌, Some, is_none, option_map, false}
 ghost use Rattle.std.specs.Option.{option_map_or};
 ghost use Rattle.dsr_meaning.specs.Typed.{pool_of_var};
 ghost use Rattle.dsr_tree.specs.declared.tree.Var.TheVariants as vars;
-ghost use Rattle.dsr_text.specs.Declarations.{disagree};
-ghost use Rattle.dsr_typing.specs.RuleFaults.{is_other_target};
 ghost use Rattle.dsr_typing.specs.Constraints.{var_pool, pool_of, has_other_source, has_other_targets, has_other_target, values_others};
 ghost use Rattle.dsr_constraint.specs.Scoped.{scope_told};
 
 use crate::scopes::Scope;
 use dsr_ir::{Quant, Rel, Structures, Var};
+use dsr_names::{disagree, is_other_target};
 use dsr_tree::PlacedName;
 
 // The pool of the members of a set, or of a variable of a relation's pairs.
@@ -48,27 +47,6 @@ impl Scope<'_> {
         ensures { result ≡ pool_of (scope_told self.now) (vars.Name name.now) }
     {
         self.var_pool(self.named_variable(&name.name)?)
-    }
-}
-
-/// Whether two pools are known and differ.
-pub fn disagree(left: Option<u32>, right: Option<u32>) -> bool
-    ensures { result ≡ disagree left right }
-{
-    match (left, right) {
-        (Some(left), Some(right)) => left != right,
-        _ => false,
-    }
-}
-
-// Whether targets are others; none stands for numbers.
-fn is_other_target(left: Option<u32>, right: Option<u32>) -> bool
-    ensures { result ≡ is_other_target left right }
-{
-    match (left, right) {
-        (Some(left), Some(right)) => left != right,
-        (None, None) => false,
-        _ => true,
     }
 }
 

@@ -71,16 +71,22 @@ pub fn name_tables(alloc: Global, base: &Structures) -> Result<NameTables, NoMem
     requires typed { AreTyped base.now }
     ensures { IfOk result (λ tables. told_by base.now tables ≡ known_in base.now) }
 {
+    let mut tables = NameTables {
+        pools: IndexMap::new(alloc),
+        sets: IndexMap::new(alloc),
+        relations: IndexMap::new(alloc),
+        fields: Vec::new(alloc),
+        ancestors: Vec::new(alloc),
+    };
     let pools = numbers_from(alloc, 1, base.pools.items())?;
+    tables.pools = pools;
     let sets = numbers_from(alloc, 0, base.sets.items())?;
+    tables.sets = sets;
     let relations = numbers_from(alloc, 0, base.rels.items())?;
+    tables.relations = relations;
     let fields = own_fields(alloc, base.structures.items())?;
+    tables.fields = fields;
     let ancestors = lines_of(alloc, base.structures.items())?;
-    Ok(NameTables {
-        pools,
-        sets,
-        relations,
-        fields,
-        ancestors,
-    })
+    tables.ancestors = ancestors;
+    Ok(tables)
 }

@@ -1,5 +1,5 @@
 // What the names of declared tables stand for.
-ghost use Rattle.std.specs.Prelude.{◌≡◌, ◌≤◌, [], ◌∷◌, map, length, slice_index_or, IfOk, All};
+ghost use Rattle.std.specs.Prelude.{◌≡◌, ◌≤◌, ℕ, List, [], ◌∷◌, map, length, slice_index_or, IfOk, All};
 ghost use Rattle.std.specs.List.{position_from};
 ghost use Rattle.std.specs.Option.{option_map_or};
 ghost use Rattle.std.specs.Str.{bytes_eq};
@@ -66,27 +66,49 @@ fn lines_of(alloc: Global, structures: &[Structure]) -> Result<Vec<Vec<u32>>, No
     Ok(lines)
 }
 
+// The tables of pools, sets and relations.
+#[derive(Drop)]
+struct NumberTables {
+    pools: IndexMap<Name, u32>,
+    sets: IndexMap<Name, u32>,
+    relations: IndexMap<Name, u32>,
+}
+
+// A `?` costs its proof what stays to be dropped there, so these tables are made apart from the others.
+fn number_tables(alloc: Global, base: &Structures) -> Result<NumberTables, NoMemory>
+    requires typed { AreTyped base.now }
+    ensures pools { IfOk result (λ t. (q : List ℕ) → get bytes_eq t.pools q ≡ position_from (λ p. bytes_eq p.name q) 1 base.now.pools) }
+    ensures sets { IfOk result (λ t. (q : List ℕ) → get bytes_eq t.sets q ≡ position_from (λ s. bytes_eq s.name q) 0 base.now.sets) }
+    ensures relations { IfOk result (λ t. (q : List ℕ) → get bytes_eq t.relations q ≡ position_from (λ r. bytes_eq r.name q) 0 base.now.rels) }
+{
+    let pools = numbers_from(alloc, 1, base.pools.items())?;
+    let sets = numbers_from(alloc, 0, base.sets.items())?;
+    let relations = numbers_from(alloc, 0, base.rels.items())?;
+    Ok(NumberTables {
+        pools,
+        sets,
+        relations,
+    })
+}
+
 /// What the names of declared tables stand for.
 pub fn name_tables(alloc: Global, base: &Structures) -> Result<NameTables, NoMemory>
     requires typed { AreTyped base.now }
     ensures { IfOk result (λ tables. told_by base.now tables ≡ known_in base.now) }
 {
-    let mut tables = NameTables {
-        pools: IndexMap::new(alloc),
-        sets: IndexMap::new(alloc),
-        relations: IndexMap::new(alloc),
-        fields: Vec::new(alloc),
-        ancestors: Vec::new(alloc),
-    };
-    let pools = numbers_from(alloc, 1, base.pools.items())?;
-    tables.pools = pools;
-    let sets = numbers_from(alloc, 0, base.sets.items())?;
-    tables.sets = sets;
-    let relations = numbers_from(alloc, 0, base.rels.items())?;
-    tables.relations = relations;
+    let numbers = number_tables(alloc, base)?;
     let fields = own_fields(alloc, base.structures.items())?;
-    tables.fields = fields;
     let ancestors = lines_of(alloc, base.structures.items())?;
-    tables.ancestors = ancestors;
-    Ok(tables)
+    let NumberTables {
+        pools,
+        sets,
+        relations,
+    } = numbers;
+    Ok(NameTables {
+        pools,
+        sets,
+        relations,
+        fields,
+        ancestors,
+    })
 }

@@ -96,9 +96,9 @@ pub fn name_tables(alloc: Global, base: &Structures) -> Result<NameTables, NoMem
     requires typed { AreTyped base.now }
     ensures { IfOk result (λ tables. told_by base.now tables ≡ known_in base.now) }
 {
-    let numbers = number_tables(alloc, base)?;
     let fields = own_fields(alloc, base.structures.items())?;
     let ancestors = lines_of(alloc, base.structures.items())?;
+    let numbers = number_tables(alloc, base)?;
     let NumberTables {
         pools,
         sets,

@@ -2,6 +2,7 @@
 ghost use Rattle.std.specs.Prelude.{◌≡◌, Some, is_none, option_map, false};
 ghost use Rattle.std.specs.Option.{option_map_or};
 ghost use Rattle.dsr_meaning.specs.Typed.{pool_of_var};
+ghost use Rattle.dsr_ir.specs.declared.constraints.Var.TheVariants as vars_of;
 ghost use Rattle.dsr_tree.specs.declared.tree.Var.TheVariants as vars;
 ghost use Rattle.dsr_typing.specs.Constraints.{var_pool, pool_of, has_other_source, has_other_targets, has_other_target, values_others};
 ghost use Rattle.dsr_constraint.specs.Scoped.{scope_told};
@@ -11,15 +12,23 @@ use dsr_ir::{Quant, Rel, Structures, Var};
 use dsr_names::{disagree, is_other_target};
 use dsr_tree::PlacedName;
 
-// The pool of the members of a set, or of a variable of a relation's pairs.
-fn pool_of_var(base: &Structures, quant: Quant, var: Var) -> Option<u32>
-    ensures { result ≡ pool_of_var base.now quant var }
+// The pool of the first variable of a quantifier: that of a set's members, or of a relation's sources.
+fn first_pool(base: &Structures, quant: Quant) -> Option<u32>
+    ensures { result ≡ pool_of_var base.now quant vars_of.First }
 {
-    match (quant, var) {
-        (_, Var::Head) => Some(0),
-        (Quant::Each(set), Var::First) => Some(base.sets.items().get(set as usize)?.pool),
-        (Quant::Pairs(rel), Var::First) => Some(base.rels.items().get(rel as usize)?.source),
-        (Quant::Pairs(rel), Var::Second) => base.rels.items().get(rel as usize)?.target,
+    match quant {
+        Quant::Each(set) => Some(base.sets.items().get(set as usize)?.pool),
+        Quant::Pairs(rel) => Some(base.rels.items().get(rel as usize)?.source),
+        Quant::Once => None,
+    }
+}
+
+// The pool of the second one: that of a relation's targets.
+fn second_pool(base: &Structures, quant: Quant) -> Option<u32>
+    ensures { result ≡ pool_of_var base.now quant vars_of.Second }
+{
+    match quant {
+        Quant::Pairs(rel) => base.rels.items().get(rel as usize)?.target,
         _ => None,
     }
 }
@@ -31,7 +40,8 @@ impl Scope<'_> {
     {
         match var {
             Var::Head => Some(0),
-            _ => pool_of_var(self.known.base, self.quant?, var),
+            Var::First => first_pool(self.known.base, self.quant?),
+            Var::Second => second_pool(self.known.base, self.quant?),
         }
     }
 

@@ -7,12 +7,13 @@ ghost use Rattle.dsr_typing.specs.Constraints.{variable_faults, measure_names, m
 ghost use Rattle.dsr_constraint.specs.Scoped.{scope_told, Narrow};
 
 use crate::notes::note_part;
-use crate::pools::{has_other_source, has_other_target, values_others};
 use crate::scopes::Scope;
 use crate::widths::Constants;
 use dsr_faults::Told;
 use dsr_ir::Rel;
-use dsr_names::{disagree, note_found, note_name, var_place};
+use dsr_names::{
+    disagree, has_other_source, has_other_target, note_found, note_name, values_others, var_place,
+};
 use dsr_tree::{Atom, Condition, Measure, PlacedName, Var};
 
 // Where an atom begins.

@@ -13,7 +13,6 @@ ghost use Rattle.dsr_constraint.specs.Scoped.{Narrow, own_faults_of};
 
 use crate::formulas::check_formula;
 use crate::negations::check_negations;
-use crate::pools;
 use crate::scopes::scope_of;
 use crate::widths::Constants;
 use dsr_faults::Told;
@@ -69,7 +68,7 @@ fn gives_numbers(known: &Known, binder: &Binder, name: &Name) -> bool
 {
     match binder {
         Binder::One(_) => false,
-        Binder::Pair { .. } => pools::gives_numbers(known.relation_named(name)),
+        Binder::Pair { .. } => dsr_names::gives_numbers(known.relation_named(name)),
     }
 }
 

@@ -1,37 +1,13 @@
-// Pools of variables, and whether they are those of a relation.
-ghost use Rattle.std.specs.Prelude.{◌≡◌, Some, is_none, option_map, false};
-ghost use Rattle.std.specs.Option.{option_map_or};
-ghost use Rattle.dsr_meaning.specs.Typed.{pool_of_var};
-ghost use Rattle.dsr_ir.specs.declared.constraints.Var.TheVariants as vars_of;
+// Pools of variables.
+ghost use Rattle.std.specs.Prelude.{◌≡◌, Some};
 ghost use Rattle.dsr_tree.specs.declared.tree.Var.TheVariants as vars;
-ghost use Rattle.dsr_typing.specs.Constraints.{var_pool, pool_of, has_other_source, has_other_targets, has_other_target, values_others};
+ghost use Rattle.dsr_typing.specs.Constraints.{var_pool, pool_of};
 ghost use Rattle.dsr_constraint.specs.Scoped.{scope_told};
 
 use crate::scopes::Scope;
-use dsr_ir::{Quant, Rel, Structures, Var};
-use dsr_names::{disagree, is_other_target};
+use dsr_ir::Var;
+use dsr_names::{first_pool, second_pool};
 use dsr_tree::PlacedName;
-
-// The pool of the first variable of a quantifier: that of a set's members, or of a relation's sources.
-fn first_pool(base: &Structures, quant: Quant) -> Option<u32>
-    ensures { result ≡ pool_of_var base.now quant vars_of.First }
-{
-    match quant {
-        Quant::Each(set) => Some(base.sets.items().get(set as usize)?.pool),
-        Quant::Pairs(rel) => Some(base.rels.items().get(rel as usize)?.source),
-        Quant::Once => None,
-    }
-}
-
-// The pool of the second one: that of a relation's targets.
-fn second_pool(base: &Structures, quant: Quant) -> Option<u32>
-    ensures { result ≡ pool_of_var base.now quant vars_of.Second }
-{
-    match quant {
-        Quant::Pairs(rel) => base.rels.items().get(rel as usize)?.target,
-        _ => None,
-    }
-}
 
 impl Scope<'_> {
     // The pool of a bound variable, where that is known; that of the head is 0.
@@ -57,55 +33,5 @@ impl Scope<'_> {
         ensures { result ≡ pool_of (scope_told self.now) (vars.Name name.now) }
     {
         self.var_pool(self.named_variable(&name.name)?)
-    }
-}
-
-/// Whether a relation is known and gives numbers.
-pub fn gives_numbers(rel: Option<&Rel>) -> bool
-    ensures { result ≡ option_map_or (λ r. is_none r.target) (option_map (λ r. r.now) rel.entry) false }
-{
-    match rel {
-        Some(rel) => rel.target.is_none(),
-        None => false,
-    }
-}
-
-/// Whether a relation has another source than a variable.
-pub fn has_other_source(rel: Option<&Rel>, pool: Option<u32>) -> bool
-    ensures { result ≡ has_other_source (option_map (λ r. r.now) rel.entry) pool }
-{
-    match rel {
-        Some(rel) => disagree(pool, Some(rel.source)),
-        None => false,
-    }
-}
-
-/// Whether a relation has other targets than a variable.
-pub fn has_other_targets(rel: Option<&Rel>, pool: Option<u32>) -> bool
-    ensures { result ≡ has_other_targets (option_map (λ r. r.now) rel.entry) pool }
-{
-    match rel {
-        Some(rel) => pool.is_some() && is_other_target(pool, rel.target),
-        None => false,
-    }
-}
-
-/// Whether a pair's second variable is no target of a relation.
-pub fn has_other_target(rel: Option<&Rel>, pool: Option<u32>) -> bool
-    ensures { result ≡ has_other_target (option_map (λ r. r.now) rel.entry) pool }
-{
-    match rel {
-        Some(found) => found.target.is_none() || has_other_targets(rel, pool),
-        None => false,
-    }
-}
-
-/// Whether a relation gives no numbers, or not those of a variable.
-pub fn values_others(rel: Option<&Rel>, pool: Option<u32>) -> bool
-    ensures { result ≡ values_others (option_map (λ r. r.now) rel.entry) pool }
-{
-    match rel {
-        Some(rel) => rel.target.is_some() || disagree(pool, Some(rel.source)),
-        None => false,
     }
 }

@@ -7,11 +7,10 @@ ghost use Rattle.dsr_typing.specs.TypedConstraints.{counts_targets, counts_sourc
 ghost use Rattle.dsr_typing.specs.Constraints.{size_names, relation_at, size_mismatches, counts_numbers};
 ghost use Rattle.dsr_constraint.specs.Scoped.{scope_told, unknown_place};
 
-use crate::pools::{gives_numbers, has_other_source, has_other_targets};
 use crate::scopes::Scope;
 use dsr_faults::Told;
 use dsr_ir::Rel;
-use dsr_names::note_found;
+use dsr_names::{gives_numbers, has_other_source, has_other_targets, note_found};
 use dsr_tree::{Condition, PlacedName, Size, Var};
 
 impl Scope<'_> {

@@ -1,25 +1,14 @@
 // Typed atoms.
 ghost use Rattle.std.specs.Prelude.{◌≡◌};
 ghost use Rattle.dsr_typing.specs.TypedRules.{number_of};
-ghost use Rattle.dsr_typing.specs.TypedConstraints.{variable_in, typed_bound, typed_size, typed_measure, typed_atom};
+ghost use Rattle.dsr_typing.specs.TypedConstraints.{variable_in, typed_size, typed_measure, typed_atom};
 ghost use Rattle.dsr_tree.specs.declared.tree.Var.TheVariants as vars;
 ghost use Rattle.dsr_constraint.specs.Scoped.{scope_told};
 
 use crate::scopes::Scope;
-use dsr_ir::{Atom, Bound, Measure, Op, Var};
-use dsr_names::{number_of, typed_compare};
+use dsr_ir::{Atom, Bound, Measure, Var};
+use dsr_names::{number_of, typed_bound, typed_compare};
 use dsr_tree::{PlacedName, Size};
-
-// A comparison of sizes.
-fn typed_bound(bound: dsr_tree::Bound) -> Op
-    ensures { result ≡ typed_bound bound }
-{
-    match bound {
-        dsr_tree::Bound::AtMost => Op::Le,
-        dsr_tree::Bound::AtLeast => Op::Ge,
-        dsr_tree::Bound::Equal => Op::Eq,
-    }
-}
 
 impl Scope<'_> {
     fn variable_in(&self, var: &dsr_tree::Var) -> Var

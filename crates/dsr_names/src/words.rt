@@ -1,10 +1,11 @@
 // What rules and constraints have in common: variables, comparisons, and numbers that were found.
 ghost use Rattle.std.specs.Prelude.{◌≡◌};
 ghost use Rattle.dsr_typing.specs.Rules.{var_place};
+ghost use Rattle.dsr_typing.specs.TypedConstraints.{typed_bound};
 ghost use Rattle.dsr_typing.specs.TypedRules.{number_of, typed_compare};
 
 use dsr_ir::Op;
-use dsr_tree::{Compare, Var};
+use dsr_tree::{Bound, Compare, Var};
 
 /// The place of a variable.
 pub fn var_place(var: &Var) -> u64
@@ -34,5 +35,16 @@ pub fn typed_compare(compare: Compare) -> Op
         Compare::AtMost => Op::Le,
         Compare::Greater => Op::Gt,
         Compare::AtLeast => Op::Ge,
+    }
+}
+
+/// A comparison of sizes.
+pub fn typed_bound(bound: Bound) -> Op
+    ensures { result ≡ typed_bound bound }
+{
+    match bound {
+        Bound::AtMost => Op::Le,
+        Bound::AtLeast => Op::Ge,
+        Bound::Equal => Op::Eq,
     }
 }

@@ -5,4 +5,3 @@ pub mod Named
 pub mod Narrowest
 pub mod Negated
 pub mod Pass
-pub mod Wide

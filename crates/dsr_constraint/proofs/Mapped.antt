@@ -19,3 +19,12 @@ map_next f g first old new y xs i x lt is before pushed gives =
     ∙ ap (λ zs. zs ++ f y ∷ []) before
     ∙ ap (λ z. first ∷ map g (take i xs) ++ z ∷ []) (gives ∙ ap g is)
     ∙ ap (λ zs. first ∷ zs) (sym (map_more g xs i x lt))
+
+-- what the items up to one gave, and what that one gave
+pub map_push_at : {X Y : Type 0} (h : X → Y) (xs : List X) (i : ℕ) (d : X) (old new : List Y) (y : Y) → i < length xs → old ≡ map h (take i xs) → new ≡ old ++ y ∷ [] → y ≡ h (get_or xs i d) → new ≡ map h (take (i + 1) xs)
+map_push_at h xs i d old new y lt before pushed made =
+    pushed ∙ (λ j. before j ++ made j ∷ []) ∙ sym (map_more h xs i d lt)
+
+-- the same of an item that is given
+pub map_push : {X Y : Type 0} (h : X → Y) (xs : List X) (i : ℕ) (x : X) (old new : List Y) (y : Y) → i < length xs → x ≡ get_or xs i x → old ≡ map h (take i xs) → new ≡ old ++ y ∷ [] → y ≡ h x → new ≡ map h (take (i + 1) xs)
+map_push h xs i x old new y lt is before pushed made = map_push_at h xs i x old new y lt before pushed (made ∙ ap h is)

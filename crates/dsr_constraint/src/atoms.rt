@@ -3,26 +3,18 @@ ghost use Rattle.std.specs.Prelude.{◌≡◌, List, None, option_map};
 ghost use Rattle.dsr_faults.specs.Telling.{Finds};
 ghost use Rattle.dsr_names.specs.Tables.{known_of};
 ghost use Rattle.dsr_typing.specs.Known.{unknown, set_named};
-ghost use Rattle.dsr_typing.specs.Rules.{var_place};
 ghost use Rattle.dsr_typing.specs.Constraints.{variable_faults, measure_names, measure_mismatches, measure_faults, atom_place, atom_names, pairs_others, atom_mismatches, atom_constants, atom_faults};
 ghost use Rattle.dsr_constraint.specs.Scoped.{scope_told, Narrow};
 
-use crate::notes::{check_found, note_part};
-use crate::pools::{disagree, has_other_source, has_other_target, values_others};
+use crate::notes::note_part;
 use crate::scopes::Scope;
 use crate::widths::Constants;
 use dsr_faults::Told;
 use dsr_ir::Rel;
+use dsr_names::{
+    disagree, has_other_source, has_other_target, note_found, note_name, values_others, var_place,
+};
 use dsr_tree::{Atom, Condition, Measure, PlacedName, Var};
-
-fn var_place(var: &Var) -> u64
-    ensures { result ≡ var_place var.now }
-{
-    match var {
-        Var::Head { place } => *place,
-        Var::Name(name) => name.place,
-    }
-}
 
 // Where an atom begins.
 fn atom_place(atom: &Atom) -> u64
@@ -43,14 +35,16 @@ impl Scope<'_> {
     {
         match var {
             Var::Head { .. } => (),
-            Var::Name(name) => check_found(told, &self.named_variable(&name.name), name),
+            Var::Name(name) => {
+                note_name(told, self.named_variable(&name.name).is_some(), name);
+            }
         }
     }
 
     fn check_relation(&self, told: &mut Told, relation: &PlacedName)
         ensures { Finds (unknown ((known_of self.now.known).relation relation.now.name) relation.now) told.old.fault told.new.fault }
     {
-        check_found(told, &self.known.relation(&relation.name), relation);
+        note_found(told, self.known.relation(&relation.name), relation);
     }
 
     fn check_measure_names(&self, told: &mut Told, measure: &Measure)
@@ -80,7 +74,7 @@ impl Scope<'_> {
             }
             Atom::Member { var, set } => {
                 self.check_variable(told, var);
-                check_found(told, &self.known.set(&set.name), set);
+                note_found(told, self.known.set(&set.name), set);
             }
             Atom::Value {
                 var,

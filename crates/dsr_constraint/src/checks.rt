@@ -13,13 +13,11 @@ ghost use Rattle.dsr_constraint.specs.Scoped.{Narrow, own_faults_of};
 
 use crate::formulas::check_formula;
 use crate::negations::check_negations;
-use crate::notes::check_found;
-use crate::pools;
 use crate::scopes::scope_of;
 use crate::widths::Constants;
 use dsr_faults::Told;
 use dsr_ir::{Name, NoMemory};
-use dsr_names::{Known, numbers_from};
+use dsr_names::{Known, note_found, numbers_from};
 use dsr_normal::NormalFault;
 use dsr_tree::{Binder, Condition, Constraint, PlacedName, Quantifier};
 use indexmap::IndexMap;
@@ -70,7 +68,7 @@ fn gives_numbers(known: &Known, binder: &Binder, name: &Name) -> bool
 {
     match binder {
         Binder::One(_) => false,
-        Binder::Pair { .. } => pools::gives_numbers(known.relation_named(name)),
+        Binder::Pair { .. } => dsr_names::gives_numbers(known.relation_named(name)),
     }
 }
 
@@ -92,9 +90,9 @@ fn check_symbol(told: &mut Told, known: &Known, binder: &Binder, symbol: &Placed
     ensures { Finds (symbol_faults (known_of known.now) binder.now symbol.now) told.old.fault told.new.fault }
 {
     match binder {
-        Binder::One(_) => check_found(told, &known.set(&symbol.name), symbol),
-        Binder::Pair { .. } => check_found(told, &known.relation(&symbol.name), symbol),
-    }
+        Binder::One(_) => note_found(told, known.set(&symbol.name), symbol),
+        Binder::Pair { .. } => note_found(told, known.relation(&symbol.name), symbol),
+    };
 }
 
 fn check_quantifier(told: &mut Told, known: &Known, quantifier: &Option<Quantifier>)

@@ -1,29 +1,13 @@
-// Pools of variables, and whether they are those of a relation.
-ghost use Rattle.std.specs.Prelude.{◌≡◌, Some, is_none, option_map, false};
-ghost use Rattle.std.specs.Option.{option_map_or};
-ghost use Rattle.dsr_meaning.specs.Typed.{pool_of_var};
+// Pools of variables.
+ghost use Rattle.std.specs.Prelude.{◌≡◌, Some};
 ghost use Rattle.dsr_tree.specs.declared.tree.Var.TheVariants as vars;
-ghost use Rattle.dsr_text.specs.Declarations.{disagree};
-ghost use Rattle.dsr_typing.specs.RuleFaults.{is_other_target};
-ghost use Rattle.dsr_typing.specs.Constraints.{var_pool, pool_of, has_other_source, has_other_targets, has_other_target, values_others};
+ghost use Rattle.dsr_typing.specs.Constraints.{var_pool, pool_of};
 ghost use Rattle.dsr_constraint.specs.Scoped.{scope_told};
 
 use crate::scopes::Scope;
-use dsr_ir::{Quant, Rel, Structures, Var};
+use dsr_ir::Var;
+use dsr_names::{first_pool, second_pool};
 use dsr_tree::PlacedName;
-
-// The pool of the members of a set, or of a variable of a relation's pairs.
-fn pool_of_var(base: &Structures, quant: Quant, var: Var) -> Option<u32>
-    ensures { result ≡ pool_of_var base.now quant var }
-{
-    match (quant, var) {
-        (_, Var::Head) => Some(0),
-        (Quant::Each(set), Var::First) => Some(base.sets.items().get(set as usize)?.pool),
-        (Quant::Pairs(rel), Var::First) => Some(base.rels.items().get(rel as usize)?.source),
-        (Quant::Pairs(rel), Var::Second) => base.rels.items().get(rel as usize)?.target,
-        _ => None,
-    }
-}
 
 impl Scope<'_> {
     // The pool of a bound variable, where that is known; that of the head is 0.
@@ -32,7 +16,8 @@ impl Scope<'_> {
     {
         match var {
             Var::Head => Some(0),
-            _ => pool_of_var(self.known.base, self.quant?, var),
+            Var::First => first_pool(self.known.base, self.quant?),
+            Var::Second => second_pool(self.known.base, self.quant?),
         }
     }
 
@@ -48,76 +33,5 @@ impl Scope<'_> {
         ensures { result ≡ pool_of (scope_told self.now) (vars.Name name.now) }
     {
         self.var_pool(self.named_variable(&name.name)?)
-    }
-}
-
-/// Whether two pools are known and differ.
-pub fn disagree(left: Option<u32>, right: Option<u32>) -> bool
-    ensures { result ≡ disagree left right }
-{
-    match (left, right) {
-        (Some(left), Some(right)) => left != right,
-        _ => false,
-    }
-}
-
-// Whether targets are others; none stands for numbers.
-fn is_other_target(left: Option<u32>, right: Option<u32>) -> bool
-    ensures { result ≡ is_other_target left right }
-{
-    match (left, right) {
-        (Some(left), Some(right)) => left != right,
-        (None, None) => false,
-        _ => true,
-    }
-}
-
-/// Whether a relation is known and gives numbers.
-pub fn gives_numbers(rel: Option<&Rel>) -> bool
-    ensures { result ≡ option_map_or (λ r. is_none r.target) (option_map (λ r. r.now) rel.entry) false }
-{
-    match rel {
-        Some(rel) => rel.target.is_none(),
-        None => false,
-    }
-}
-
-/// Whether a relation has another source than a variable.
-pub fn has_other_source(rel: Option<&Rel>, pool: Option<u32>) -> bool
-    ensures { result ≡ has_other_source (option_map (λ r. r.now) rel.entry) pool }
-{
-    match rel {
-        Some(rel) => disagree(pool, Some(rel.source)),
-        None => false,
-    }
-}
-
-/// Whether a relation has other targets than a variable.
-pub fn has_other_targets(rel: Option<&Rel>, pool: Option<u32>) -> bool
-    ensures { result ≡ has_other_targets (option_map (λ r. r.now) rel.entry) pool }
-{
-    match rel {
-        Some(rel) => pool.is_some() && is_other_target(pool, rel.target),
-        None => false,
-    }
-}
-
-/// Whether a pair's second variable is no target of a relation.
-pub fn has_other_target(rel: Option<&Rel>, pool: Option<u32>) -> bool
-    ensures { result ≡ has_other_target (option_map (λ r. r.now) rel.entry) pool }
-{
-    match rel {
-        Some(found) => found.target.is_none() || has_other_targets(rel, pool),
-        None => false,
-    }
-}
-
-/// Whether a relation gives no numbers, or not those of a variable.
-pub fn values_others(rel: Option<&Rel>, pool: Option<u32>) -> bool
-    ensures { result ≡ values_others (option_map (λ r. r.now) rel.entry) pool }
-{
-    match rel {
-        Some(rel) => rel.target.is_some() || disagree(pool, Some(rel.source)),
-        None => false,
     }
 }

@@ -1,11 +1,11 @@
 // What the variables of a constraint stand for.
 ghost use Rattle.std.specs.Prelude.{◌≡◌, Some, option_map};
 ghost use Rattle.dsr_names.specs.Tables.{known_of};
-ghost use Rattle.dsr_typing.specs.TypedConstraints.{bound_symbol, quant_of, scope_of, named_variable, variable, relation_of, set_of};
+ghost use Rattle.dsr_typing.specs.TypedConstraints.{scope_of, named_variable, variable, relation_of, set_of};
 ghost use Rattle.dsr_constraint.specs.Scoped.{scope_told};
 
 use dsr_ir::{Name, Quant, Var};
-use dsr_names::Known;
+use dsr_names::{Known, quant_of};
 use dsr_tree::{Binder, Quantifier};
 
 /// What the variables of a constraint stand for.
@@ -15,25 +15,6 @@ pub struct Scope<'a> {
     pub binder: Option<&'a Binder>,
     /// What is bound, where its set or relation is known.
     pub quant: Option<Quant>,
-}
-
-// What a quantifier binds, where its set or relation is known.
-fn bound_symbol(known: &Known, binder: &Binder, name: &Name) -> Option<Quant>
-    ensures { result ≡ bound_symbol (known_of known.now) binder.now name.now }
-{
-    match binder {
-        Binder::One(_) => Some(Quant::Each(known.set(name)?)),
-        Binder::Pair { .. } => Some(Quant::Pairs(known.relation(name)?)),
-    }
-}
-
-fn quant_of(known: &Known, quantifier: &Option<Quantifier>) -> Option<Quant>
-    ensures { result ≡ quant_of (known_of known.now) quantifier.now }
-{
-    match quantifier {
-        Some(quantifier) => bound_symbol(known, &quantifier.binder, &quantifier.symbol.name),
-        None => Some(Quant::Once),
-    }
 }
 
 // The variables of a quantifier.

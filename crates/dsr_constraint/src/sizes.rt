@@ -7,11 +7,10 @@ ghost use Rattle.dsr_typing.specs.TypedConstraints.{counts_targets, counts_sourc
 ghost use Rattle.dsr_typing.specs.Constraints.{size_names, relation_at, size_mismatches, counts_numbers};
 ghost use Rattle.dsr_constraint.specs.Scoped.{scope_told, unknown_place};
 
-use crate::notes::check_found;
-use crate::pools::{gives_numbers, has_other_source, has_other_targets};
 use crate::scopes::Scope;
 use dsr_faults::Told;
 use dsr_ir::Rel;
+use dsr_names::{gives_numbers, has_other_source, has_other_targets, note_found};
 use dsr_tree::{Condition, PlacedName, Size, Var};
 
 impl Scope<'_> {
@@ -47,7 +46,9 @@ impl Scope<'_> {
     {
         match var {
             Var::Head { .. } => (),
-            Var::Name(name) => check_found(told, &self.known.set(&name.name), name),
+            Var::Name(name) => {
+                note_found(told, self.known.set(&name.name), name);
+            }
         }
     }
 
@@ -55,7 +56,9 @@ impl Scope<'_> {
         ensures { Finds (size_names (scope_told self.now) var.now (Some part.now)) told.old.fault told.new.fault }
     {
         match var {
-            Var::Head { .. } => check_found(told, &self.known.relation(&part.name), part),
+            Var::Head { .. } => {
+                note_found(told, self.known.relation(&part.name), part);
+            }
             Var::Name(first) => {
                 let is_counted = self.counts_targets(var, part) || self.counts_sources(var, part);
                 let place = self.unknown_place(first, part);

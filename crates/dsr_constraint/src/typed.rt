@@ -27,24 +27,26 @@ use dsr_normal::normal;
 use dsr_tree::{Condition, Tree};
 use std::alloc::Global;
 
-// A constraint that has this normal form.
-fn typed_constraint(
+// Adds a constraint that has this normal form.
+fn add_constraint(
     alloc: Global,
     scope: &Scope,
+    typed: &mut Vec<Constraint>,
     constraint: &dsr_tree::Constraint,
     conjs: &[Conj],
-) -> Result<Constraint, NoMemory>
+) -> Result<(), NoMemory>
     requires scope { scope_told scope.now ≡ scope_of (scope_told scope.now).known constraint.now.quantifier }
     requires conjs { conjs.now ≡ normal_form (typed_formula (scope_told scope.now) (formula_shape constraint.now.formula)) }
-    ensures { IfOk result (λ c. c ≡ typed_constraint (scope_told scope.now).known (constraint_shape constraint.now)) }
+    ensures { OnOk result (typed.new.items ≡ typed.old.items ++ typed_constraint (scope_told scope.now).known (constraint_shape constraint.now) ∷ []) }
 {
     let name = constraint.name.name.clone(alloc)?;
     let conjs = all_without_complements(alloc, scope.known.base, conjs)?;
-    Ok(Constraint {
+    typed.push(Constraint {
         name,
         quant: scope.typed_quant(),
         conjs: Seq::new(conjs),
-    })
+    })?;
+    Ok(())
 }
 
 // The typed constraint where its formula has a normal form, and otherwise why it has none.
@@ -62,8 +64,7 @@ fn add_typed(
     let formula = Formula::new(typed_formula(alloc, &scope, &constraint.formula)?);
     match normal(alloc, &formula) {
         Ok(conjs) => {
-            let added = typed_constraint(alloc, &scope, constraint, &conjs)?;
-            typed.push(added)?;
+            add_constraint(alloc, &scope, typed, constraint, &conjs)?;
             Ok(())
         }
         Err(fault) => check_refusal(told, constraint, fault),
@@ -115,6 +116,27 @@ impl Checker<'_> {
     }
 }
 
+// The typed constraints where the widths of constants are known and there is no fault.
+fn typed_among(
+    alloc: Global,
+    known: &Known,
+    constants: &Constants,
+    told: &mut Told,
+    items: &[dsr_tree::Constraint],
+) -> Result<Vec<Constraint>, NoMemory>
+    requires { Narrow known.now constants.now }
+    ensures found { OnOk result (Finds (faults_of_all known.now constants.now.rules.now items.now) told.old.fault told.new.fault) }
+    ensures typed { IfOk result (λ cs. faults_of_all known.now constants.now.rules.now items.now ≡ [] → cs.items ≡ typed_of_all known.now items.now) }
+{
+    let numbers = constraint_numbers(alloc, items)?;
+    let checker = Checker {
+        known: *known,
+        constants: *constants,
+        numbers: &numbers,
+    };
+    checker.typed_constraints(alloc, told, items)
+}
+
 // The typed constraints of a tree, over what its names stand for, or its first fault.
 fn constraints_among(
     alloc: Global,
@@ -129,17 +151,12 @@ fn constraints_among(
     let rules = tree.rules.items();
     let items = tree.constraints.items();
     let least = least_widths(alloc, known, rules)?;
-    let numbers = constraint_numbers(alloc, items)?;
-    let checker = Checker {
-        known: *known,
-        constants: Constants {
-            rules,
-            least: &least,
-        },
-        numbers: &numbers,
+    let constants = Constants {
+        rules,
+        least: &least,
     };
     let mut told = Told { fault: None };
-    let typed = checker.typed_constraints(alloc, &mut told, items)?;
+    let typed = typed_among(alloc, known, &constants, &mut told, items)?;
     match told.refusal() {
         Some(fault) => Err(fault),
         None => Ok(typed),

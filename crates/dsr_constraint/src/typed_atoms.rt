@@ -1,44 +1,14 @@
 // Typed atoms.
 ghost use Rattle.std.specs.Prelude.{◌≡◌};
-ghost use Rattle.dsr_typing.specs.TypedRules.{number_of, typed_compare};
-ghost use Rattle.dsr_typing.specs.TypedConstraints.{variable_in, typed_bound, typed_size, typed_measure, typed_atom};
+ghost use Rattle.dsr_typing.specs.TypedRules.{number_of};
+ghost use Rattle.dsr_typing.specs.TypedConstraints.{variable_in, typed_size, typed_measure, typed_atom};
 ghost use Rattle.dsr_tree.specs.declared.tree.Var.TheVariants as vars;
 ghost use Rattle.dsr_constraint.specs.Scoped.{scope_told};
 
 use crate::scopes::Scope;
-use dsr_ir::{Atom, Bound, Measure, Op, Var};
-use dsr_tree::{Compare, PlacedName, Size};
-
-fn number_of(found: Option<u32>) -> u32
-    ensures { result ≡ number_of found }
-{
-    found.unwrap_or(0)
-}
-
-// A comparison of values.
-fn typed_compare(compare: Compare) -> Op
-    ensures { result ≡ typed_compare compare }
-{
-    match compare {
-        Compare::Equal => Op::Eq,
-        Compare::Differs => Op::Ne,
-        Compare::Less => Op::Lt,
-        Compare::AtMost => Op::Le,
-        Compare::Greater => Op::Gt,
-        Compare::AtLeast => Op::Ge,
-    }
-}
-
-// A comparison of sizes.
-fn typed_bound(bound: dsr_tree::Bound) -> Op
-    ensures { result ≡ typed_bound bound }
-{
-    match bound {
-        dsr_tree::Bound::AtMost => Op::Le,
-        dsr_tree::Bound::AtLeast => Op::Ge,
-        dsr_tree::Bound::Equal => Op::Eq,
-    }
-}
+use dsr_ir::{Atom, Bound, Measure, Var};
+use dsr_names::{number_of, typed_bound, typed_compare};
+use dsr_tree::{PlacedName, Size};
 
 impl Scope<'_> {
     fn variable_in(&self, var: &dsr_tree::Var) -> Var

@@ -11,7 +11,10 @@ use std::alloc::Global;
 fn base_of(base: &Structures, set: u32) -> Option<u32>
     ensures { result ≡ base_of base.now set }
 {
-    base.sets.items().get(set as usize)?.except
+    match base.sets.items().get(set as usize) {
+        Some(set) => set.except,
+        None => None,
+    }
 }
 
 // A member of a complement is no member of its base.

@@ -1,16 +1,14 @@
 // How wide the constants may be with which the values of a relation are compared.
-ghost use Rattle.std.specs.Prelude.{◌≡◌, ◌<◌, ◌^◌, ℕ, nat_le, min, length, option_map, slice_index_or, slice_set, IfOk};
-ghost use Rattle.dsr_meaning.specs.Cells.{width_bits};
+ghost use Rattle.std.specs.Prelude.{◌≡◌, ◌<◌, min, length, slice_index_or, slice_set, IfOk};
 ghost use Rattle.dsr_names.specs.Tables.{known_of};
 ghost use Rattle.dsr_typing.specs.Rules as rules;
-ghost use Rattle.dsr_typing.specs.Rules.{record_name, record_structure, array_field};
 ghost use Rattle.dsr_typing.specs.Constraints.{is_too_great};
 ghost use Rattle.dsr_constraint.specs.Scoped.{Narrow};
 ghost use Rattle.dsr_constraint.specs.Widest.{given_relation, read_field, field_width, given_width, least_width, AreLeast, CountRelations};
 
-use dsr_ir::{FieldRef, Name, NoMemory, Width};
-use dsr_names::{Known, is_this};
-use dsr_tree::{Inclusion, Path, Premise, Rule, Var};
+use dsr_ir::{FieldRef, NoMemory};
+use dsr_names::{Known, is_too_wide, path_field, width_bits};
+use dsr_tree::{Inclusion, Rule};
 use std::alloc::Global;
 
 /// What is known of the constants with which values are compared.
@@ -20,70 +18,6 @@ pub struct Constants<'a> {
     pub rules: &'a [Rule],
     /// For each relation the bits of the narrowest field from which a rule gives it values, or 64.
     pub least: &'a [u64],
-}
-
-fn width_bits(width: Width) -> u64
-    ensures { result ≡ width_bits width }
-{
-    match width {
-        Width::U8 => 8,
-        Width::U16 => 16,
-        Width::U32 => 32,
-        Width::U64 => 64,
-        Width::Bits(bits) => u64::from(bits),
-    }
-}
-
-// The name of a rule's record; none where it is the head.
-fn record_name(premise: &Premise) -> Option<&Name>
-    ensures { option_map (λ n. n.now) result ≡ record_name premise.now }
-{
-    match premise {
-        Premise::Head { .. } => None,
-        Premise::Member { name, .. } => Some(&name.name),
-    }
-}
-
-// The structure by which it is read, where its set is known.
-fn record_structure(known: &Known, premise: &Premise) -> Option<u32>
-    ensures { result ≡ record_structure (known_of known.now) premise.now }
-{
-    match premise {
-        Premise::Head { .. } => Some(known.base.head),
-        Premise::Member { set, .. } => Some(known.plain_named(&set.name)?.structure),
-    }
-}
-
-// Whether a variable is the rule's record.
-fn is_record(known: &Known, rule: &Rule, var: &Var) -> bool
-    ensures { result ≡ rules.is_record (rules.scope_of (known_of known.now) rule.now) var.now }
-{
-    match var {
-        Var::Head { .. } => record_name(&rule.premise).is_none(),
-        Var::Name(name) => is_this(record_name(&rule.premise), &name.name),
-    }
-}
-
-// The field of a structure under a name, where the structure is known.
-fn array_field(known: &Known, structure: Option<u32>, name: &Name) -> Option<FieldRef>
-    ensures { result ≡ array_field (known_of known.now) structure name.now }
-{
-    known.field(structure?, name)
-}
-
-// The field that a path reads, where that is known.
-fn path_field(known: &Known, rule: &Rule, path: &Path) -> Option<FieldRef>
-    ensures { result ≡ rules.path_field (rules.scope_of (known_of known.now) rule.now) path.now.var path.now.field }
-{
-    if is_record(known, rule, &path.var) {
-        array_field(
-            known,
-            record_structure(known, &rule.premise),
-            &path.field.name,
-        )
-    } else {
-        None
-    }
 }
 
 fn read_field(known: &Known, rule: &Rule) -> Option<FieldRef>
@@ -148,13 +82,6 @@ fn lower(items: &mut [u64], at: usize, number: u64)
     ensures { items.new ≡ slice_set items.old at (min (slice_index_or items.old at 64) number) }
 {
     items[at] = items[at].min(number);
-}
-
-// Whether a number needs more than so many bits.
-fn is_too_wide(number: u64, bits: u64) -> bool
-    ensures { result ≡ nat_le (2 ^ bits) number }
-{
-    bits < 64 && number >> bits != 0
 }
 
 impl Constants<'_> {

@@ -2,11 +2,12 @@
 use Rattle.std.proofs.Common.{◌≡◌, ◌<◌, ◌+◌, ℕ, Bool, true, false, cond, not, ◌&&◌, List, [], ◌∷◌, ◌++◌, take, length, get_or, Option, None, Some, is_some, if◌then◌else◌, refl, sym, ap, ◌∙◌, add-one, arith}
 use Rattle.std.proofs.Math.Seq.{take-suc}
 use Rattle.std.proofs.lemmas.List.{length-take}
+use Rattle.std.proofs.lemmas.Slice.Eq.{bytes_eq-Decides}
 use Rattle.std.specs.List.{position_from}
 use Rattle.std.specs.Str.{bytes_eq}
 use Rattle.dsr_ir.specs.declared.declarations.Field.{Field}
 use Rattle.dsr_typing.specs.Known.{is_gap, has_field_name}
-use Rattle.dsr_names.specs.Tables.{is_named, field_name}
+use Rattle.dsr_names.specs.Tables.{is_named, entered, field_name}
 
 -- a number that is known, or else this one where the test passes
 abbrev pub known_or : Option ℕ → ℕ → Bool → Option ℕ
@@ -47,3 +48,27 @@ field_numbers q fs = ap (λ test. position_from test 0 fs) (λ i f. same f i)
       | true ↦ refl
       | false ↦ refl
     ]
+
+-- what is entered at a name, by what is known there and by whether it is the entered name
+known_stays : (number : ℕ) (here : Option ℕ) (passes : Bool) → (passes ≡ true → true ≡ is_some here) → here ≡ cond (is_some here) here (cond passes (Some number) None)
+known_stays number (Some n) passes is = refl
+known_stays number None true is = let clash = is refl in cc
+known_stays number None false is = refl
+
+unknown_comes : (number : ℕ) (here : Option ℕ) (passes : Bool) → (passes ≡ true → false ≡ is_some here) → cond passes (Some number) here ≡ cond (is_some here) here (cond passes (Some number) None)
+unknown_comes number (Some n) true is = let clash = is refl in cc
+unknown_comes number (Some n) false is = refl
+unknown_comes number None passes is = refl
+
+module _ (old : List ℕ → Option ℕ) (name : List ℕ) (number : ℕ) where
+  -- what is so at the name is so where the texts are the same
+  at_same : {b : Bool} → b ≡ is_some (old name) → (q : List ℕ) → bytes_eq name q ≡ true → b ≡ is_some (old q)
+  at_same is q same = is ∙ ap (λ n. is_some (old n)) ((bytes_eq-Decides name q).0 same)
+
+  -- a name that is known already
+  pub enter_known : true ≡ is_some (old name) → (q : List ℕ) → old q ≡ entered old name number q
+  enter_known is q = known_stays number (old q) (bytes_eq name q) (at_same is q)
+
+  -- a name that wasn't, entered under a copy of it
+  pub enter_new : {new : List ℕ → Option ℕ} {key : List ℕ} → false ≡ is_some (old name) → key ≡ name → ((q : List ℕ) → new q ≡ cond (bytes_eq key q) (Some number) (old q)) → (q : List ℕ) → new q ≡ entered old name number q
+  enter_new {new} {key} is copied now q = now q ∙ ap (λ k. cond (bytes_eq k q) (Some number) (old q)) copied ∙ unknown_comes number (old q) (bytes_eq name q) (at_same is q)

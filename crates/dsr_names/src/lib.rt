@@ -1,10 +1,26 @@
 //! What the names in rules and constraints stand for, among the tables of declarations.
 #![tactic(auto)]
 
+mod comparing;
+mod fields;
 mod known;
+mod notes;
 mod numbers;
+mod quantifiers;
+mod records;
+mod relations;
 mod tables;
+mod words;
 
+pub use comparing::{differ, disagree, is_other_target, is_too_wide, width_bits};
 pub use known::Known;
+pub use notes::{note_found, note_name};
 pub use numbers::{Named, is_this, numbers_from};
+pub use quantifiers::quant_of;
+pub use records::path_field;
+pub use relations::{
+    first_pool, gives_numbers, has_other_source, has_other_target, has_other_targets, second_pool,
+    values_others,
+};
 pub use tables::{NameTables, name_tables};
+pub use words::{number_of, typed_bound, typed_compare, var_place};

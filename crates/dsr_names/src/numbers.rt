@@ -94,9 +94,11 @@ fn enter(
 ) -> Result<(), NoMemory>
     ensures { OnOk result ((q : List ℕ) → get bytes_eq table.new q ≡ entered (get bytes_eq table.old) name.now number q) }
 {
-    if table.get(name).is_none() {
-        table.insert(name.clone(alloc)?, number)?;
+    if table.contains_key(name) {
+        return Ok(());
     }
+    let key = name.clone(alloc)?;
+    table.insert(key, number)?;
     Ok(())
 }
 

@@ -1,5 +1,5 @@
 // What the names of declared tables stand for.
-ghost use Rattle.std.specs.Prelude.{◌≡◌, ◌≤◌, [], ◌∷◌, map, length, slice_index_or, IfOk, All};
+ghost use Rattle.std.specs.Prelude.{◌≡◌, ◌≤◌, ℕ, List, [], ◌∷◌, map, length, slice_index_or, IfOk, All};
 ghost use Rattle.std.specs.List.{position_from};
 ghost use Rattle.std.specs.Option.{option_map_or};
 ghost use Rattle.std.specs.Str.{bytes_eq};
@@ -43,12 +43,13 @@ fn own_fields(alloc: Global, structures: &[Structure]) -> Result<Vec<IndexMap<Na
 fn line_of(alloc: Global, earlier: &[Vec<u32>], parent: Option<u32>) -> Result<Vec<u32>, NoMemory>
     ensures { IfOk result (λ line. line.items ≡ option_map_or (λ p. p ∷ slice_index_or (map (λ v. v.items) earlier.now) p []) parent []) }
 {
+    let Some(parent) = parent else {
+        return Ok(Vec::new(alloc));
+    };
     let mut line = Vec::new(alloc);
-    if let Some(parent) = parent {
-        line.push(parent)?;
-        if let Some(above) = earlier.get(parent as usize) {
-            line.extend_from_slice(above)?;
-        }
+    line.push(parent)?;
+    if let Some(above) = earlier.get(parent as usize) {
+        line.extend_from_slice(above)?;
     }
     Ok(line)
 }
@@ -65,16 +66,44 @@ fn lines_of(alloc: Global, structures: &[Structure]) -> Result<Vec<Vec<u32>>, No
     Ok(lines)
 }
 
+// The tables of pools, sets and relations.
+#[derive(Drop)]
+struct NumberTables {
+    pools: IndexMap<Name, u32>,
+    sets: IndexMap<Name, u32>,
+    relations: IndexMap<Name, u32>,
+}
+
+// A `?` costs its proof what stays to be dropped there, so these tables are made apart from the others.
+fn number_tables(alloc: Global, base: &Structures) -> Result<NumberTables, NoMemory>
+    requires typed { AreTyped base.now }
+    ensures pools { IfOk result (λ t. (q : List ℕ) → get bytes_eq t.pools q ≡ position_from (λ p. bytes_eq p.name q) 1 base.now.pools) }
+    ensures sets { IfOk result (λ t. (q : List ℕ) → get bytes_eq t.sets q ≡ position_from (λ s. bytes_eq s.name q) 0 base.now.sets) }
+    ensures relations { IfOk result (λ t. (q : List ℕ) → get bytes_eq t.relations q ≡ position_from (λ r. bytes_eq r.name q) 0 base.now.rels) }
+{
+    let pools = numbers_from(alloc, 1, base.pools.items())?;
+    let sets = numbers_from(alloc, 0, base.sets.items())?;
+    let relations = numbers_from(alloc, 0, base.rels.items())?;
+    Ok(NumberTables {
+        pools,
+        sets,
+        relations,
+    })
+}
+
 /// What the names of declared tables stand for.
 pub fn name_tables(alloc: Global, base: &Structures) -> Result<NameTables, NoMemory>
     requires typed { AreTyped base.now }
     ensures { IfOk result (λ tables. told_by base.now tables ≡ known_in base.now) }
 {
-    let pools = numbers_from(alloc, 1, base.pools.items())?;
-    let sets = numbers_from(alloc, 0, base.sets.items())?;
-    let relations = numbers_from(alloc, 0, base.rels.items())?;
     let fields = own_fields(alloc, base.structures.items())?;
     let ancestors = lines_of(alloc, base.structures.items())?;
+    let numbers = number_tables(alloc, base)?;
+    let NumberTables {
+        pools,
+        sets,
+        relations,
+    } = numbers;
     Ok(NameTables {
         pools,
         sets,

@@ -8,10 +8,9 @@ ghost use Rattle.dsr_typing.specs.RuleFaults.{premise_faults, span_index_faults,
 ghost use Rattle.dsr_rules.specs.Scopes.{scope_told};
 ghost use Rattle.dsr_faults.specs.Telling.{Finds};
 
-use crate::paths::note_found;
 use crate::scopes::Scope;
 use dsr_faults::Told;
-use dsr_names::{Known, is_this};
+use dsr_names::{Known, is_this, note_found};
 use dsr_tree::{Condition, Guards, Index, PlacedName, Premise, Rule, Span};
 
 // Whether a rule has more than 4 guards.
@@ -54,7 +53,7 @@ impl Scope<'_> {
     {
         let field = self.field_of(&array.name);
         self.check_field(told, array, field);
-        told.note_if(self.is_scalar(field), Condition::BadIndex, self.place);
+        told.note_if(self.known.is_scalar(field), Condition::BadIndex, self.place);
     }
 
     fn check_span_index(&self, told: &mut Told, index: &Index)

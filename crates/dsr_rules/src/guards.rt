@@ -4,9 +4,10 @@ ghost use Rattle.dsr_typing.specs.RuleFaults.{guard_faults};
 ghost use Rattle.dsr_rules.specs.Scopes.{scope_told, is_no_reference, is_no_number, tested_faults, compared_faults, more_guards_faults, guards_faults};
 ghost use Rattle.dsr_faults.specs.Telling.{Finds};
 
-use crate::scopes::{Scope, var_place};
+use crate::scopes::Scope;
 use dsr_faults::Told;
 use dsr_ir::FieldRef;
+use dsr_names::var_place;
 use dsr_tree::{Compare, Condition, Guard, Guards, Path, PlacedNumber, RefTest, Var};
 
 impl Scope<'_> {
@@ -14,14 +15,14 @@ impl Scope<'_> {
     fn is_no_reference(&self, var: &Var, field: Option<FieldRef>) -> bool
         ensures { result ≡ is_no_reference (scope_told self.now) var.now field }
     {
-        self.is_other_head(var) || self.is_number(field)
+        self.is_other_head(var) || self.known.is_number(field)
     }
 
     // Whether what a guard compares is known to be no number of the record.
     fn is_no_number(&self, var: &Var, field: Option<FieldRef>) -> bool
         ensures { result ≡ is_no_number (scope_told self.now) var.now field }
     {
-        self.is_other_head(var) || self.is_reference(field)
+        self.is_other_head(var) || self.known.is_reference(field)
     }
 
     fn check_tested(&self, told: &mut Told, place: u64, test: RefTest, path: &Path)
@@ -37,7 +38,7 @@ impl Scope<'_> {
     {
         let field = self.check_path(told, path);
         let is_no_number = self.is_no_number(&path.var, field);
-        let is_too_narrow = self.is_too_narrow(number.number, field);
+        let is_too_narrow = self.known.is_too_narrow(number.number, field);
         told.note_if(is_no_number, Condition::PoolMismatch, var_place(&path.var));
         told.note_if(is_too_narrow, Condition::Width, number.place);
     }

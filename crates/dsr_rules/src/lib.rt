@@ -2,7 +2,6 @@
 #![tactic(auto)]
 
 mod checks;
-mod fields;
 mod guards;
 mod members;
 mod pairs;

@@ -7,12 +7,11 @@ ghost use Rattle.dsr_typing.specs.RuleFaults.{inclusion_faults};
 ghost use Rattle.dsr_rules.specs.Scopes.{scope_told, set_names, faults_of_member, target_names, target_faults, leads_elsewhere, slot_names, slot_member_faults, record_names, own_faults};
 ghost use Rattle.dsr_faults.specs.Telling.{Finds};
 
-use crate::fields::disagree;
 use crate::pairs::note_mismatch;
-use crate::paths::note_found;
-use crate::scopes::{Scope, var_place};
+use crate::scopes::Scope;
 use dsr_faults::Told;
 use dsr_ir::FieldRef;
+use dsr_names::{disagree, note_found, var_place};
 use dsr_tree::{Inclusion, Member, MemberPart, PlacedName, Var};
 
 impl Scope<'_> {
@@ -57,7 +56,7 @@ impl Scope<'_> {
     fn leads_elsewhere(&self, var: &Var, field: Option<FieldRef>, pool: Option<u32>) -> bool
         ensures { result ≡ leads_elsewhere (scope_told self.now) var.now field pool }
     {
-        self.is_other_head(var) || self.refers_elsewhere(pool, field)
+        self.is_other_head(var) || self.known.refers_elsewhere(pool, field)
     }
 
     // The target of a reference.

@@ -9,12 +9,10 @@ ghost use Rattle.dsr_typing.specs.RuleFaults.{term_names, term_faults, term_pool
 ghost use Rattle.dsr_rules.specs.Scopes.{scope_told, pair_names, pair_faults};
 ghost use Rattle.dsr_faults.specs.Telling.{Finds};
 
-use crate::fields::disagree;
-use crate::paths::note_found;
 use crate::scopes::Scope;
 use dsr_faults::Told;
 use dsr_ir::{FieldRef, Rel};
-use dsr_names::is_this;
+use dsr_names::{disagree, is_this, note_found};
 use dsr_tree::{Condition, Path, PlacedName, Term};
 
 /// Notes that pools or kinds disagree; that is said only where all names are known.
@@ -103,7 +101,7 @@ impl Scope<'_> {
         requires field { field ≡ path_field (scope_told self.now) path.now.var path.now.field }
         ensures { result ≡ is_no_pair (scope_told self.now) (terms.Named name.now index.now) path.now }
     {
-        index.is_some() && path.index.is_none() && self.is_scalar(field)
+        index.is_some() && path.index.is_none() && self.known.is_scalar(field)
     }
 
     // Whether `head` stands where the record has a name, or a slot before a field that isn't read at the index.
@@ -131,7 +129,7 @@ impl Scope<'_> {
         match relation {
             Some(relation) => {
                 disagree(Some(relation.source), self.term_pool(term))
-                    || self.is_other_target(relation.target, field)
+                    || self.known.is_other_target(relation.target, field)
             }
             None => false,
         }

@@ -1,36 +1,16 @@
 // The names and the indexes of paths.
-ghost use Rattle.std.specs.Prelude.{◌≡◌, ◌||◌, not, Some};
-ghost use Rattle.dsr_tree.specs.declared.faults.Condition.TheVariants as conditions;
-ghost use Rattle.dsr_text.specs.Faults.{when};
-ghost use Rattle.dsr_typing.specs.Known.{is_nil, unknown};
+ghost use Rattle.std.specs.Prelude.{◌≡◌, ◌||◌, Some};
+ghost use Rattle.dsr_typing.specs.Known.{is_nil, field_is};
 ghost use Rattle.dsr_typing.specs.Rules.{field_of, path_field};
-ghost use Rattle.dsr_typing.specs.RuleFaults.{is_other_head, variable_faults, field_faults, path_names, is_foreign, is_misread, has_other_length, index_faults, path_faults, counts_others, slot_faults};
+ghost use Rattle.dsr_typing.specs.RuleFaults.{is_scalar, is_other_head, variable_faults, field_faults, path_names, is_foreign, is_misread, has_other_length, index_faults, path_faults, counts_others, slot_faults};
 ghost use Rattle.dsr_rules.specs.Scopes.{scope_told};
 ghost use Rattle.dsr_faults.specs.Telling.{Finds};
 
-use crate::fields::differ;
 use crate::scopes::{Scope, slot_count};
 use dsr_faults::Told;
 use dsr_ir::FieldRef;
-use dsr_names::is_this;
+use dsr_names::{differ, is_this, note_name};
 use dsr_tree::{Condition, Path, PlacedName, Var};
-
-/// Takes note of a name that stands for nothing, and says whether it stands for something.
-pub fn note_name(told: &mut Told, is_known: bool, name: &PlacedName) -> bool
-    ensures told { Finds (when (not is_known) conditions.UnknownName name.now.place) told.old.fault told.new.fault }
-    ensures known { result ≡ is_nil (when (not is_known) conditions.UnknownName name.now.place) }
-{
-    told.note_if(!is_known, Condition::UnknownName, name.place);
-    is_known
-}
-
-/// The same of what a name was found to stand for.
-pub fn note_found(told: &mut Told, number: Option<u32>, name: &PlacedName) -> bool
-    ensures told { Finds (unknown number name.now) told.old.fault told.new.fault }
-    ensures known { result ≡ is_nil (unknown number name.now) }
-{
-    note_name(told, number.is_some(), name)
-}
 
 impl Scope<'_> {
     /// Whether `head` stands where the record has a name.
@@ -92,13 +72,23 @@ impl Scope<'_> {
         }
     }
 
+    // Whether a field is known that the rule's index can't read: a scalar, or any under the slots of a pool.
+    fn is_unread(&self, field: Option<FieldRef>) -> bool
+        ensures { result ≡ field_is self.now.known.base.now (λ f. is_scalar f || self.now.over_pool) field }
+    {
+        match self.known.declared(field) {
+            Some(field) => field.len.is_none() || self.over_pool,
+            None => false,
+        }
+    }
+
     // Whether an array is read without index or under the slots of a pool, or a scalar with one.
     fn is_misread(&self, field: Option<FieldRef>, index: &Option<PlacedName>) -> bool
         ensures { result ≡ is_misread (scope_told self.now) field index.now }
     {
         match index {
             Some(_) => self.is_unread(field),
-            None => self.is_array(field),
+            None => self.known.is_array(field),
         }
     }
 

@@ -3,7 +3,7 @@ ghost use Rattle.std.specs.Prelude.{◌≡◌, option_map};
 ghost use Rattle.dsr_names.specs.Tables.{known_of};
 ghost use Rattle.dsr_tree.specs.declared.tree.Index.TheVariants as indexes;
 ghost use Rattle.dsr_typing.specs.Known.{pool_named};
-ghost use Rattle.dsr_typing.specs.Rules.{record_name, record_structure, record_pool, index_name, is_pool_index, is_over_pool, array_field, index_entries, span_entries, scope_of, is_record, field_of, path_field, var_place};
+ghost use Rattle.dsr_typing.specs.Rules.{record_name, record_structure, record_pool, index_name, is_pool_index, is_over_pool, index_entries, span_entries, scope_of, is_record, field_of, path_field};
 ghost use Rattle.dsr_rules.specs.Scopes.{scope_told};
 
 use dsr_ir::{Expr, FieldRef, Name};
@@ -89,16 +89,6 @@ fn is_over_pool(span: &Option<Span>) -> bool
     }
 }
 
-// The array of the record over which an index runs.
-fn array_field(known: &Known<'_>, structure: Option<u32>, name: &Name) -> Option<FieldRef>
-    ensures { result ≡ array_field (known_of known.now) structure name.now }
-{
-    match structure {
-        Some(structure) => known.field(structure, name),
-        None => None,
-    }
-}
-
 // How many entries the array of a field has, where the field is known.
 fn array_length<'a>(
     known: &Known<'a>,
@@ -107,7 +97,7 @@ fn array_length<'a>(
 ) -> Option<&'a Expr>
     ensures { option_map (λ e. e.now) result ≡ index_entries (known_of known.now) structure (indexes.Array array.now) }
 {
-    match array_field(known, structure, &array.name) {
+    match known.array_field(structure, &array.name) {
         Some(field) => known.field_length(field),
         None => None,
     }
@@ -146,16 +136,6 @@ fn span_entries<'a>(
     }
 }
 
-/// The place of a variable.
-pub fn var_place(var: &Var) -> u64
-    ensures { result ≡ var_place var.now }
-{
-    match var {
-        Var::Head { place } => *place,
-        Var::Name(name) => name.place,
-    }
-}
-
 impl<'a> Scope<'a> {
     /// What the parts of a rule rest on.
     pub fn new(known: &Known<'a>, rule: &'a Rule) -> Scope<'a>
@@ -188,7 +168,7 @@ impl<'a> Scope<'a> {
     pub fn field_of(&self, name: &Name) -> Option<FieldRef>
         ensures { result ≡ field_of (scope_told self.now) name.now }
     {
-        array_field(&self.known, self.structure, name)
+        self.known.array_field(self.structure, name)
     }
 
     /// The field that a path reads, where that is known.

@@ -3,23 +3,16 @@ ghost use Rattle.std.specs.Prelude.{◌≡◌, ◌∷◌, Some, map, IfOk};
 ghost use Rattle.dsr_names.specs.Tables.{known_of};
 ghost use Rattle.dsr_tree.specs.declared.tree.Term.TheVariants as terms;
 ghost use Rattle.dsr_typing.specs.Rules.{guards_of, premise_set};
-ghost use Rattle.dsr_typing.specs.TypedRules.{number_of, field_in, pool_in, typed_compare, typed_test, typed_path, path_in, typed_guard, typed_index, typed_span, typed_pair, slot_pool, typed_member, typed_inclusion, rule_in, typed_rule, typed_rules};
+ghost use Rattle.dsr_typing.specs.TypedRules.{field_in, pool_in, typed_test, typed_path, path_in, typed_guard, typed_index, typed_span, typed_pair, slot_pool, typed_member, typed_inclusion, rule_in, typed_rule, typed_rules};
 ghost use Rattle.dsr_rules.specs.Scopes.{scope_told};
 
 use crate::scopes::Scope;
-use dsr_ir::{FieldRef, Guard, Inc, NoMemory, Op, Path, Rule, Seq, Span, Test};
-use dsr_names::Known;
+use dsr_ir::{FieldRef, Guard, Inc, NoMemory, Path, Rule, Seq, Span, Test};
+use dsr_names::{Known, number_of, typed_compare};
 use dsr_tree::{
-    self, Compare, Guards, Inclusion, Index, MemberPart, PlacedName, Premise, RefTest, Term, Var,
+    self, Guards, Inclusion, Index, MemberPart, PlacedName, Premise, RefTest, Term, Var,
 };
 use std::alloc::Global;
-
-// The number that was found; 0 where there is none.
-fn number_of(found: Option<u32>) -> u32
-    ensures { result ≡ number_of found }
-{
-    found.unwrap_or(0)
-}
 
 // The field that was found, and some field where there is none.
 fn field_in(found: Option<FieldRef>) -> FieldRef
@@ -35,19 +28,6 @@ fn pool_in(known: &Known<'_>, name: &PlacedName) -> u32
     ensures { result ≡ pool_in (known_of known.now) name.now }
 {
     number_of(known.pool(&name.name))
-}
-
-fn typed_compare(compare: Compare) -> Op
-    ensures { result ≡ typed_compare compare }
-{
-    match compare {
-        Compare::Equal => Op::Eq,
-        Compare::Differs => Op::Ne,
-        Compare::Less => Op::Lt,
-        Compare::AtMost => Op::Le,
-        Compare::Greater => Op::Gt,
-        Compare::AtLeast => Op::Ge,
-    }
 }
 
 fn typed_test(test: RefTest) -> Test

@@ -6,9 +6,6 @@ use Rattle.dsr_typing.specs.Constraints.{constraints_faults}
 use Rattle.dsr_faults.proofs.Finding.{finds_same}
 use Rattle.dsr_constraint.proofs.typed.constraints_among.Goals as goal
 
-pub returns-in_err-numbers-clause-fault : goal.returns-in_err-numbers-clause-fault
-returns-in_err-numbers-clause-fault c = let p = err_from_is_err_and c.from_residual-in_err-numbers.result c.from_residual-in_err-numbers.ensures.1 in rw (p.1, p.2) tt
-
 pub returns-in_err-typed-clause-fault : goal.returns-in_err-typed-clause-fault
 returns-in_err-typed-clause-fault c = let p = err_from_is_err_and c.from_residual-in_err-typed.result c.from_residual-in_err-typed.ensures.1 in rw (p.1, p.2) tt
 

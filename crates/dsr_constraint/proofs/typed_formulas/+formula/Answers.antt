@@ -8,6 +8,7 @@ use Rattle.dsr_tree.proofs.TreeRows.{formula_is}
 use Rattle.dsr_typing.specs.TypedConstraints.{typed_formula, typed_joins, typed_join, typed_units, typed_unit}
 use Rattle.dsr_constraint.specs.Scoped.{scope_told}
 use Rattle.dsr_constraint.proofs.FormulaSteps.{joins_typed, units_typed}
+use Rattle.dsr_constraint.proofs.Mapped.{map_next}
 use Rattle.dsr_constraint.proofs.typed_formulas.+formula.Goals as goal
 
 pub typed_formula-returns : goal.typed_formula-returns
@@ -28,3 +29,11 @@ typed_joins-returns t c = joins_typed (scope_told c.args.scope.now) (formula_sha
 
 pub typed_units-returns : goal.typed_units-returns
 typed_units-returns t c = units_typed (scope_told c.args.scope.now) (formula_shape c.args.first) (map formula_shape c.loop-unit.parts.items) (take c.loop-unit.unit-index c.args.rest.now) c.args.rest.now c.loop-unit.invariant (take_all c.loop-unit.unit-index c.args.rest.now c.loop-unit-test.false)
+
+pub typed_joins-loop-join-preserved : goal.typed_joins-loop-join-preserved
+typed_joins-loop-join-preserved t c =
+    map_next formula_shape (λ j. typed_join (scope_told c.args.scope.now) (join_shape j)) (formula_shape c.args.first) c.loop-join.parts.items c.push-in-loop-join.new.self.items c.in_ok-part.part c.args.rest.now c.loop-join.join-index c.join-item.result c.loop-join-test.true c.join-item.is c.loop-join.invariant c.in_ok-push-2.ensures.items c.in_ok-part.ensures
+
+pub typed_units-loop-unit-preserved : goal.typed_units-loop-unit-preserved
+typed_units-loop-unit-preserved t c =
+    map_next formula_shape (λ u. typed_unit (scope_told c.args.scope.now) (unit_shape u)) (formula_shape c.args.first) c.loop-unit.parts.items c.push-in-loop-unit.new.self.items c.in_ok-part.part c.args.rest.now c.loop-unit.unit-index c.unit-item.result c.loop-unit-test.true c.unit-item.is c.loop-unit.invariant c.in_ok-push-2.ensures.items c.in_ok-part.ensures

@@ -1,0 +1,86 @@
+// What instances give, in words.
+use crate::lines::Lines;
+use crate::models::{Found, model_of};
+use dsr_ir::{Element, Fact, Instance, Rule, Spec, Target};
+use dsr_layout::{index_count, premise_pool, record_count};
+use dsr_parse::parse;
+use dsr_spec::spec;
+use std::alloc::Global;
+
+fn add_element(lines: &mut Lines, elem: Element) {
+    lines.part(" ", u64::from(elem.pool));
+    lines.part(".", u64::from(elem.slot));
+}
+
+fn add_target(lines: &mut Lines, target: Target) {
+    match target {
+        Target::Elem(elem) => add_element(lines, elem),
+        Target::Num(number) => lines.part(" #", number),
+    }
+}
+
+fn add_fact(lines: &mut Lines, fact: Fact) {
+    match fact {
+        Fact::Member(set, elem) => {
+            lines.part(" S", u64::from(set));
+            add_element(lines, elem);
+        }
+        Fact::Pair(rel, elem, target) => {
+            lines.part(" R", u64::from(rel));
+            add_element(lines, elem);
+            add_target(lines, target);
+        }
+    }
+}
+
+fn add_instance(lines: &mut Lines, found: &Found, instance: Instance) {
+    if let Some(fact) = found.model.fact(&instance) {
+        lines.part("\n  ", u64::from(instance.rule));
+        add_element(lines, instance.elem);
+        lines.part(" ", instance.index);
+        add_fact(lines, fact);
+    }
+}
+
+// What a rule gives in a record.
+fn add_entries(lines: &mut Lines, found: &Found, rule: u32, elem: Element, entries: u64) {
+    for index in 0..entries {
+        let instance = Instance { rule, elem, index };
+        add_instance(lines, found, instance);
+    }
+}
+
+fn add_rule(lines: &mut Lines, spec: &Spec, found: &Found, number: u32, rule: &Rule) {
+    let pool = premise_pool(spec, rule);
+    let entries = index_count(&found.layout, rule.span);
+    for slot in 0..record_count(&found.layout, pool) {
+        if let Ok(slot) = u32::try_from(slot) {
+            add_entries(lines, found, number, Element { pool, slot }, entries);
+        }
+    }
+}
+
+fn add_rules(lines: &mut Lines, spec: &Spec, found: &Found) {
+    for (number, rule) in spec.rules.items().iter().enumerate() {
+        if let Ok(number) = u32::try_from(number) {
+            add_rule(lines, spec, found, number, rule);
+        }
+    }
+}
+
+/// All facts of the model of an image, each by the instances that give it.
+pub fn add_facts(lines: &mut Lines, alloc: Global, text: &[u8], image: Vec<u8>) {
+    let Ok(tree) = parse(alloc, text) else {
+        lines.word(" has no syntax\n");
+        return;
+    };
+    let Ok(spec) = spec(alloc, &tree) else {
+        lines.word(" has no meaning\n");
+        return;
+    };
+    match model_of(alloc, &spec, image) {
+        Some(found) => add_rules(lines, &spec, &found),
+        None => lines.word(" has no model"),
+    }
+    lines.word("\n");
+}

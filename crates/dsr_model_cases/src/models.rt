@@ -1,0 +1,37 @@
+// The model of an image.
+ghost use Rattle.std.specs.Prelude.{IfSome};
+ghost use Rattle.dsr_meaning.specs.Typed.{IsTyped};
+
+use dsr_fixpoint::rebuild;
+use dsr_image::Whole;
+use dsr_ir::{Layout, Spec};
+use dsr_layout::layout;
+use dsr_meaning::typed_specifications_are_placeable;
+use dsr_model::Model;
+use std::alloc::Global;
+
+/// A layout and the model on it.
+#[derive(Drop)]
+pub struct Found {
+    pub layout: Layout,
+    pub model: Model,
+}
+
+/// The model of an image; none where the specification has no layout on it, or memory runs out.
+pub fn model_of(alloc: Global, spec: &Spec, image: Vec<u8>) -> Option<Found>
+    requires typed { IsTyped spec.now }
+{
+    typed_specifications_are_placeable();
+    if image.len() > 67_108_864 {
+        return None;
+    }
+    let Ok(layout) = layout(alloc, spec, &image) else {
+        return None;
+    };
+    let Ok(mut model) = Model::prepare(alloc, spec, &layout) else {
+        return None;
+    };
+    let image = Whole::new(image);
+    rebuild(&mut model, spec, &layout, &image).ok()?;
+    Some(Found { layout, model })
+}

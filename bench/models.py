@@ -51,6 +51,13 @@ def images():
     yield "map", MAP, pack("<I", m) + bytes([0x55]) * (m // 8) + bytes(m)
 
 
+def write(folder):
+    os.makedirs(folder)
+    for name, text, image in images():
+        open(os.path.join(folder, name + ".spec"), "w").write(text)
+        open(os.path.join(folder, name + ".img"), "wb").write(image)
+
+
 def seconds(program, folder, name, count):
     best, memory = 1e9, 0
     for _ in range(5):
@@ -65,10 +72,11 @@ def main():
     program = os.path.abspath(sys.argv[1] if len(sys.argv) > 1 else "crates/dsr_model_speed/out/dsr_model_speed")
     folder = sys.argv[2] if len(sys.argv) > 2 else "target/models"
     if not os.path.isdir(folder):
-        os.makedirs(folder)
-        for name, text, image in images():
-            open(os.path.join(folder, name + ".spec"), "w").write(text)
-            open(os.path.join(folder, name + ".img"), "wb").write(image)
+        # in a process of its own, since the size of this one is where its children begin
+        if os.fork() == 0:
+            write(folder)
+            os._exit(0)
+        os.wait()
     for name in ("list", "scattered", "table", "edges", "map"):
         ten, memory = seconds(program, folder, name, 10)
         none, _ = seconds(program, folder, name, 0)

@@ -33,12 +33,20 @@ fn add_fact(lines: &mut Lines, fact: Fact) {
     }
 }
 
+fn add_name(lines: &mut Lines, word: &str, instance: Instance) {
+    lines.part(word, u64::from(instance.rule));
+    add_element(lines, instance.elem);
+    lines.part(" ", instance.index);
+}
+
+// What an instance gives, and the first that gives this.
 fn add_instance(lines: &mut Lines, found: &Found, instance: Instance) {
     if let Some(fact) = found.model.fact(&instance) {
-        lines.part("\n  ", u64::from(instance.rule));
-        add_element(lines, instance.elem);
-        lines.part(" ", instance.index);
+        add_name(lines, "\n  ", instance);
         add_fact(lines, fact);
+        if let Some(first) = found.model.first(&fact) {
+            add_name(lines, " by ", first);
+        }
     }
 }
 

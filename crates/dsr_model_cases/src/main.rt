@@ -1,5 +1,5 @@
 //! Reads specifications with images from the standard input and prints what the instances of their rules give: rule,
-//! record, entry of the index, and the fact.
+//! record, entry of the index, the fact, and behind `by` the first instance that gives it.
 //!
 //! A line `=== NAME HEX` begins a case, with the bytes of its image; the lines below it, up to the next such line, are
 //! its specification's text. A line `+++ NAME HEX` begins a case with the text of the last `===`.

@@ -1,0 +1,72 @@
+// Numbers for some places, and counts of sources.
+use dsr_rows::{Row, Tally};
+use std::test::Fail;
+
+fn set(row: &mut Row, place: u64, number: u64) {
+    if place < row.places() {
+        row.set(place, number);
+    }
+}
+
+fn forget(row: &mut Row, place: u64) {
+    if place < row.places() {
+        row.forget(place);
+    }
+}
+
+fn get(row: &Row, place: u64) -> Option<u64> {
+    if place < row.places() {
+        row.get(place)
+    } else {
+        None
+    }
+}
+
+#[test]
+fn places_have_numbers(rt: HostRuntime) -> Result<(), Fail> {
+    let mut row = Row::new(rt.alloc(), 70)?;
+    set(&mut row, 3, 18_446_744_073_709_551_615);
+    set(&mut row, 69, 0);
+    set(&mut row, 3, 7);
+    assert!(rt; row.count() == 2 && get(&row, 3) == Some(7) && get(&row, 69) == Some(0));
+    assert!(rt; row.next(0) == Some(3) && row.next(4) == Some(69));
+    forget(&mut row, 3);
+    assert!(rt; get(&row, 3).is_none() && row.count() == 1 && row.next(0) == Some(69));
+    row.clear();
+    assert!(rt; row.count() == 0 && row.next(0).is_none() && row.places() == 70);
+    Ok(())
+}
+
+fn raise(tally: &mut Tally, target: u64) {
+    if target < tally.targets() && tally.count(target) < 9 {
+        tally.raise(target);
+    }
+}
+
+fn lower(tally: &mut Tally, target: u64) {
+    if target < tally.targets() && tally.count(target) > 0 {
+        tally.lower(target);
+    }
+}
+
+fn count(tally: &Tally, target: u64) -> u32 {
+    if target < tally.targets() {
+        tally.count(target)
+    } else {
+        0
+    }
+}
+
+#[test]
+fn targets_have_sources(rt: HostRuntime) -> Result<(), Fail> {
+    let mut tally = Tally::new(rt.alloc(), 3)?;
+    raise(&mut tally, 0);
+    raise(&mut tally, 2);
+    raise(&mut tally, 2);
+    lower(&mut tally, 0);
+    lower(&mut tally, 1);
+    assert!(rt; count(&tally, 0) == 0 && count(&tally, 1) == 0 && count(&tally, 2) == 2);
+    tally.clear();
+    assert!(rt; tally.targets() == 3 && count(&tally, 2) == 0);
+    Ok(())
+}

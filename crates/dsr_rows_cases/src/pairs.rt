@@ -1,0 +1,31 @@
+// Pairs in order.
+use dsr_rows::Pairs;
+use std::test::Fail;
+
+fn push(pairs: &mut Pairs, first: u32, second: u64) {
+    if pairs.len() < pairs.room() {
+        pairs.push(first, second);
+    }
+}
+
+#[test]
+fn pairs_are_asked_in_order(rt: HostRuntime) -> Result<(), Fail> {
+    let mut pairs = Pairs::new(rt.alloc(), 6)?;
+    push(&mut pairs, 2, 5);
+    push(&mut pairs, 0, 9);
+    push(&mut pairs, 2, 1);
+    push(&mut pairs, 2, 5);
+    push(&mut pairs, 7, 0);
+    push(&mut pairs, 2, 3);
+    push(&mut pairs, 1, 1);
+    pairs.sort();
+    assert!(rt; pairs.len() == 5 && pairs.room() == 6);
+    assert!(rt; pairs.has(2, 5) && pairs.has(7, 0) && !pairs.has(2, 4) && !pairs.has(1, 1));
+    assert!(rt; pairs.count_of(2) == 3 && pairs.count_of(0) == 1 && pairs.count_of(1) == 0);
+    assert!(rt; pairs.first() == Some((0, 9)) && pairs.after(2, 1) == Some((2, 3)));
+    assert!(rt; pairs.after(2, 5) == Some((7, 0)) && pairs.after(7, 0).is_none());
+    assert!(rt; pairs.greatest_of(2) == Some(5) && pairs.greatest_of(1).is_none());
+    pairs.clear();
+    assert!(rt; pairs.len() == 0 && pairs.first().is_none());
+    Ok(())
+}

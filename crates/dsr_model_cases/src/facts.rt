@@ -87,7 +87,12 @@ pub fn add_facts(lines: &mut Lines, alloc: Global, text: &[u8], image: Vec<u8>) 
         return;
     };
     match model_of(alloc, &spec, image) {
-        Some(found) => add_rules(lines, &spec, &found),
+        Some(found) => {
+            add_rules(lines, &spec, &found);
+            if let Some(first) = found.deriver {
+                add_name(lines, "\n  S0 1.0 by ", first);
+            }
+        }
         None => lines.word(" has no model"),
     }
     lines.word("\n");

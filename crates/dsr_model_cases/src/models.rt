@@ -2,19 +2,20 @@
 ghost use Rattle.std.specs.Prelude.{IfSome};
 ghost use Rattle.dsr_meaning.specs.Typed.{IsTyped};
 
-use dsr_fixpoint::rebuild;
+use dsr_fixpoint::{deriver, rebuild};
 use dsr_image::Whole;
-use dsr_ir::{Layout, Spec};
+use dsr_ir::{Element, Fact, Instance, Layout, Spec};
 use dsr_layout::layout;
 use dsr_meaning::typed_specifications_are_placeable;
 use dsr_model::Model;
 use std::alloc::Global;
 
-/// A layout and the model on it.
+/// A layout and the model on it, with the deriver of one fact: that the first slot is in the first set.
 #[derive(Drop)]
 pub struct Found {
     pub layout: Layout,
     pub model: Model,
+    pub deriver: Option<Instance>,
 }
 
 /// The model of an image; none where the specification has no layout on it, or memory runs out.
@@ -33,5 +34,11 @@ pub fn model_of(alloc: Global, spec: &Spec, image: Vec<u8>) -> Option<Found>
     };
     let image = Whole::new(image);
     rebuild(&mut model, spec, &layout, &image).ok()?;
-    Some(Found { layout, model })
+    let fact = Fact::Member(0, Element { pool: 1, slot: 0 });
+    let deriver = deriver(&model, spec, &layout, &image, &fact);
+    Some(Found {
+        layout,
+        model,
+        deriver,
+    })
 }

@@ -8,3 +8,5 @@ mod marks;
 mod numbers;
 #[cfg(test)]
 mod pairs;
+#[cfg(test)]
+mod relations;

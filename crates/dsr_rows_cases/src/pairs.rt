@@ -19,7 +19,7 @@ fn pairs_are_asked_in_order(rt: HostRuntime) -> Result<(), Fail> {
     push(&mut pairs, 2, 3);
     push(&mut pairs, 1, 1);
     pairs.sort();
-    assert!(rt; pairs.len() == 5 && pairs.room() == 6);
+    assert!(rt; pairs.len() == 5 && pairs.room() == 6 && pairs.at(1) == Some((2, 1)));
     assert!(rt; pairs.has(2, 5) && pairs.has(7, 0) && !pairs.has(2, 4) && !pairs.has(1, 1));
     assert!(rt; pairs.count_of(2) == 3 && pairs.count_of(0) == 1 && pairs.count_of(1) == 0);
     assert!(rt; pairs.first() == Some((0, 9)) && pairs.after(2, 1) == Some((2, 3)));

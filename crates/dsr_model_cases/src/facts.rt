@@ -1,8 +1,11 @@
 // What instances give, in words.
+ghost use Rattle.std.specs.Prelude.{IsSome, slice_get};
+
 use crate::lines::Lines;
 use crate::models::{Found, model_of};
 use dsr_ir::{Element, Fact, Instance, Rule, Spec, Target};
 use dsr_layout::{index_count, premise_pool, record_count};
+use dsr_members::Members;
 use dsr_parse::parse;
 use dsr_spec::spec;
 use std::alloc::Global;
@@ -50,6 +53,32 @@ fn add_instance(lines: &mut Lines, found: &Found, instance: Instance) {
     }
 }
 
+// How many members a set has, which they are, and the greatest of them.
+fn add_members(lines: &mut Lines, members: &Members, set: u32)
+    requires { IsSome (slice_get members.now.sets set) }
+{
+    lines.part("\n  S", u64::from(set));
+    lines.part(" has ", members.count(set));
+    let mut from = 0;
+    for _ in 0..members.count(set) {
+        if let Some(slot) = members.next(set, from) {
+            lines.part(" ", u64::from(slot));
+            from = u64::from(slot) + 1;
+        }
+    }
+    if let Some(slot) = members.greatest(set) {
+        lines.part(" up to ", u64::from(slot));
+    }
+}
+
+fn add_sets(lines: &mut Lines, members: &Members) {
+    for set in 0..members.sets() {
+        if let Ok(number) = u32::try_from(set) {
+            add_members(lines, members, number);
+        }
+    }
+}
+
 // What a rule gives in a record.
 fn add_entries(lines: &mut Lines, found: &Found, rule: u32, elem: Element, entries: u64) {
     for index in 0..entries {
@@ -89,6 +118,7 @@ pub fn add_facts(lines: &mut Lines, alloc: Global, text: &[u8], image: Vec<u8>) 
     match model_of(alloc, &spec, image) {
         Some(found) => {
             add_rules(lines, &spec, &found);
+            add_sets(lines, found.model.members());
             if let Some(first) = found.deriver {
                 add_name(lines, "\n  S0 1.0 by ", first);
             }

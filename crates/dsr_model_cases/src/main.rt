@@ -1,5 +1,6 @@
 //! Reads specifications with images from the standard input and prints what the instances of their rules give: rule,
-//! record, entry of the index, the fact, and behind `by` the first instance that gives it.
+//! record, entry of the index, the fact, and behind `by` the first instance that gives it; then
+//! the members of each set.
 //!
 //! A line `=== NAME HEX` begins a case, with the bytes of its image; the lines below it, up to the next such line, are
 //! its specification's text. A line `+++ NAME HEX` begins a case with the text of the last `===`.

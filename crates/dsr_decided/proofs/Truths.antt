@@ -17,10 +17,10 @@ use Rattle.dsr_ir.specs.declared.tuples.Target.{Target}
 use Rattle.dsr_ir.specs.declared.tuples.Target.TheVariants.{Elem, Num}
 use Rattle.dsr_meaning.specs.Instances.{Compares}
 use Rattle.dsr_meaning.specs.Counting.{AreMany}
-use Rattle.dsr_meaning.specs.Truth.{AtomHolds, HasBound, HasSize, LiteralHolds, element_of}
+use Rattle.dsr_meaning.specs.Truth.{HasVariable, AtomHolds, HasBound, HasSize, LiteralHolds, element_of}
 use Rattle.dsr_meaning.proofs.Sizes.{size_once, bound_once}
 use Rattle.dsr_decided.specs.Deciding.{IsDecided}
-use Rattle.dsr_decided.specs.Sizes.{HasVariable, IsOnlySize}
+use Rattle.dsr_decided.specs.Sizes.{IsOnlySize}
 use Rattle.dsr_decided.proofs.Ways.{by_logic, both}
 use Rattle.dsr_decided.proofs.Listed.{IsListed, alike, nothing, one, when, every, taken_to, listed_decided, many, opposite, numbers, some_and}
 use Rattle.dsr_decided.proofs.Instances.{compared_facts, compares, elements, targets}

@@ -1,21 +1,14 @@
 -- Which sizes there are, and how large they may be.
-use Rattle.std.specs.Prelude.{◌≡◌, ◌≤◌, ℕ, List, IsSome}
+use Rattle.std.specs.Prelude.{◌≡◌, ◌≤◌, ℕ, List}
 use Rattle.dsr_ir.specs.declared.constraints.Measure.{Measure}
-use Rattle.dsr_ir.specs.declared.constraints.Measure.TheVariants.{Whole, Out, Into}
 use Rattle.dsr_ir.specs.declared.declarations.Spec.{Spec}
 use Rattle.dsr_ir.specs.declared.layouts.Layout.{Layout}
 use Rattle.dsr_ir.specs.declared.tuples.Binding.{Binding}
 use Rattle.dsr_ir.specs.declared.tuples.Fact.{Fact}
 use Rattle.dsr_meaning.specs.Models.{IsFact}
 use Rattle.dsr_meaning.specs.Refusals.{greatest_size}
-use Rattle.dsr_meaning.specs.Truth.{HasSize, element_of}
+use Rattle.dsr_meaning.specs.Truth.{HasSize, HasVariable}
 use Rattle.dsr_meaning.specs.Typed.{CountsRecords}
-
--- the binding has the variable of the measure; that of a set has none
-abbrev pub HasVariable : Binding → Measure → Type 0
-HasVariable b (Whole set) = Unit {0}
-HasVariable b (Out v rel) = IsSome (element_of b v)
-HasVariable b (Into rel v) = IsSome (element_of b v)
 
 -- the number is the size, and no other one is
 pub record IsOnlySize (is_fact : Fact → Type 0) (b : Binding) (measure : Measure) (n : ℕ) : Type 0 where

@@ -10,11 +10,11 @@ ghost use Rattle.dsr_ir.specs.declared.tuples.Instance.{Instance};
 ghost use Rattle.dsr_layout.specs.Laws.{OfEachLayout};
 ghost use Rattle.dsr_meaning.specs.Consistency.{AreViolations, BoundConstraint, IsConsistent};
 ghost use Rattle.dsr_meaning.specs.Models.{IsActive, IsDerivedBy, IsFact};
-ghost use Rattle.dsr_meaning.specs.Truth.{LiteralHolds};
+ghost use Rattle.dsr_meaning.specs.Truth.{HasVariable, LiteralHolds};
 ghost use Rattle.dsr_meaning.specs.Typed.{IsTyped};
 ghost use Rattle.dsr_decided.specs.Deciding.{IsDecided};
 ghost use Rattle.dsr_decided.specs.Reading.{ReadTheSame};
-ghost use Rattle.dsr_decided.specs.Sizes.{HasVariable, IsOnlySize, SizesAreBounded};
+ghost use Rattle.dsr_decided.specs.Sizes.{IsOnlySize, SizesAreBounded};
 
 /// Whether a fact is in the model is decided, and whether an instance is active.
 pub fn facts_are_decided()

@@ -82,3 +82,10 @@ abbrev pub NoneIsViolated : (Fact → Type 0) → Spec → List ℕ → Type 0
 NoneIsViolated is_fact spec order =
     (k : ℕ) (w : BoundConstraint) → slice_get order k ≡ Some w.constraint
     → IsViolated is_fact spec w → ⊥
+
+-- no binding of a constraint that stands earlier in the order is violated, and none of the one at the place that comes
+-- before the binding
+abbrev pub NoneIsViolatedBefore : (Fact → Type 0) → Spec → List ℕ → ℕ → Binding → Type 0
+NoneIsViolatedBefore is_fact spec order at binding =
+    (k : ℕ) (w : BoundConstraint) → slice_get order k ≡ Some w.constraint
+    → (k < at) ⊎ ((k ≡ at) × BindingPrecedes w.binding binding) → IsViolated is_fact spec w → ⊥

@@ -8,6 +8,7 @@ pub mod Instances
 pub mod Layouts
 pub mod Legal
 pub mod Lists
+pub mod Looking
 pub mod Models
 pub mod Orders
 pub mod Placeable

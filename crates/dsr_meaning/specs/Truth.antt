@@ -1,5 +1,5 @@
 -- When a literal of a constraint is true, by what is a fact.
-use Rattle.std.specs.Prelude.{◌≡◌, ℕ, Option, None, Some, IsSomeAnd, MatchBool}
+use Rattle.std.specs.Prelude.{◌≡◌, ℕ, Option, None, Some, IsSome, IsSomeAnd, MatchBool}
 use Rattle.dsr_ir.specs.declared.constraints.Atom.{Atom}
 use Rattle.dsr_ir.specs.declared.constraints.Atom.TheVariants as atoms
 use Rattle.dsr_ir.specs.declared.constraints.Bound.{Bound}
@@ -31,6 +31,12 @@ element_of (bindings.Pair x y) First = Some x
 element_of bindings.Once Second = None
 element_of (bindings.Each x) Second = None
 element_of (bindings.Pair x y) Second = Some y
+
+-- the binding has the variable of the measure; that of a set has none
+abbrev pub HasVariable : Binding → Measure → Type 0
+HasVariable b (Whole set) = Unit {0}
+HasVariable b (Out v rel) = IsSome (element_of b v)
+HasVariable b (Into rel v) = IsSome (element_of b v)
 
 -- In what follows, `is_fact` says what a fact is: in the model of an image, or in any other set of facts. Nothing
 -- holds of a variable that names no element.

@@ -27,11 +27,23 @@ braced_text fields = mark_of sign.OpenBrace ▸ fields ▸ mark_of sign.CloseBra
 -- what stands behind the count of a pool
 abbrev pub pool_end : Syntax
 pool_end =
-    row (maybe (expr_behind (a_word keyword.Slot)) ∷ expr_behind (a_word keyword.At) ∷ expr_behind (a_word keyword.Codes) ∷ expr_behind (a_word keyword.Step) ∷ expr_behind (a_word keyword.None) ∷ mark sign.Semicolon ∷ [])
+    row
+    (maybe (expr_behind (a_word keyword.Slot))
+    ∷ expr_behind (a_word keyword.At)
+    ∷ expr_behind (a_word keyword.Codes)
+    ∷ expr_behind (a_word keyword.Step)
+    ∷ expr_behind (a_word keyword.None)
+    ∷ mark sign.Semicolon
+    ∷ [])
 
 abbrev pub pool_end_text : PoolEnd → Phrase
 pool_end_text p =
-    maybe_text (behind_text keyword.Slot) (option_map expr_shape p.slot) ▸ behind_text keyword.At (expr_shape p.start) ▸ behind_text keyword.Codes (expr_shape p.code) ▸ behind_text keyword.Step (expr_shape p.step) ▸ behind_text keyword.None (expr_shape p.none) ▸ mark_of sign.Semicolon
+    maybe_text (behind_text keyword.Slot) (option_map expr_shape p.slot)
+    ▸ behind_text keyword.At (expr_shape p.start)
+    ▸ behind_text keyword.Codes (expr_shape p.code)
+    ▸ behind_text keyword.Step (expr_shape p.step)
+    ▸ behind_text keyword.None (expr_shape p.none)
+    ▸ mark_of sign.Semicolon
 
 -- what stands behind the index of a rule
 abbrev pub rule_end : Syntax

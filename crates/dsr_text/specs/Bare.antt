@@ -144,7 +144,17 @@ bare_structure s =
 -- pools, sets, relations, supplies
 abbrev pub bare_pool : PoolTree → PoolTree
 bare_pool p =
-    record { place = 0; name = bare_name p.name; structure = bare_name p.structure; count = bare_expr p.count; slot = option_map bare_expr p.slot; start = bare_expr p.start; code = bare_expr p.code; step = bare_expr p.step; none = bare_expr p.none }
+    record {
+      place = 0;
+      name = bare_name p.name;
+      structure = bare_name p.structure;
+      count = bare_expr p.count;
+      slot = option_map bare_expr p.slot;
+      start = bare_expr p.start;
+      code = bare_expr p.code;
+      step = bare_expr p.step;
+      none = bare_expr p.none;
+    }
 
 abbrev pub bare_view : View → View
 bare_view (views.As place structure) = views.As 0 (bare_name structure)
@@ -227,4 +237,15 @@ bare_constraint c =
 -- a whole tree
 abbrev pub bare_tree : TreeShape → TreeShape
 bare_tree t =
-    record { place = 0; version = bare_number t.version; order = t.order; structures = map bare_structure t.structures; pools = map bare_pool t.pools; sets = map bare_set t.sets; relations = map bare_relation t.relations; supplies = map bare_fresh t.supplies; rules = map bare_rule t.rules; constraints = map bare_constraint t.constraints }
+    record {
+      place = 0;
+      version = bare_number t.version;
+      order = t.order;
+      structures = map bare_structure t.structures;
+      pools = map bare_pool t.pools;
+      sets = map bare_set t.sets;
+      relations = map bare_relation t.relations;
+      supplies = map bare_fresh t.supplies;
+      rules = map bare_rule t.rules;
+      constraints = map bare_constraint t.constraints;
+    }

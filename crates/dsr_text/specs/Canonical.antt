@@ -32,4 +32,12 @@ lines_of phrase xs = flat_map (λ x. line_of (phrase x)) xs
 -- the canonical text
 abbrev pub canonical : TreeShape → List ℕ
 canonical t =
-    line_of (version_text t) ++ line_of (order_text t.order) ++ lines_of structure_text t.structures ++ lines_of pool_text t.pools ++ lines_of set_text t.sets ++ lines_of relation_text t.relations ++ lines_of fresh_text t.supplies ++ lines_of rule_text t.rules ++ lines_of constraint_text t.constraints
+    line_of (version_text t)
+    ++ line_of (order_text t.order)
+    ++ lines_of structure_text t.structures
+    ++ lines_of pool_text t.pools
+    ++ lines_of set_text t.sets
+    ++ lines_of relation_text t.relations
+    ++ lines_of fresh_text t.supplies
+    ++ lines_of rule_text t.rules
+    ++ lines_of constraint_text t.constraints

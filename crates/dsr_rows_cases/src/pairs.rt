@@ -29,3 +29,38 @@ fn pairs_are_asked_in_order(rt: HostRuntime) -> Result<(), Fail> {
     assert!(rt; pairs.len() == 0 && pairs.first().is_none());
     Ok(())
 }
+
+#[test]
+fn next_pairs_are_found_near_any_place(rt: HostRuntime) -> Result<(), Fail> {
+    let mut pairs = Pairs::new(rt.alloc(), 4)?;
+    push(&mut pairs, 3, 8);
+    push(&mut pairs, 1, 6);
+    push(&mut pairs, 1, 2);
+    push(&mut pairs, 1, 4);
+    pairs.sort();
+    assert!(rt;
+        pairs.after_near(1, 4, 1) == Some((1, 6)) && pairs.after_near(1, 6, 2) == Some((3, 8))
+    );
+    assert!(rt;
+        pairs.after_near(1, 4, 0) == Some((1, 6)) && pairs.after_near(1, 4, 3) == Some((1, 6))
+    );
+    assert!(rt;
+        pairs.after_near(1, 4, 4) == Some((1, 6))
+            && pairs.after_near(1, 6, usize::MAX) == Some((3, 8))
+    );
+    assert!(rt; pairs.after_near(3, 8, 3).is_none() && pairs.after_near(3, 8, 0).is_none());
+    assert!(rt;
+        pairs.after_near(1, 5, 1) == Some((1, 6)) && pairs.after_near(0, 0, 0) == Some((1, 2))
+    );
+    assert!(rt;
+        pairs.next_of(1, 0) == Some(2)
+            && pairs.next_of(1, 4) == Some(4)
+            && pairs.next_of(1, 5) == Some(6)
+    );
+    assert!(rt;
+        pairs.next_of(1, 7).is_none()
+            && pairs.next_of(2, 0).is_none()
+            && pairs.next_of(3, 8) == Some(8)
+    );
+    Ok(())
+}

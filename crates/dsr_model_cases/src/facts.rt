@@ -2,39 +2,15 @@
 ghost use Rattle.std.specs.Prelude.{IsSome, slice_get};
 
 use crate::lines::Lines;
+use crate::lookups::add_lookups;
 use crate::models::{Found, model_of};
-use dsr_ir::{Element, Fact, Instance, Rule, Spec, Target};
+use crate::tuples::{add_element, add_fact};
+use dsr_ir::{Element, Instance, Rule, Spec};
 use dsr_layout::{index_count, premise_pool, record_count};
 use dsr_members::Members;
 use dsr_parse::parse;
 use dsr_spec::spec;
 use std::alloc::Global;
-
-fn add_element(lines: &mut Lines, elem: Element) {
-    lines.part(" ", u64::from(elem.pool));
-    lines.part(".", u64::from(elem.slot));
-}
-
-fn add_target(lines: &mut Lines, target: Target) {
-    match target {
-        Target::Elem(elem) => add_element(lines, elem),
-        Target::Num(number) => lines.part(" #", number),
-    }
-}
-
-fn add_fact(lines: &mut Lines, fact: Fact) {
-    match fact {
-        Fact::Member(set, elem) => {
-            lines.part(" S", u64::from(set));
-            add_element(lines, elem);
-        }
-        Fact::Pair(rel, elem, target) => {
-            lines.part(" R", u64::from(rel));
-            add_element(lines, elem);
-            add_target(lines, target);
-        }
-    }
-}
 
 fn add_name(lines: &mut Lines, word: &str, instance: Instance) {
     lines.part(word, u64::from(instance.rule));
@@ -119,6 +95,7 @@ pub fn add_facts(lines: &mut Lines, alloc: Global, text: &[u8], image: Vec<u8>) 
         Some(found) => {
             add_rules(lines, &spec, &found);
             add_sets(lines, found.model.members());
+            add_lookups(lines, &spec, &found.model);
             if let Some(first) = found.deriver {
                 add_name(lines, "\n  S0 1.0 by ", first);
             }

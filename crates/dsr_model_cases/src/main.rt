@@ -1,14 +1,24 @@
-//! Reads specifications with images from the standard input and prints what the instances of their rules give: rule,
-//! record, entry of the index, the fact, and behind `by` the first instance that gives it; then
-//! the members of each set.
+//! Reads specifications with images from the standard input and prints what the instances of their rules give:
+//! rule, record, entry of the index, the fact, and behind `by` the first instance that gives it; then the members
+//! of each set, and what look-ups tell.
 //!
-//! A line `=== NAME HEX` begins a case, with the bytes of its image; the lines below it, up to the next such line, are
-//! its specification's text. A line `+++ NAME HEX` begins a case with the text of the last `===`.
+//! Of each set it prints the number of its members, behind `to` the greatest of them, and all of them. Of each
+//! relation it prints the number of targets of `head` and behind `of` that of its sources, each with the greatest,
+//! and then on a line each source with its targets; numbers stand behind `by` as well, as they follow each other.
+//! Of the signs behind a member or a target the first says whether the model has the fact (`+`), the second
+//! whether it has that with the next slot or number in its place.
+//!
+//! A line `=== NAME HEX` begins a case, with the bytes of its image; the lines below it, up to the next such line,
+//! are its specification's text. A line `+++ NAME HEX` begins a case with the text of the last `===`.
 #![tactic(auto)]
 
+#[cfg(test)]
+mod calls;
 mod facts;
 mod lines;
+mod lookups;
 mod models;
+mod tuples;
 
 use anyhow::bail;
 use facts::add_facts;

@@ -1,6 +1,8 @@
 // The model of an image.
-ghost use Rattle.std.specs.Prelude.{IfSome};
+ghost use Rattle.std.specs.Prelude.{◌≡◌, true, IfSome};
+ghost use Rattle.dsr_given.specs.Shapes.{rule_shapes};
 ghost use Rattle.dsr_meaning.specs.Typed.{IsTyped};
+ghost use Rattle.dsr_model.specs.Views.{IsLayoutFor};
 
 use dsr_fixpoint::{deriver, rebuild};
 use dsr_image::Whole;
@@ -21,6 +23,9 @@ pub struct Found {
 /// The model of an image; none where the specification has no layout on it, or memory runs out.
 pub fn model_of(alloc: Global, spec: &Spec, image: Vec<u8>) -> Option<Found>
     requires typed { IsTyped spec.now }
+    ensures layout { IfSome result (λ found. IsLayoutFor spec.now found.layout) }
+    ensures rules { IfSome result (λ found. found.model.given.rules ≡ rule_shapes spec.now found.layout) }
+    ensures ordered { IfSome result (λ found. found.model.ordered ≡ true) }
 {
     typed_specifications_are_placeable();
     if image.len() > 67_108_864 {

@@ -1,0 +1,5 @@
+pub mod Compared
+pub mod Finding
+pub mod Ordering
+pub mod Satisfying
+pub mod Searching

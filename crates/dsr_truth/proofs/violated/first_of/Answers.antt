@@ -1,0 +1,14 @@
+use Rattle.dsr_model.specs.Facts.{IsInModel}
+use Rattle.dsr_truth.proofs.Satisfying.{found_at}
+use Rattle.dsr_truth.proofs.Searching.{first_of}
+use Rattle.dsr_truth.proofs.violated.first_of.Goals as goal
+
+pub returns : goal.returns
+returns c =
+    let constraints = c.args.spec.now.constraints in
+    let constraint = c.in_ok-constraint.constraint.now in
+    let lookup = c.in_ok-constraint.ensures.lookup in
+    let declared =
+    found_at constraints c.items.result.now c.args.number constraint c.items.ensures lookup.3.0 lookup.1 in
+    first_of (IsInModel c.args.model.now) c.args.spec.now c.args.number constraint declared
+    c.next_violated.result c.next_violated.ensures

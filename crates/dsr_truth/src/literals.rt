@@ -1,0 +1,219 @@
+// When literals and conjunctions are true.
+ghost use Rattle.std.specs.Prelude.{◌≡◌, ◌↔◌, ℕ, true, IsFalse, IsSome, IsTrue, IsSomeAnd, MatchBool, MatchOption, slice_get};
+ghost use Rattle.dsr_ir.specs.declared.tuples.Fact.TheVariants as facts;
+ghost use Rattle.dsr_ir.specs.declared.constraints.Atom.TheVariants as atoms;
+ghost use Rattle.dsr_ir.specs.declared.tuples.Target.TheVariants.{Elem, Num};
+ghost use Rattle.dsr_meaning.specs.Consistency.{ConjHolds};
+ghost use Rattle.dsr_meaning.specs.Instances.{Compares};
+ghost use Rattle.dsr_meaning.specs.Truth.{AtomHolds, HasBound, HasSize, LiteralHolds};
+ghost use Rattle.dsr_model.specs.Facts.{IsInModel};
+ghost use Rattle.dsr_truth.specs.Walks.{FindsGreatestValue, IsSatisfied, IsUnsatisfied};
+
+use dsr_ir::{
+    Atom, Binding, Bound, Conj, Constraint, Element, Fact, Literal, Measure, Op, Spec, Target, Var,
+};
+use dsr_model::{Model, element_of};
+use dsr_resolved::compares;
+
+// The number of what is counted; none where the binding hasn't got the variable.
+#[inline]
+fn size_of(model: &Model, measure: &Measure, binding: &Binding) -> Option<u64>
+    requires { model.now.ordered ≡ true }
+    ensures { MatchOption result ((n : ℕ) → HasSize (IsInModel model.now) binding.now measure.now n → ⊥)
+        (HasSize (IsInModel model.now) binding.now measure.now) }
+{
+    match *measure {
+        Measure::Whole(_) => {}
+        Measure::Out(var, _) | Measure::Into(_, var) => {
+            element_of(binding, var)?;
+        }
+    }
+    Some(model.size(measure, binding))
+}
+
+// The number that values are compared with; none where the binding hasn't got the variable of a size.
+#[inline]
+fn bound_of(model: &Model, bound: &Bound, binding: &Binding) -> Option<u64>
+    requires { model.now.ordered ≡ true }
+    ensures { MatchOption result ((n : ℕ) → HasBound (IsInModel model.now) binding.now bound.now n → ⊥)
+        (HasBound (IsInModel model.now) binding.now bound.now) }
+{
+    match bound {
+        Bound::Num(number) => Some(*number),
+        Bound::Size(measure) => size_of(model, measure, binding),
+    }
+}
+
+// The greatest number that a relation gives to an element.
+#[inline]
+fn greatest_value(model: &Model, rel: u32, source: Element) -> Option<u64>
+    requires { model.now.ordered ≡ true }
+    ensures { FindsGreatestValue (λ value. IsInModel model.now (facts.Pair rel source (Num value))) result }
+{
+    let fact = model.greatest(&Measure::Out(Var::First, rel), &Binding::Each(source))?;
+    match fact {
+        Fact::Pair(_, _, target) => match target {
+            Target::Num(value) => Some(value),
+            Target::Elem(_) => None,
+        },
+        Fact::Member(_, _) => None,
+    }
+}
+
+// Whether every number that a relation gives to an element meets the comparison.
+fn values_compare(model: &Model, rel: u32, source: Element, op: Op, number: u64) -> bool
+    requires { model.now.ordered ≡ true }
+    ensures { IsTrue result ↔ ((value : ℕ) → IsInModel model.now (facts.Pair rel source (Num value))
+        → Compares op value number) }
+{
+    let Some(last) = greatest_value(model, rel, source) else {
+        return true;
+    };
+    let mut from = 0;
+    while let Some(value) = model.next_value(rel, source, from) {
+        if !compares(op, value, number) {
+            return false;
+        }
+        if value >= last {
+            return true;
+        }
+        from = value + 1;
+    }
+    true
+}
+
+// Whether an element is a member of a set.
+#[inline]
+fn is_member(model: &Model, elem: Option<Element>, set: u32) -> bool
+    requires { model.now.ordered ≡ true }
+    ensures { IsTrue result ↔ IsSomeAnd elem (λ e. IsInModel model.now (facts.Member set e)) }
+{
+    match elem {
+        Some(elem) => model.has(&Fact::Member(set, elem)),
+        None => false,
+    }
+}
+
+// Whether a pair of elements is in a relation.
+#[inline]
+fn is_pair(model: &Model, source: Option<Element>, target: Option<Element>, rel: u32) -> bool
+    requires { model.now.ordered ≡ true }
+    ensures { IsTrue result ↔ IsSomeAnd source (λ x. IsSomeAnd target (λ y.
+        IsInModel model.now (facts.Pair rel x (Elem y)))) }
+{
+    let Some(source) = source else {
+        return false;
+    };
+    let Some(target) = target else {
+        return false;
+    };
+    model.has(&Fact::Pair(rel, source, Target::Elem(target)))
+}
+
+// Whether what is counted meets the comparison.
+#[inline]
+fn size_compares(model: &Model, measure: &Measure, op: Op, number: u64, binding: &Binding) -> bool
+    requires { model.now.ordered ≡ true }
+    ensures { IsTrue result ↔ AtomHolds (IsInModel model.now) binding.now (atoms.Count measure.now op number) }
+{
+    match size_of(model, measure, binding) {
+        Some(size) => compares(op, size, number),
+        None => false,
+    }
+}
+
+// Whether all values of a variable meet the comparison.
+#[inline]
+fn value_compares(
+    model: &Model,
+    var: Var,
+    rel: u32,
+    op: Op,
+    bound: &Bound,
+    binding: &Binding,
+) -> bool
+    requires { model.now.ordered ≡ true }
+    ensures { IsTrue result ↔ AtomHolds (IsInModel model.now) binding.now (atoms.Value var rel op bound.now) }
+{
+    let Some(source) = element_of(binding, var) else {
+        return false;
+    };
+    let Some(number) = bound_of(model, bound, binding) else {
+        return false;
+    };
+    values_compare(model, rel, source, op, number)
+}
+
+// Whether an atom is true.
+#[inline]
+fn atom_holds(model: &Model, atom: &Atom, binding: &Binding) -> bool
+    requires { model.now.ordered ≡ true }
+    ensures { IsTrue result ↔ AtomHolds (IsInModel model.now) binding.now atom.now }
+{
+    match atom {
+        Atom::Member(var, set) => is_member(model, element_of(binding, *var), *set),
+        Atom::Pair(first, second, rel) => is_pair(
+            model,
+            element_of(binding, *first),
+            element_of(binding, *second),
+            *rel,
+        ),
+        Atom::Count(measure, op, number) => size_compares(model, measure, *op, *number, binding),
+        Atom::Value(var, rel, op, bound) => {
+            value_compares(model, *var, *rel, *op, bound, binding)
+        }
+    }
+}
+
+/// Whether a literal is true in a model. That it is only tested has no influence.
+#[inline]
+pub fn literal(model: &Model, literal: &Literal, binding: &Binding) -> bool
+    requires { model.now.ordered ≡ true }
+    ensures { IsTrue result ↔ LiteralHolds (IsInModel model.now) binding.now literal.now }
+{
+    atom_holds(model, &literal.atom, binding) != literal.negated
+}
+
+// Whether all literals of a conjunction are true.
+#[inline]
+fn conj_holds(model: &Model, conj: &Conj, binding: &Binding) -> bool
+    requires { model.now.ordered ≡ true }
+    ensures { IsTrue result ↔ ConjHolds (IsInModel model.now) binding.now conj.now }
+{
+    for item in conj.literals.items() {
+        if !literal(model, item, binding) {
+            return false;
+        }
+    }
+    true
+}
+
+// Whether some conjunction of a constraint has all its literals true.
+pub fn is_satisfied(model: &Model, constraint: &Constraint, binding: &Binding) -> bool
+    requires { model.now.ordered ≡ true }
+    ensures { MatchBool result (IsSatisfied (IsInModel model.now) binding.now constraint.now)
+        (IsUnsatisfied (IsInModel model.now) binding.now constraint.now) }
+{
+    for conj in constraint.conjs.items() {
+        if conj_holds(model, conj, binding) {
+            return true;
+        }
+    }
+    false
+}
+
+/// Whether a binding of a constraint, by its number, satisfies it: some conjunction has all its literals true.
+pub fn holds(model: &Model, spec: &Spec, constraint: u32, binding: &Binding) -> bool
+    requires ordered { model.now.ordered ≡ true }
+    requires declared { IsSome (slice_get spec.now.constraints constraint) }
+    ensures satisfied { IsTrue result ↔ IsSomeAnd (slice_get spec.now.constraints constraint)
+        (IsSatisfied (IsInModel model.now) binding.now) }
+    ensures unsatisfied { IsFalse result ↔ IsSomeAnd (slice_get spec.now.constraints constraint)
+        (IsUnsatisfied (IsInModel model.now) binding.now) }
+{
+    is_satisfied(
+        model,
+        &spec.constraints.items()[constraint as usize],
+        binding,
+    )
+}

@@ -1,0 +1,3 @@
+mod Caused
+pub mod Laws
+mod Played

@@ -1,0 +1,233 @@
+// A command that copies a file, over shelves and outputs in memory whose calls fail in turn.
+ghost use Rattle.std.specs.Prelude.{◌≡◌, IfOk};
+ghost use Rattle.dsr_script.specs.Moves.{shown};
+
+use super::*;
+use dsr_store::{Content, Held, Label, MemoryShelf, MemorySink};
+use std::alloc::{AllocError, Global};
+use std::test::Fail;
+
+// A copy that waits for the bytes, with the name under which they are saved.
+#[derive(Drop)]
+struct Copying<'a> {
+    to: &'a str,
+}
+
+fn tell(alloc: Global, verdict: Verdict, text: &[u8]) -> Result<Told, AllocError>
+    ensures { IfOk result (λ told. shown told ≡ record { verdict = verdict; text = text.now }) }
+{
+    let text = Vec::from_slice(alloc, text)?;
+    Ok(Told { verdict, text })
+}
+
+impl<'a> Stage<'a> for Copying<'a> {
+    ghost use Rattle.std.specs.Prelude.{◌≡◌, codes, ⊤};
+    ghost use Rattle.dsr_script.specs.Scripts.{saves};
+    ghost use Rattle.dsr_script.specs.declared.status.Verdict.TheVariants as verdicts;
+
+    ghost due = { λ copying bytes. saves copying.to.now (λ saved answer.
+        (saved ≡ bytes) × (answer ≡ record { verdict = verdicts.Ok; text = codes "copied\n" })) };
+
+    ghost left = { λ _. 0 };
+
+    ghost ready = { λ _ _. ⊤ };
+
+    fn go_on(self, alloc: Global, bytes: Vec<u8>) -> Result<Move<'a, Self>, AllocError> {
+        Ok(Move::Save {
+            name: self.to,
+            bytes,
+            told: tell(alloc, Verdict::Ok, b"copied\n")?,
+        })
+    }
+}
+
+impl<'a> Commands<'a> for Copying<'a> {
+    ghost use Rattle.std.specs.Prelude.{◌≡◌, codes, length, nat_eq, []};
+    ghost use Rattle.std.specs.List.{slice_index_or};
+    ghost use Rattle.dsr_script.specs.Scripts.{chooses, loads, saves, tells};
+    ghost use Rattle.dsr_script.specs.declared.status.Verdict.TheVariants as verdicts;
+
+    ghost asked = { λ words. chooses (nat_eq (length words) 2)
+        (loads (slice_index_or words 0 []) 4 (codes "too long\n") (λ bytes.
+        saves (slice_index_or words 1 []) (λ saved answer.
+        (saved ≡ bytes) × (answer ≡ record { verdict = verdicts.Ok; text = codes "copied\n" }))))
+        (tells (λ answer. answer ≡ record { verdict = verdicts.Usage; text = codes "usage\n" })) };
+
+    fn begin(alloc: Global, words: &'a [String]) -> Result<Move<'a, Self>, AllocError> {
+        if words.len() == 2 {
+            return Ok(Move::Load {
+                name: words[0].as_str(),
+                limit: 4,
+                long: b"too long\n",
+                stage: Copying {
+                    to: words[1].as_str(),
+                },
+            });
+        }
+        Ok(Move::Tell(tell(alloc, Verdict::Usage, b"usage\n")?))
+    }
+}
+
+// Words over a file under `a`, the calls that are made to fail, and what comes of it.
+#[derive(Clone, Copy)]
+struct Case<'a> {
+    words: &'a [&'a str],
+    file: &'a str,
+    failed_calls: &'a [u64],
+    failed_puts: &'a [u64],
+    status: Status,
+    text: &'a str,
+    // What is held under `b` afterwards, if anything.
+    copy: Option<&'a str>,
+    // How often the shelf is called.
+    calls: u64,
+}
+
+// A file within the limit is copied, and no call fails.
+const COPY: Case<'static> = Case {
+    words: &["a", "b"],
+    file: "four",
+    failed_calls: &[],
+    failed_puts: &[],
+    status: Status::Said(Verdict::Ok),
+    text: "copied\n",
+    copy: Some("four"),
+    calls: 2,
+};
+
+fn words_of(alloc: Global, words: &[&str]) -> Result<Vec<String>, AllocError> {
+    let mut all = Vec::new(alloc);
+    for word in words {
+        all.push(word.to_string(alloc)?)?;
+    }
+    Ok(all)
+}
+
+// The bytes that are held under the name, if any.
+fn held_under<'a>(files: &'a [Held], name: &str) -> Option<&'a [u8]> {
+    for file in files {
+        if file.name.bytes() == name.as_bytes() {
+            return Some(file.bytes.bytes());
+        }
+    }
+    None
+}
+
+fn ends_so(alloc: Global, case: &Case<'_>) -> Result<bool, AllocError> {
+    let name = Label::new(Vec::from_slice(alloc, b"a")?);
+    let bytes = Content::new(Vec::from_slice(alloc, case.file.as_bytes())?);
+    let mut shelf = MemoryShelf {
+        files: vec![in alloc; Held { name, bytes }]?,
+        fail: Vec::from_slice(alloc, case.failed_calls)?,
+        calls: 0,
+        last: None,
+    };
+    let mut out = MemorySink {
+        bytes: Vec::new(alloc),
+        fail: Vec::from_slice(alloc, case.failed_puts)?,
+        calls: 0,
+    };
+    let words = words_of(alloc, case.words)?;
+    let status = run::<Copying, MemoryShelf, MemorySink>(alloc, &words, &mut shelf, &mut out);
+    if status == Status::NoMemory && out.bytes.is_empty() {
+        return Err(AllocError);
+    }
+    let copy = held_under(&shelf.files, "b");
+    Ok(
+        status == case.status
+            && out.bytes.as_slice() == case.text.as_bytes()
+            && copy == case.copy.map(|text| text.as_bytes())
+            && shelf.calls == case.calls,
+    )
+}
+
+// The place of the first case that ends in another way.
+fn first_wrong(alloc: Global, cases: &[Case<'_>]) -> Result<Option<usize>, AllocError> {
+    for (place, case) in cases.iter().enumerate() {
+        if !ends_so(alloc, case)? {
+            return Ok(Some(place));
+        }
+    }
+    Ok(None)
+}
+
+#[test]
+fn each_call_fails_in_turn(rt: HostRuntime) -> Result<(), Fail> {
+    let alloc = rt.alloc();
+    let lost = Case {
+        status: Status::StoreFailed,
+        text: "store failed\n",
+        ..COPY
+    };
+    let cases = [
+        COPY,
+        Case {
+            failed_calls: &[1],
+            copy: None,
+            calls: 1,
+            ..lost
+        },
+        Case {
+            failed_calls: &[2],
+            copy: Some(""),
+            ..lost
+        },
+        Case {
+            failed_puts: &[1],
+            status: Status::OutputFailed,
+            text: "",
+            ..COPY
+        },
+        // That the store failed can't be told.
+        Case {
+            failed_calls: &[2],
+            failed_puts: &[1],
+            status: Status::OutputFailed,
+            text: "",
+            copy: Some(""),
+            ..COPY
+        },
+    ];
+    assert_eq!(rt; first_wrong(alloc, &cases)?, None);
+    Ok(())
+}
+
+// Words over a file, with what they get where no copy is made.
+fn uncopied<'a>(
+    words: &'a [&'a str],
+    file: &'a str,
+    status: Status,
+    text: &'a str,
+    calls: u64,
+) -> Case<'a> {
+    Case {
+        words,
+        file,
+        failed_calls: &[],
+        failed_puts: &[],
+        status,
+        text,
+        copy: None,
+        calls,
+    }
+}
+
+#[test]
+fn runs_end_before_a_save(rt: HostRuntime) -> Result<(), Fail> {
+    let alloc = rt.alloc();
+    let usage = Status::Said(Verdict::Usage);
+    let cases = [
+        uncopied(&[], "four", usage, "usage\n", 0),
+        uncopied(&["a"], "four", usage, "usage\n", 0),
+        uncopied(&["a", "b"], "fives", Status::TooLong, "too long\n", 1),
+        uncopied(
+            &["x", "b"],
+            "four",
+            Status::StoreFailed,
+            "store failed\n",
+            1,
+        ),
+    ];
+    assert_eq!(rt; first_wrong(alloc, &cases)?, None);
+    Ok(())
+}

@@ -1,0 +1,14 @@
+//! What is answered, as text: verdicts with the violated bindings, and refusals of texts and of
+//! images. Where memory is wanting nothing is told.
+#![tactic(auto)]
+
+mod layouts;
+mod names;
+mod refusals;
+mod texts;
+mod verdicts;
+
+pub use layouts::layout_refused;
+pub use refusals::{meaning_refused, syntax_refused};
+pub use texts::told;
+pub use verdicts::verdict;

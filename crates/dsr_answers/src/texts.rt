@@ -1,0 +1,33 @@
+// Texts that grow piece by piece.
+ghost use Rattle.std.specs.Prelude.{◌≡◌, ◌++◌, IfOk, OnOk, decimal};
+ghost use Rattle.dsr_script.specs.Moves.{shown};
+
+use dsr_ir::NoMemory;
+use dsr_script::{Told, Verdict};
+use itoa::Buffer;
+use std::alloc::Global;
+
+/// Appends a piece.
+pub fn push(text: &mut Vec<u8>, piece: &[u8]) -> Result<(), NoMemory>
+    ensures { OnOk result (text.new.items ≡ text.old.items ++ piece.now) }
+{
+    text.extend_from_slice(piece)?;
+    Ok(())
+}
+
+/// Appends a number in decimal.
+pub fn push_number(text: &mut Vec<u8>, number: u64) -> Result<(), NoMemory>
+    ensures { OnOk result (text.new.items ≡ text.old.items ++ decimal number) }
+{
+    push(text, Buffer::new().format(number).as_bytes())
+}
+
+/// The answer with this verdict and this text.
+pub fn told(alloc: Global, verdict: Verdict, text: &[u8]) -> Result<Told, NoMemory>
+    ensures { IfOk result (λ told. shown told ≡ record { verdict = verdict; text = text.now }) }
+{
+    Ok(Told {
+        verdict,
+        text: Vec::from_slice(alloc, text)?,
+    })
+}

@@ -1,7 +1,14 @@
--- When the words of the command line are no command.
-use Rattle.std.specs.Prelude.{ℕ, List, [], ◌∷◌, length, Bool, true, not, ◌&&◌, ◌||◌, nat_eq, codes}
+-- What the words of the command line ask for.
+use Rattle.std.specs.Prelude.{ℕ, List, [], ◌∷◌, length, Bool, true, not, ◌&&◌, ◌||◌, nat_eq, codes, Option, None, Some, if◌then◌else◌}
 use Rattle.std.specs.List.{list_any, slice_index_or}
 use Rattle.std.specs.Str.{bytes_eq}
+
+-- a command, with the names of its files
+pub data Asked : Type 0 where
+  -- whether an image is consistent under a specification
+  Check : (spec image : List ℕ) → Asked
+  -- the canonical text of a specification
+  Text : (spec : List ℕ) → Asked
 
 -- an empty word, or one that begins with a dash
 abbrev pub is_odd : List ℕ → Bool
@@ -28,3 +35,11 @@ second words = slice_index_or words 1 []
 
 abbrev pub third : List (List ℕ) → List ℕ
 third words = slice_index_or words 2 []
+
+-- the command of words that are one
+abbrev pub called : List (List ℕ) → Asked
+called words = if is_text words then Text (second words) else Check (second words) (third words)
+
+-- what the words ask for; none where they are no command
+abbrev pub command_of : List (List ℕ) → Option Asked
+command_of words = if is_usage words then None else Some (called words)

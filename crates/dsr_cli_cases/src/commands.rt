@@ -1,5 +1,5 @@
 // Commands over shelves and outputs in memory.
-use dsr_cli::{Status, run};
+use dsr_cli::{Status, Verdict, run};
 use dsr_store::{Content, Held, Label, MemoryShelf, MemorySink, Missed, SureShelf, SureSink};
 use std::alloc::{AllocError, Global};
 use std::test::Fail;
@@ -36,7 +36,7 @@ const LIST_PRINTED: &str = "version 1 ;\n\
     rule head => < head , head . count > in Count ;\n\
     constraint total : head . Count = size ( Nodes ) ;\n";
 
-// That list with a further set, a guard and further constraints, which aren't accepted yet.
+// That list with a further set, a guard and further constraints.
 const GUARDED: &[u8] = b"version 1; order little;
 structure Head { fixed u16 n; u16 count; u32 first -> nodes; }
 structure Node { u32 value; u32 next -> nodes; }
@@ -74,14 +74,14 @@ fn add_file(
 }
 
 // A specification under `s` and an image under `i`.
-pub(crate) fn two_files(alloc: Global, spec: &[u8], image: &[u8]) -> Result<Vec<Held>, AllocError> {
+fn two_files(alloc: Global, spec: &[u8], image: &[u8]) -> Result<Vec<Held>, AllocError> {
     let mut files = Vec::new(alloc);
     add_file(alloc, &mut files, "s", spec)?;
     add_file(alloc, &mut files, "i", image)?;
     Ok(files)
 }
 
-pub(crate) fn words_of(alloc: Global, words: &[&str]) -> Result<Vec<String>, AllocError> {
+fn words_of(alloc: Global, words: &[&str]) -> Result<Vec<String>, AllocError> {
     let mut all = Vec::new(alloc);
     for word in words {
         all.push(word.to_string(alloc)?)?;
@@ -89,11 +89,27 @@ pub(crate) fn words_of(alloc: Global, words: &[&str]) -> Result<Vec<String>, All
     Ok(all)
 }
 
-pub(crate) const CHECK: [&str; 3] = ["check", "s", "i"];
+const OK: Status = Status::Said(Verdict::Ok);
+
+const INCONSISTENT: Status = Status::Said(Verdict::Inconsistent);
+
+const USAGE: Status = Status::Said(Verdict::Usage);
+
+const SPEC_REFUSED: Status = Status::Said(Verdict::SpecRefused);
+
+const LAYOUT_REFUSED: Status = Status::Said(Verdict::LayoutRefused);
+
+const CHECK: [&str; 3] = ["check", "s", "i"];
 
 const CONSISTENT: &str = "consistent\n";
 
 const VIOLATED: &str = "violated total -\ninconsistent 1\n";
+
+// The first node's link is no code, so the second node is no member.
+const CUT_OFF: &str = "violated tidy nodes[0]\nviolated total -\ninconsistent 2\n";
+
+// A link leads back to the first node.
+const CYCLIC: &str = "violated start <head,nodes[0]>\ninconsistent 1\n";
 
 const SHORT: &str = "layout 1 short\n";
 
@@ -169,20 +185,22 @@ fn images_are_judged(rt: HostRuntime) -> Result<(), Fail> {
     let mut cycle = SOUND;
     cycle[20] = 1;
     let cases = [
-        check(LIST, &SOUND, Status::Ok, CONSISTENT),
-        check(LIST, &miscounted, Status::Inconsistent, VIOLATED),
-        check(LIST, &[0; 8], Status::Ok, CONSISTENT),
-        check(LIST, &[2, 0, 0, 0, 0, 0, 0], Status::LayoutRefused, SHORT),
-        check(LIST, &outside, Status::LayoutRefused, OUTSIDE),
-        check(LIST, &cut, Status::Inconsistent, VIOLATED),
-        check(LIST, &cycle, Status::Ok, CONSISTENT),
+        check(LIST, &SOUND, OK, CONSISTENT),
+        check(LIST, &miscounted, INCONSISTENT, VIOLATED),
+        check(LIST, &[0; 8], OK, CONSISTENT),
+        check(LIST, &[2, 0, 0, 0, 0, 0, 0], LAYOUT_REFUSED, SHORT),
+        check(LIST, &outside, LAYOUT_REFUSED, OUTSIDE),
+        check(LIST, &cut, INCONSISTENT, VIOLATED),
+        check(LIST, &cycle, OK, CONSISTENT),
+        check(GUARDED, &cut, INCONSISTENT, CUT_OFF),
+        check(GUARDED, &cycle, INCONSISTENT, CYCLIC),
     ];
     assert_eq!(rt; first_wrong(alloc, &cases)?, None);
     for length in 0..25usize {
         let (status, text) = match length {
-            0..8 => (Status::LayoutRefused, SHORT),
-            8..24 => (Status::LayoutRefused, OUTSIDE),
-            _ => (Status::Ok, CONSISTENT),
+            0..8 => (LAYOUT_REFUSED, SHORT),
+            8..24 => (LAYOUT_REFUSED, OUTSIDE),
+            _ => (OK, CONSISTENT),
         };
         let case = check(LIST, &SOUND[..length], status, text);
         assert!(rt; is_answered(alloc, &case)?, "prefix {length}");
@@ -206,7 +224,7 @@ fn words_are_refused(rt: HostRuntime) -> Result<(), Fail> {
         &["check", "s", "i", "i"],
     ];
     for (i, words) in wrong.iter().enumerate() {
-        let case = told(words, Status::Usage, "usage\n");
+        let case = told(words, USAGE, "usage\n");
         assert!(rt; is_answered(rt.alloc(), &case)?, "words {i}");
     }
     let cases = [
@@ -232,12 +250,12 @@ fn inputs_are_refused(rt: HostRuntime) -> Result<(), Fail> {
     let mut long_image = Vec::from_slice(alloc, &image)?;
     long_image.push(0)?;
     let cases = [
-        check(GUARDED, &SOUND, Status::SpecRefused, "spec 0 0\n"),
-        check(&spec, &SOUND, Status::Ok, CONSISTENT),
+        check(GUARDED, &SOUND, OK, CONSISTENT),
+        check(&spec, &SOUND, OK, CONSISTENT),
         check(&long_spec, &SOUND, Status::TooLong, "too long spec\n"),
-        text(&spec, Status::Ok, LIST_PRINTED),
+        text(&spec, OK, LIST_PRINTED),
         text(&long_spec, Status::TooLong, "too long spec\n"),
-        check(LIST, &image, Status::Ok, CONSISTENT),
+        check(LIST, &image, OK, CONSISTENT),
         check(LIST, &long_image, Status::TooLong, "too long image\n"),
     ];
     assert_eq!(rt; first_wrong(alloc, &cases)?, None);
@@ -260,19 +278,15 @@ fn texts_are_printed(rt: HostRuntime) -> Result<(), Fail> {
     let nested =
         b"version 1; order little; structure Head { skip (((((((((((((((((((((((((((((((((";
     let cases = [
-        text(
-            b"version 1; order middle;",
-            Status::SpecRefused,
-            "syntax 2 17\n",
-        ),
+        text(b"version 1; order middle;", SPEC_REFUSED, "syntax 2 17\n"),
         text(
             b"version 1;order little;structure Head{u8 c;}",
-            Status::Ok,
+            OK,
             "version 1 ;\norder little ;\nstructure Head { u8 c ; }\n",
         ),
-        text(nested, Status::SpecRefused, "syntax 3 79\n"),
-        text(b"version 3;", Status::SpecRefused, "syntax 2 8\n"),
-        text(b"version 1;order !", Status::SpecRefused, "syntax 1 16\n"),
+        text(nested, SPEC_REFUSED, "syntax 3 79\n"),
+        text(b"version 3;", SPEC_REFUSED, "syntax 2 8\n"),
+        text(b"version 1;order !", SPEC_REFUSED, "syntax 1 16\n"),
     ];
     assert_eq!(rt; first_wrong(alloc, &cases)?, None);
     Ok(())
@@ -288,15 +302,11 @@ fn declarations_are_refused(rt: HostRuntime) -> Result<(), Fail> {
     let unaligned = b"version 1;order little;structure Head{bits 3 a;u8 b;}";
     let cases = [
         // the 23 bytes of the version and the order, 15 to the brace, 9 of the first field, and `u8 `
-        text(unaligned, Status::SpecRefused, "spec 3 50\n"),
-        text(
-            b"version 1;order little;",
-            Status::SpecRefused,
-            "spec 2 0\n",
-        ),
+        text(unaligned, SPEC_REFUSED, "spec 3 50\n"),
+        text(b"version 1;order little;", SPEC_REFUSED, "spec 2 0\n"),
         text(
             b"version 1;order big;rule head=>head.f in A;",
-            Status::SpecRefused,
+            SPEC_REFUSED,
             "spec 2 0\n",
         ),
     ];
@@ -327,31 +337,26 @@ fn rules_and_constraints_are_refused(rt: HostRuntime) -> Result<(), Fail> {
     let alloc = rt.alloc();
     let of_17 = wide(alloc, 17)?;
     let cases = [
-        text(LIST, Status::Ok, LIST_PRINTED),
-        text(COMPLEMENT, Status::SpecRefused, "spec 2 162\n"),
+        text(LIST, OK, LIST_PRINTED),
+        text(COMPLEMENT, SPEC_REFUSED, "spec 2 162\n"),
         text(
             b"version 1;order big;structure Head{}rule head=>head.f in A;",
-            Status::SpecRefused,
+            SPEC_REFUSED,
             "spec 2 52\n",
         ),
         text(
             b"version 1;order big;structure Head{}constraint c:a in A;",
-            Status::SpecRefused,
+            SPEC_REFUSED,
             "spec 2 49\n",
         ),
-        text(of_17.as_bytes(), Status::SpecRefused, "spec 12 124\n"),
-        check(
-            of_17.as_bytes(),
-            &SOUND,
-            Status::SpecRefused,
-            "spec 12 124\n",
-        ),
-        check(COMPLEMENT, &SOUND, Status::SpecRefused, "spec 2 162\n"),
-        check(b"version 1", &SOUND, Status::SpecRefused, "syntax 2 9\n"),
+        text(of_17.as_bytes(), SPEC_REFUSED, "spec 12 124\n"),
+        check(of_17.as_bytes(), &SOUND, SPEC_REFUSED, "spec 12 124\n"),
+        check(COMPLEMENT, &SOUND, SPEC_REFUSED, "spec 2 162\n"),
+        check(b"version 1", &SOUND, SPEC_REFUSED, "syntax 2 9\n"),
     ];
     assert_eq!(rt; first_wrong(alloc, &cases)?, None);
     let of_16 = wide(alloc, 16)?;
-    let accepted = check(of_16.as_bytes(), &SOUND, Status::SpecRefused, "spec 0 0\n");
+    let accepted = check(of_16.as_bytes(), &[1], OK, CONSISTENT);
     assert!(rt; is_answered(alloc, &accepted)?);
     Ok(())
 }
@@ -374,7 +379,7 @@ fn is_within(alloc: Global, spec: &[u8]) -> Result<bool, Fail> {
         bytes: Vec::new(alloc),
     };
     let words = words_of(alloc, &["text", "s"])?;
-    if run(alloc, &words, &mut shelf, &mut out) != Status::SpecRefused {
+    if run(alloc, &words, &mut shelf, &mut out) != SPEC_REFUSED {
         return Ok(out.bytes.starts_with(b"version 1 ;\n"));
     }
     let text = str::from_utf8(&out.bytes)?;
@@ -416,8 +421,8 @@ fn are_held(files: &[Held], spec: &[u8], image: &[u8]) -> bool {
 // The call of the shelf and the put that fail, 0 for none, and what comes of it.
 type Failing = (u64, u64, Status, &'static str, &'static str);
 
-// Whether `check` of the sound image ends so, with this load as the last that failed, and leaves the files.
-fn is_told(alloc: Global, failing: &Failing) -> Result<bool, AllocError> {
+// Whether a command over the sound image ends so, with this load as the last that failed, and leaves the files.
+fn is_told(alloc: Global, words: &[&str], failing: &Failing) -> Result<bool, AllocError> {
     let (call, put, status, text, last) = *failing;
     let mut shelf = MemoryShelf {
         files: two_files(alloc, LIST, &SOUND)?,
@@ -430,7 +435,7 @@ fn is_told(alloc: Global, failing: &Failing) -> Result<bool, AllocError> {
         fail: vec![in alloc; put]?,
         calls: 0,
     };
-    let words = words_of(alloc, &CHECK)?;
+    let words = words_of(alloc, words)?;
     let ended = run(alloc, &words, &mut shelf, &mut out);
     Ok(
         ended == status
@@ -443,17 +448,28 @@ fn is_told(alloc: Global, failing: &Failing) -> Result<bool, AllocError> {
 #[test]
 fn calls_fail_in_turn(rt: HostRuntime) -> Result<(), Fail> {
     let cases: [Failing; 8] = [
-        (0, 0, Status::Ok, CONSISTENT, ""),
+        (0, 0, OK, CONSISTENT, ""),
         (1, 0, Status::StoreFailed, FAILED, "s"),
         (2, 0, Status::StoreFailed, FAILED, "i"),
-        (3, 0, Status::Ok, CONSISTENT, ""),
+        (3, 0, OK, CONSISTENT, ""),
         (0, 1, Status::OutputFailed, "", ""),
         (1, 1, Status::OutputFailed, "", "s"),
         (2, 1, Status::OutputFailed, "", "i"),
-        (0, 2, Status::Ok, CONSISTENT, ""),
+        (0, 2, OK, CONSISTENT, ""),
     ];
     for (i, failing) in cases.iter().enumerate() {
-        assert!(rt; is_told(rt.alloc(), failing)?, "case {i}");
+        assert!(rt; is_told(rt.alloc(), &CHECK, failing)?, "case {i}");
+    }
+    let of_text: [Failing; 6] = [
+        (0, 0, OK, LIST_PRINTED, ""),
+        (1, 0, Status::StoreFailed, FAILED, "s"),
+        (2, 0, OK, LIST_PRINTED, ""),
+        (0, 1, Status::OutputFailed, "", ""),
+        (1, 1, Status::OutputFailed, "", "s"),
+        (0, 2, OK, LIST_PRINTED, ""),
+    ];
+    for (i, failing) in of_text.iter().enumerate() {
+        assert!(rt; is_told(rt.alloc(), &["text", "s"], failing)?, "text {i}");
     }
     Ok(())
 }
@@ -461,20 +477,20 @@ fn calls_fail_in_turn(rt: HostRuntime) -> Result<(), Fail> {
 #[test]
 fn statuses_have_their_numbers(rt: HostRuntime) {
     let statuses = [
-        Status::Ok,
-        Status::Inconsistent,
-        Status::PlanRefused,
-        Status::Usage,
-        Status::SpecRefused,
-        Status::LayoutRefused,
-        Status::SupplyEmpty,
+        OK,
+        INCONSISTENT,
+        Status::Said(Verdict::PlanRefused),
+        USAGE,
+        SPEC_REFUSED,
+        LAYOUT_REFUSED,
+        Status::Said(Verdict::SupplyEmpty),
         Status::StoreFailed,
         Status::OutputFailed,
         Status::TooLong,
         Status::NoMemory,
-        Status::CertRefused,
-        Status::ReportRefused,
-        Status::EditRefused,
+        Status::Said(Verdict::CertRefused),
+        Status::Said(Verdict::ReportRefused),
+        Status::Said(Verdict::EditRefused),
     ];
     for (i, status) in statuses.iter().enumerate() {
         assert_eq!(rt; usize::from(status.number()), i);

@@ -1,27 +1,38 @@
-use Rattle.std.proofs.Common.{ap, ◌∙◌}
-use Rattle.dsr_store.specs.Written.{appended}
-use Rattle.dsr_cli.proofs.AnswerLaws.{not_no_memory, not_output_failed, usage_cause}
-use Rattle.dsr_cli.proofs.Findings.{finds_consistent, finds_inconsistent, finds_printed}
+use Rattle.std.proofs.Common.{map, subst}
+use Rattle.std.specs.String.{string_bytes}
+use Rattle.dsr_cli.proofs.Headed.{checks_images, checks_nothing_else, prints_texts}
+use Rattle.dsr_cli.specs.Commands.{asked}
+use Rattle.dsr_script.specs.Causes.{Causes}
+use Rattle.dsr_script.specs.Outside.{told_by}
+use Rattle.dsr_script.specs.Runs.{Runs}
 use Rattle.dsr_cli.proofs.program.run.Goals as goal
 
-pub returns-in-Ok-put-clause-no_memory : goal.returns-in-Ok-put-clause-no_memory
-returns-in-Ok-put-clause-no_memory g c e = absurd (not_no_memory c.in-Ok.ensures.answer e)
+pub returns-clause-causes : goal.returns-clause-causes
+returns-clause-causes g c =
+    subst (λ ws. Causes (asked (map string_bytes ws)) (told_by g.F.Shelf g.O.Sink c.args.shelf.now c.args.out.now)
+    (told_by g.F.Shelf g.O.Sink c.run.new.shelf c.run.new.out) c.run.result)
+    c.deref.ensures.value c.run.ensures.causes
 
-pub returns-in-Ok-put-clause-output : goal.returns-in-Ok-put-clause-output
-returns-in-Ok-put-clause-output g c e = absurd (not_output_failed c.in-Ok.ensures.answer e)
+pub returns-clause-images : goal.returns-clause-images
+returns-clause-images g c =
+    checks_images (map string_bytes c.args.words.now.items) (told_by g.F.Shelf g.O.Sink c.args.shelf.now c.args.out.now)
+    (told_by g.F.Shelf g.O.Sink c.run.new.shelf c.run.new.out) c.run.result
+    (subst (λ ws. Runs (asked (map string_bytes ws)) (told_by g.F.Shelf g.O.Sink c.args.shelf.now c.args.out.now)
+    (told_by g.F.Shelf g.O.Sink c.run.new.shelf c.run.new.out) c.run.result)
+    c.deref.ensures.value c.run.ensures.runs)
 
-pub returns-in-Ok-put-clause-usage : goal.returns-in-Ok-put-clause-usage
-returns-in-Ok-put-clause-usage g c e = rw (← c.deref.ensures.value) (usage_cause c.in-Ok.ensures.answer e)
+pub returns-clause-nothing_else : goal.returns-clause-nothing_else
+returns-clause-nothing_else g c =
+    checks_nothing_else (map string_bytes c.args.words.now.items) (told_by g.F.Shelf g.O.Sink c.args.shelf.now c.args.out.now)
+    (told_by g.F.Shelf g.O.Sink c.run.new.shelf c.run.new.out) c.run.result
+    (subst (λ ws. Runs (asked (map string_bytes ws)) (told_by g.F.Shelf g.O.Sink c.args.shelf.now c.args.out.now)
+    (told_by g.F.Shelf g.O.Sink c.run.new.shelf c.run.new.out) c.run.result)
+    c.deref.ensures.value c.run.ensures.runs)
 
-pub returns-in-Ok-put-clause-consistent : goal.returns-in-Ok-put-clause-consistent
-returns-in-Ok-put-clause-consistent g c p e = rw (← c.deref.ensures.value) (finds_consistent _ _ _ (rw c.deref.ensures.value p) c.in-Ok.ensures.answer e)
-
-pub returns-in-Ok-put-clause-inconsistent : goal.returns-in-Ok-put-clause-inconsistent
-returns-in-Ok-put-clause-inconsistent g c e = rw (← c.deref.ensures.value) (finds_inconsistent _ _ _ c.in-Ok.ensures.answer e)
-
-pub returns-in-Ok-put-clause-text : goal.returns-in-Ok-put-clause-text
-returns-in-Ok-put-clause-text g c p e = record {
-  out = c.in-Ok.told.text.items;
-  put = c.in-Ok-put.ensures.ok ∙ ap (appended (g.O.Sink.written c.args.out.now)) c.deref-in-Ok.ensures.value;
-  found = rw (← c.deref.ensures.value) (finds_printed _ _ _ (rw c.deref.ensures.value p) c.in-Ok.ensures.answer e);
-}
+pub returns-clause-texts : goal.returns-clause-texts
+returns-clause-texts g c =
+    prints_texts (map string_bytes c.args.words.now.items) (told_by g.F.Shelf g.O.Sink c.args.shelf.now c.args.out.now)
+    (told_by g.F.Shelf g.O.Sink c.run.new.shelf c.run.new.out) c.run.result
+    (subst (λ ws. Runs (asked (map string_bytes ws)) (told_by g.F.Shelf g.O.Sink c.args.shelf.now c.args.out.now)
+    (told_by g.F.Shelf g.O.Sink c.run.new.shelf c.run.new.out) c.run.result)
+    c.deref.ensures.value c.run.ensures.runs)

@@ -1,0 +1,312 @@
+-- What a run says of the files that a shelf tells, by its script.
+use Rattle.std.proofs.Common.{◌≡◌, ◌≢◌, ◌≤◌, ◌↔◌, ◌⊎◌, ℕ, List, [], ◌∷◌, length, Option, None, Some, IfSome, refl, sym, ap, subst, ◌∙◌, inl, inr}
+use Rattle.std.specs.FinMap.{get}
+use Rattle.dsr_answers.specs.Refused.{IsMeaning, IsRefused, no_token, unexpected, past_limit, no_meaning}
+use Rattle.dsr_answers.specs.Texts.{verdict_answer}
+use Rattle.dsr_check.specs.Checked.{IsCheckAnswer, checked, refused}
+use Rattle.dsr_ir.specs.declared.declarations.Spec.{Spec}
+use Rattle.dsr_ir.specs.declared.layouts.Layout.{Layout}
+use Rattle.dsr_ir.specs.declared.tuples.Fact.{Fact}
+use Rattle.dsr_meaning.specs.Consistency.{AreSatisfied, AreViolations, BoundConstraint, IsConsistent}
+use Rattle.dsr_meaning.specs.Models.{IsFact}
+use Rattle.dsr_meaning.specs.Refusals.{IsLayoutOf, Refusal, first_of, refusals}
+use Rattle.dsr_script.proofs.Laws.{never_at_load, said_at_tell}
+use Rattle.dsr_script.specs.Outside.{IsWhole, Outside}
+use Rattle.dsr_script.specs.Runs.{AllLoaded, Ends, Runs}
+use Rattle.dsr_script.specs.Scripts.{Answer, Came, Next, Load, Tell, tells}
+use Rattle.dsr_script.specs.declared.status.Status.{Status}
+use Rattle.dsr_script.specs.declared.status.Status.TheVariants.{NoMemory, Said}
+use Rattle.dsr_script.specs.declared.status.Verdict.{Verdict}
+use Rattle.dsr_script.specs.declared.status.Verdict.TheVariants as verdicts
+use Rattle.dsr_store.specs.Files.{Files}
+use Rattle.dsr_store.specs.Written.{appended}
+use Rattle.dsr_text.specs.Canonical.{canonical}
+use Rattle.dsr_tree.specs.Trees.{TreeShape}
+use Rattle.dsr_typing.specs.Specifications.{IsSpecificationOf, specification}
+use Rattle.dsr_cli.proofs.Once.{not_refused, tree_unique}
+use Rattle.dsr_cli.specs.Commands.{asked, goes_on, image_limit, loads_image, script_of, spec_limit, tells_text}
+use Rattle.dsr_cli.specs.Headlines.{ChecksImages, ChecksNothingElse, IsChecked, IsPrinted, IsVerdictOn, PrintsTexts, WasChecked}
+use Rattle.dsr_cli.specs.Readings.{Found, IsFound, Means, Refused}
+use Rattle.dsr_cli.specs.Words.{Asked, Check, Text, command_of}
+
+-- ---- what a command that speaks has told
+
+-- the answer was told with this verdict
+pub record Speaks (before after : Outside) (verdict : Verdict) (answer : Answer) : Type 0 where
+  pub says : verdict ≡ answer.verdict
+  pub put : after.output.written ≡ appended before.output.written answer.text
+
+-- the text was loaded, and refused
+pub record RefusedRun (before after : Outside) (files : Files) (name : List ℕ) (verdict : Verdict) : Type 0 where
+  pub text : List ℕ
+  pub file : get files name ≡ Some text
+  pub answer : Answer
+  pub is_refused : IsRefused text answer
+  pub speaks : Speaks before after verdict answer
+
+-- the text was loaded, and means something
+pub record ReadText (files : Files) (name : List ℕ) : Type 0 where
+  pub text : List ℕ
+  pub file : get files name ≡ Some text
+  pub short : length text ≤ spec_limit
+  pub tree : TreeShape
+  pub meaning : IsMeaning text tree
+
+-- then an image was loaded, and checked
+pub record CheckedRun (before after : Outside) (files : Files) (name image_name : List ℕ) (verdict : Verdict) : Type 0 where
+  pub read : ReadText files name
+  pub image : List ℕ
+  pub image_file : get files image_name ≡ Some image
+  pub short_image : length image ≤ image_limit (specification read.tree)
+  pub answer : Answer
+  pub fits : IsCheckAnswer (specification read.tree) image answer
+  pub speaks : Speaks before after verdict answer
+
+-- or printed
+pub record PrintedRun (before after : Outside) (files : Files) (name : List ℕ) (verdict : Verdict) : Type 0 where
+  pub read : ReadText files name
+  pub put : after.output.written ≡ appended before.output.written (canonical read.tree)
+
+module _ (before after : Outside) (files : Files) (held : before.held ≡ Some files) (verdict : Verdict) where
+  whole : (came : Came) (name : List ℕ) (limit : ℕ) → came.name ≡ name → came.limit ≡ limit
+      → IsWhole before.held came.name came.limit came.bytes → (get files name ≡ Some came.bytes) × (length came.bytes ≤ limit)
+  whole came name limit named limited loaded = (
+    subst (λ n. get files n ≡ Some came.bytes) named
+        (subst (λ o. IfSome o (λ fs. get fs came.name ≡ Some came.bytes)) held loaded.0),
+    subst (λ n. length came.bytes ≤ n) limited loaded.1,
+  )
+
+  speaks_at : (answer : Answer) (next : Next) → next ≡ Tell answer → Ends before after (Said verdict) next
+      → Speaks before after verdict answer
+  speaks_at answer next is ends =
+      let told = said_at_tell before after verdict answer (subst (Ends before after (Said verdict)) is ends) in
+      record { says = told.1.0; put = told.1.1.1 }
+
+  loads_never : (name : List ℕ) (limit : ℕ) (long : List ℕ) (next : Next) → next ≡ Load name limit long
+      → Ends before after (Said verdict) next → ⊥
+  loads_never name limit long next is ends =
+      never_at_load before after verdict name limit long (subst (Ends before after (Said verdict)) is ends)
+
+  tells_one : (Fits : Answer → Type 0) (came : List Came) (next : Next) → tells Fits came next
+      → Ends before after (Said verdict) next
+      → (answer : Answer) × Fits answer × Speaks before after verdict answer
+  tells_one Fits [] next told ends = (told.0, told.1, speaks_at told.0 next told.2 ends)
+  tells_one Fits (c ∷ more) next told ends = absurd told
+
+  refused_at : (name : List ℕ) (first : Came) (more : List Came) (next : Next) (answer : Answer)
+      → (get files name ≡ Some first.bytes) → IsRefused first.bytes answer → tells (λ told. told ≡ answer) more next
+      → Ends before after (Said verdict) next → RefusedRun before after files name verdict
+  refused_at name first more next answer file is told ends =
+      let one = tells_one (λ told. told ≡ answer) more next told ends in
+      record {
+        text = first.bytes;
+        file = file;
+        answer = answer;
+        is_refused = is;
+        speaks = subst (Speaks before after verdict) one.1 one.2;
+      }
+
+  image_of : (name image_name : List ℕ) (read : ReadText files name) (came : List Came) (next : Next)
+      → goes_on (λ tree. loads_image image_name (specification tree)) (Means read.tree) came next
+      → AllLoaded before came → Ends before after (Said verdict) next
+      → CheckedRun before after files name image_name verdict
+  image_of name image_name read [] next script loaded ends = absurd (loads_never image_name _ _ next script ends)
+  image_of name image_name read (second ∷ more) next script loaded ends =
+      let file = whole second image_name (image_limit (specification read.tree)) (ap (λ c. c.name) script.0) (ap (λ c. c.limit) script.0) loaded.0 in
+      let one = tells_one (IsCheckAnswer (specification read.tree) second.bytes) more next script.1 ends in
+      record {
+        read = read;
+        image = second.bytes;
+        image_file = file.0;
+        short_image = file.1;
+        answer = one.0;
+        fits = one.1;
+        speaks = one.2;
+      }
+
+  check_told : (name image_name : List ℕ) (came : List Came) (next : Next) → script_of (Some (Check name image_name)) came next
+      → AllLoaded before came → Ends before after (Said verdict) next
+      → RefusedRun before after files name verdict ⊎ CheckedRun before after files name image_name verdict
+  check_told name image_name [] next script loaded ends = absurd (loads_never name _ _ next script ends)
+  check_told name image_name (first ∷ more) next script loaded ends =
+      let file = whole first name spec_limit (ap (λ c. c.name) script.0) (ap (λ c. c.limit) script.0) loaded.0 in
+      by_found file script.1.0 script.1.1 script.1.2
+    where
+      by_found : (get files name ≡ Some first.bytes) × (length first.bytes ≤ spec_limit) → (found : Found) → IsFound first.bytes found
+          → goes_on (λ tree. loads_image image_name (specification tree)) found more next
+          → RefusedRun before after files name verdict ⊎ CheckedRun before after files name image_name verdict
+      by_found file (Means tree) means rest =
+          inr (image_of name image_name (record { text = first.bytes; file = file.0; short = file.1; tree = tree; meaning = means }) more next rest loaded.1 ends)
+      by_found file (Refused answer) is rest = inl (refused_at name first more next answer file.0 is rest ends)
+
+  text_told : (name : List ℕ) (came : List Came) (next : Next) → script_of (Some (Text name)) came next
+      → AllLoaded before came → Ends before after (Said verdict) next
+      → RefusedRun before after files name verdict ⊎ PrintedRun before after files name verdict
+  text_told name [] next script loaded ends = absurd (loads_never name _ _ next script ends)
+  text_told name (first ∷ more) next script loaded ends =
+      let file = whole first name spec_limit (ap (λ c. c.name) script.0) (ap (λ c. c.limit) script.0) loaded.0 in
+      by_found file script.1.0 script.1.1 script.1.2
+    where
+      by_found : (get files name ≡ Some first.bytes) × (length first.bytes ≤ spec_limit) → (found : Found) → IsFound first.bytes found
+          → goes_on tells_text found more next
+          → RefusedRun before after files name verdict ⊎ PrintedRun before after files name verdict
+      by_found file (Means tree) means rest =
+          let one = tells_one (λ told. told ≡ record { verdict = verdicts.Ok; text = canonical tree }) more next rest ends in
+          inr (record {
+            read = record { text = first.bytes; file = file.0; short = file.1; tree = tree; meaning = means };
+            put = one.2.put ∙ ap (λ a. appended before.output.written a.text) one.1;
+          })
+      by_found file (Refused answer) is rest = inl (refused_at name first more next answer file.0 is rest ends)
+
+-- ---- what a run is that speaks
+
+-- files came as the script says, and the run ended by what is next
+pub record Spoken (words : List (List ℕ)) (before after : Outside) (verdict : Verdict) : Type 0 where
+  pub came : List Came
+  pub next : Next
+  pub script : asked words came next
+  pub loaded : AllLoaded before came
+  pub ends : Ends before after (Said verdict) next
+
+spoken : (words : List (List ℕ)) (before after : Outside) (verdict : Verdict) → Runs (asked words) before after (Said verdict)
+    → Spoken words before after verdict
+spoken words before after verdict (inl stops) = let e : Said verdict ≡ NoMemory = stops.0 in absurd cc
+spoken words before after verdict (inr run) =
+    record { came = run.0; next = run.1; script = run.2; loaded = run.3; ends = run.4 }
+
+refusal_verdict : (text : List ℕ) (answer : Answer) → IsRefused text answer → answer.verdict ≡ verdicts.SpecRefused
+refusal_verdict text _ (no_token place is) = refl
+refusal_verdict text _ (unexpected place is) = refl
+refusal_verdict text _ (past_limit place is) = refl
+refusal_verdict text _ (no_meaning tree condition place is told) = refl
+
+-- ---- verdicts
+
+module _ (is_fact : Fact → Type 0) (spec : Spec) where
+  satisfied : AreViolations is_fact spec [] → AreSatisfied is_fact spec
+  satisfied exactly = λ v violated. exactly.all v violated
+
+  unsatisfied : (v : BoundConstraint) (vs : List BoundConstraint) → AreViolations is_fact spec (v ∷ vs) → AreSatisfied is_fact spec → ⊥
+  unsatisfied v vs exactly all = all v (exactly.only v (inl refl))
+
+  pub tells_ok : (verdict : Verdict) (vs : List BoundConstraint) → AreViolations is_fact spec vs
+      → verdict ≡ (verdict_answer spec vs).verdict → (verdict ≡ verdicts.Ok) ↔ AreSatisfied is_fact spec
+  tells_ok verdict [] exactly is = (λ ok. satisfied exactly, λ all. is)
+  tells_ok verdict (v ∷ vs) exactly is =
+      (λ ok. let e : verdicts.Inconsistent ≡ verdicts.Ok = sym is ∙ ok in absurd cc, λ all. absurd (unsatisfied v vs exactly all))
+
+  pub tells_inconsistent : (verdict : Verdict) (vs : List BoundConstraint) → AreViolations is_fact spec vs
+      → verdict ≡ (verdict_answer spec vs).verdict → (verdict ≡ verdicts.Inconsistent) ↔ (AreSatisfied is_fact spec → ⊥)
+  tells_inconsistent verdict [] exactly is =
+      (λ not_ok. let e : verdicts.Ok ≡ verdicts.Inconsistent = sym is ∙ not_ok in absurd cc, λ none. absurd (none (satisfied exactly)))
+  tells_inconsistent verdict (v ∷ vs) exactly is = (λ not_ok. unsatisfied v vs exactly, λ none. is)
+
+module _ (before after : Outside) (verdict : Verdict) (spec : Spec) (layout : Layout) (image : List ℕ) where
+  verdict_by : (vs : List BoundConstraint) → AreViolations (IsFact spec layout image) spec vs
+      → Speaks before after verdict (verdict_answer spec vs) → IsVerdictOn spec layout image before after verdict
+  verdict_by vs exactly speaks = record {
+    violations = vs;
+    exactly = exactly;
+    told = speaks.put;
+    ok = tells_ok (IsFact spec layout image) spec verdict vs exactly speaks.says;
+    inconsistent = tells_inconsistent (IsFact spec layout image) spec verdict vs exactly speaks.says;
+  }
+
+some_same : {A : Type 0} (x y : A) → Some x ≡ Some y → x ≡ y
+some_same x y e = cc
+
+none_first : (rs : List Refusal) (refusal : Refusal) → rs ≡ [] → first_of rs ≡ Some refusal → ⊥
+none_first rs refusal none first = let e : None ≡ Some refusal = sym (ap first_of none) ∙ first in cc
+
+module _ (words : List (List ℕ)) (before after : Outside) (status : Status) (runs : Runs (asked words) before after status) where
+  pub checks_images : ChecksImages words before after status
+  checks_images files spec layout image verdict held said is =
+      let run = spoken words before after verdict (subst (Runs (asked words) before after) said runs) in
+      let script = subst (λ o. script_of o run.came run.next) is.asked run.script in
+      let means : IsMeaning is.text is.means.tree = record { is_tree = is.means.is_tree; no_fault = is.means.no_fault } in
+      elim (check_told before after files held verdict is.spec_name is.image_name run.came run.next script run.loaded run.ends) [
+        | inl refused_run ↦
+            let same : refused_run.text ≡ is.text = some_same refused_run.text is.text (sym refused_run.file ∙ is.spec_file) in
+            absurd (not_refused is.text is.means.tree refused_run.answer means (subst (λ t. IsRefused t refused_run.answer) same refused_run.is_refused))
+        | inr checked_run ↦
+            let read = checked_run.read in
+            let same : read.text ≡ is.text = some_same read.text is.text (sym read.file ∙ is.spec_file) in
+            let tree : read.tree ≡ is.means.tree =
+            tree_unique is.text read.tree is.means.tree (subst (λ t. IsMeaning t read.tree) same read.meaning).is_tree is.means.is_tree in
+            let meant : specification read.tree ≡ spec = ap specification tree ∙ sym is.means.is in
+            let bytes : checked_run.image ≡ image = some_same checked_run.image image (sym checked_run.image_file ∙ is.image_file) in
+            by_answer files spec layout image verdict is.laid_out checked_run.answer
+            (subst (λ s. IsCheckAnswer s image checked_run.answer) meant (subst (λ b. IsCheckAnswer (specification read.tree) b checked_run.answer) bytes checked_run.fits))
+            checked_run.speaks
+      ]
+    where
+      by_answer : (files : Files) (spec : Spec) (layout : Layout) (image : List ℕ) (verdict : Verdict) → IsLayoutOf spec image layout
+          → (answer : Answer) → IsCheckAnswer spec image answer → Speaks before after verdict answer
+          → IsVerdictOn spec layout image before after verdict
+      by_answer files spec layout image verdict laid_out _ (refused refusal first) speaks =
+          absurd (none_first (refusals spec image) refusal laid_out.accepted first)
+      by_answer files spec layout image verdict laid_out _ (checked other vs is exactly) speaks =
+          let same : other ≡ layout = some_same other layout (sym is.numbers ∙ laid_out.numbers) in
+          verdict_by before after verdict spec layout image vs (subst (λ l. AreViolations (IsFact spec l image) spec vs) same exactly) speaks
+
+  was_checked : (files : Files) (spec_name image_name : List ℕ) (verdict : Verdict) → before.held ≡ Some files
+      → command_of words ≡ Some (Check spec_name image_name) → status ≡ Said verdict
+      → verdict ≢ verdicts.SpecRefused → verdict ≢ verdicts.LayoutRefused → WasChecked files words before after verdict
+  was_checked files spec_name image_name verdict held call said accepted laid =
+      let run = spoken words before after verdict (subst (Runs (asked words) before after) said runs) in
+      let script = subst (λ o. script_of o run.came run.next) call run.script in
+      elim (check_told before after files held verdict spec_name image_name run.came run.next script run.loaded run.ends) [
+        | inl refused_run ↦ absurd (accepted (refused_run.speaks.says ∙ refusal_verdict refused_run.text refused_run.answer refused_run.is_refused))
+        | inr checked_run ↦ by_answer checked_run checked_run.answer checked_run.fits checked_run.speaks
+      ]
+    where
+      by_answer : (r : CheckedRun before after files spec_name image_name verdict) (answer : Answer)
+          → IsCheckAnswer (specification r.read.tree) r.image answer → Speaks before after verdict answer
+          → WasChecked files words before after verdict
+      by_answer r _ (refused refusal first) speaks = absurd (laid speaks.says)
+      by_answer r _ (checked layout vs is exactly) speaks = (
+        specification r.read.tree,
+        layout,
+        r.image,
+        record {
+          spec_name = spec_name;
+          image_name = image_name;
+          asked = call;
+          text = r.read.text;
+          spec_file = r.read.file;
+          image_file = r.image_file;
+          short_text = r.read.short;
+          short_image = r.short_image;
+          means = record { tree = r.read.tree; is_tree = r.read.meaning.is_tree; no_fault = r.read.meaning.no_fault; is = refl };
+          laid_out = is;
+        },
+        verdict_by before after verdict (specification r.read.tree) layout r.image vs exactly speaks,
+      )
+
+  pub checks_nothing_else : ChecksNothingElse words before after status
+  checks_nothing_else files spec_name image_name held call = (
+    λ said. was_checked files spec_name image_name verdicts.Ok held call said (λ e. cc) (λ e. cc),
+    λ said. was_checked files spec_name image_name verdicts.Inconsistent held call said (λ e. cc) (λ e. cc),
+  )
+
+  pub prints_texts : PrintsTexts words before after status
+  prints_texts files spec_name held call said =
+      let run = spoken words before after verdicts.Ok (subst (Runs (asked words) before after) said runs) in
+      let script = subst (λ o. script_of o run.came run.next) call run.script in
+      elim (text_told before after files held verdicts.Ok spec_name run.came run.next script run.loaded run.ends) [
+        | inl refused_run ↦
+            let e : verdicts.Ok ≡ verdicts.SpecRefused = refused_run.speaks.says ∙ refusal_verdict refused_run.text refused_run.answer refused_run.is_refused in
+            absurd cc
+        | inr printed_run ↦ (
+          printed_run.read.tree,
+          record {
+            spec_name = spec_name;
+            asked = call;
+            text = printed_run.read.text;
+            file = printed_run.read.file;
+            short_text = printed_run.read.short;
+            meaning = printed_run.read.meaning;
+          },
+          printed_run.put,
+        )
+      ]

@@ -1,0 +1,10 @@
+use Rattle.std.proofs.Common.{subst, sym}
+use Rattle.dsr_cli.specs.Commands.{check_after, due}
+use Rattle.dsr_script.specs.Moves.{Follows}
+use Rattle.dsr_cli.proofs.waiting.WaitingStage.go_on.Goals as goal
+
+pub returns-in-Ok-load_image-clause-follows : goal.returns-in-Ok-load_image-clause-follows
+returns-in-Ok-load_image-clause-follows c =
+    let next = c.in-Ok-load_image.next in
+    subst (λ stage. Follows due (due stage c.args.bytes.items) next) (sym c.in-Check.is)
+    (subst (λ text. Follows due (check_after c.in-Check.image.now text) next) c.deref-in-Check.ensures.value c.in-Ok-load_image.ensures.follows)

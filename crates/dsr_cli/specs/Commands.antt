@@ -1,0 +1,85 @@
+-- What each command does, as a script: which files it loads, and what it tells.
+use Rattle.std.specs.Prelude.{◌≡◌, ◌≤◌, ℕ, List, length, codes, ⊤, Option, None, Some, nat_eq, if◌then◌else◌}
+use Rattle.dsr_check.specs.Checked.{IsCheckAnswer}
+use Rattle.dsr_ir.specs.declared.declarations.Spec.{Spec}
+use Rattle.dsr_meaning.specs.Typed.{IsTyped}
+use Rattle.dsr_script.specs.Scripts.{Answer, Script, loads, picks, tells}
+use Rattle.dsr_script.specs.declared.status.Verdict.TheVariants as verdicts
+use Rattle.dsr_text.specs.Canonical.{canonical}
+use Rattle.dsr_tree.specs.Trees.{TreeShape}
+use Rattle.dsr_typing.specs.Specifications.{specification}
+use Rattle.dsr_cli.specs.Readings.{Found, IsFound, Means, Refused}
+use Rattle.dsr_cli.specs.Words.{Asked, Check, Text, command_of}
+use Rattle.dsr_cli.specs.declared.waiting.Waiting.{Waiting}
+use Rattle.dsr_cli.specs.declared.waiting.Waiting.TheVariants as stages
+
+-- the most bytes of a specification's text
+abbrev pub spec_limit : ℕ
+spec_limit = 65536
+
+-- the most bytes of an image, by the version of its specification
+abbrev pub image_limit : Spec → ℕ
+image_limit spec = if nat_eq spec.base.version 2 then 67108864 else 4194304
+
+abbrev pub usage : Answer
+usage = record { verdict = verdicts.Usage; text = codes "usage\n" }
+
+-- what a text means goes on; a refusal is told
+abbrev pub goes_on : (TreeShape → Script) → Found → Script
+goes_on after (Means tree) = after tree
+goes_on after (Refused answer) = tells (λ told. told ≡ answer)
+
+abbrev pub reads : List ℕ → (TreeShape → Script) → Script
+reads text after = picks (IsFound text) (goes_on after)
+
+-- the text of a specification is loaded
+abbrev pub loads_spec : List ℕ → (List ℕ → Script) → Script
+loads_spec name after = loads name spec_limit (codes "too long spec\n") after
+
+-- an image is loaded, and checked under a specification
+abbrev pub checks : Spec → List ℕ → Script
+checks spec image = tells (IsCheckAnswer spec image)
+
+abbrev pub loads_image : List ℕ → Spec → Script
+loads_image name spec = loads name (image_limit spec) (codes "too long image\n") (checks spec)
+
+-- ---- the commands
+
+-- the canonical text is told
+abbrev pub tells_text : TreeShape → Script
+tells_text tree = tells (λ told. told ≡ record { verdict = verdicts.Ok; text = canonical tree })
+
+abbrev pub text_after : List ℕ → Script
+text_after text = reads text tells_text
+
+abbrev pub check_after : List ℕ → List ℕ → Script
+check_after image text = reads text (λ tree. loads_image image (specification tree))
+
+abbrev pub script_of : Option Asked → Script
+script_of None = tells (λ told. told ≡ usage)
+script_of (Some (Text spec)) = loads_spec spec text_after
+script_of (Some (Check spec image)) = loads_spec spec (check_after image)
+
+-- what the words ask for
+abbrev pub asked : List (List ℕ) → Script
+asked words = script_of (command_of words)
+
+-- ---- the stages of a command
+
+-- what follows once the bytes of the file came for which a command waits
+abbrev pub due : Waiting → List ℕ → Script
+due stages.Text bytes = text_after bytes
+due (stages.Check image) bytes = check_after image.now bytes
+due (stages.Image spec) bytes = checks spec bytes
+
+-- how many files may still be loaded behind that one
+abbrev pub left : Waiting → ℕ
+left stages.Text = 0
+left (stages.Check image) = 1
+left (stages.Image spec) = 0
+
+-- an image is waited for with a typed specification, and isn't longer than any may be
+abbrev pub is_ready : Waiting → List ℕ → Type 0
+is_ready stages.Text bytes = ⊤
+is_ready (stages.Check image) bytes = ⊤
+is_ready (stages.Image spec) bytes = IsTyped spec × (length bytes ≤ 67108864)

@@ -1,0 +1,145 @@
+// Commands that wait for a file.
+ghost use Rattle.std.specs.Prelude.{◌≡◌, ◌≤◌, IfOk, length, map, string_bytes};
+ghost use Rattle.dsr_cli.specs.Commands as commands;
+ghost use Rattle.dsr_cli.specs.Commands.{check_after, checks, due, is_ready, left, text_after};
+ghost use Rattle.dsr_meaning.specs.Typed.{IsTyped};
+ghost use Rattle.dsr_script.specs.Moves.{Follows, IsReady, loads_of};
+
+use crate::readings::{Reading, read};
+use crate::words::{is_text_of, is_usage_of, word_at};
+use dsr_answers::told;
+use dsr_check::check;
+use dsr_ir::{NoMemory, Spec};
+use dsr_parse::print;
+use dsr_script::{Commands, Move, Stage, Told, Verdict};
+use std::alloc::{AllocError, Global};
+
+/// The most bytes of a specification's text.
+const SPEC_LIMIT: u32 = 65_536;
+
+/// A command that waits for a file.
+#[derive(Drop)]
+pub enum Waiting<'a> {
+    /// `text`, for the text of the specification.
+    Text,
+    /// `check`, for the text of the specification; then comes the image of this name.
+    Check(&'a str),
+    /// `check`, for the image, with the specification that the text means.
+    Image(Spec),
+}
+
+// The most bytes of an image.
+fn image_limit(spec: &Spec) -> u32
+    ensures is { result ≡ commands.image_limit spec.now }
+    ensures most { result ≤ 67108864 }
+{
+    if spec.base.version == 2 {
+        67_108_864
+    } else {
+        4_194_304
+    }
+}
+
+// `text` goes on with the text.
+fn tell_text<'a>(alloc: Global, text: &[u8]) -> Result<Move<'a, Waiting<'a>>, NoMemory>
+    ensures ready { IfOk result (λ move. IsReady is_ready move) }
+    ensures follows { IfOk result (λ move. Follows due (text_after text.now) move) }
+    ensures fewer { IfOk result (λ move. loads_of left move ≤ 0) }
+{
+    match read(alloc, text)? {
+        Reading::Means(tree, _) => Ok(Move::Tell(Told {
+            verdict: Verdict::Ok,
+            text: print(alloc, &tree)?,
+        })),
+        Reading::Refused(told) => Ok(Move::Tell(told)),
+    }
+}
+
+// `check` goes on with the text.
+fn load_image<'a>(
+    alloc: Global,
+    text: &[u8],
+    image: &'a str,
+) -> Result<Move<'a, Waiting<'a>>, NoMemory>
+    ensures ready { IfOk result (λ move. IsReady is_ready move) }
+    ensures follows { IfOk result (λ move. Follows due (check_after image.now text.now) move) }
+    ensures fewer { IfOk result (λ move. loads_of left move ≤ 1) }
+{
+    match read(alloc, text)? {
+        Reading::Means(_, spec) => Ok(Move::Load {
+            name: image,
+            limit: image_limit(&spec),
+            long: b"too long image\n",
+            stage: Waiting::Image(spec),
+        }),
+        Reading::Refused(told) => Ok(Move::Tell(told)),
+    }
+}
+
+// `check` goes on with the image.
+fn tell_check<'a>(
+    alloc: Global,
+    spec: &Spec,
+    image: Vec<u8>,
+) -> Result<Move<'a, Waiting<'a>>, NoMemory>
+    requires typed { IsTyped spec.now }
+    requires small { length image.items ≤ 67108864 }
+    ensures ready { IfOk result (λ move. IsReady is_ready move) }
+    ensures follows { IfOk result (λ move. Follows due (checks spec.now image.items) move) }
+    ensures fewer { IfOk result (λ move. loads_of left move ≤ 0) }
+{
+    Ok(Move::Tell(check(alloc, spec, image)?))
+}
+
+impl<'a> Stage<'a> for Waiting<'a> {
+    ghost use Rattle.dsr_cli.specs.Commands as commands;
+
+    ghost due = { λ stage bytes came next. commands.due stage bytes came next };
+
+    ghost left = { λ stage. commands.left stage };
+
+    ghost ready = { λ stage bytes. commands.is_ready stage bytes };
+
+    fn go_on(self, alloc: Global, bytes: Vec<u8>) -> Result<Move<'a, Self>, AllocError> {
+        match self {
+            Waiting::Text => match tell_text(alloc, &bytes) {
+                Ok(next) => Ok(next),
+                Err(NoMemory) => Err(AllocError),
+            },
+            Waiting::Check(image) => match load_image(alloc, &bytes, image) {
+                Ok(next) => Ok(next),
+                Err(NoMemory) => Err(AllocError),
+            },
+            Waiting::Image(spec) => match tell_check(alloc, &spec, bytes) {
+                Ok(next) => Ok(next),
+                Err(NoMemory) => Err(AllocError),
+            },
+        }
+    }
+}
+
+impl<'a> Commands<'a> for Waiting<'a> {
+    ghost use Rattle.dsr_cli.specs.Commands as commands;
+
+    ghost asked = { λ words came next. commands.asked words came next };
+
+    fn begin(alloc: Global, words: &'a [String]) -> Result<Move<'a, Self>, AllocError> {
+        if is_usage_of(words) {
+            return match told(alloc, Verdict::Usage, b"usage\n") {
+                Ok(told) => Ok(Move::Tell(told)),
+                Err(NoMemory) => Err(AllocError),
+            };
+        }
+        let stage = if is_text_of(words) {
+            Waiting::Text
+        } else {
+            Waiting::Check(word_at(words, 2))
+        };
+        Ok(Move::Load {
+            name: word_at(words, 1),
+            limit: SPEC_LIMIT,
+            long: b"too long spec\n",
+            stage,
+        })
+    }
+}

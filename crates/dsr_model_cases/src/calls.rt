@@ -1,12 +1,16 @@
 // Calls that the program leaves out, each once.
 ghost use Rattle.std.specs.Prelude.{◌≡◌, true, IfOk, IfSome};
+ghost use Rattle.std.specs.Bool.{OnTrue};
 ghost use Rattle.dsr_given.specs.Shapes.{Gives, rule_shapes};
+ghost use Rattle.dsr_meaning.specs.Legal.{IsLegalLayout};
 ghost use Rattle.dsr_meaning.specs.Typed.{IsTyped};
+ghost use Rattle.dsr_members.specs.Sets.{HasSlot, empty_sets};
 ghost use Rattle.dsr_model.specs.Views.{IsLayoutFor, IsOfPairs};
 
 use crate::models::model_of;
 use dsr_given::Given;
 use dsr_ir::{Element, Fact, Instance, Layout, NoMemory, Spec, Target};
+use dsr_layout::record_count;
 use dsr_members::Members;
 use dsr_model::Model;
 use dsr_parse::parse;
@@ -54,6 +58,34 @@ fn collected(
     Ok(relation)
 }
 
+// Whether a slot may become a member of a set.
+fn has_slot(spec: &Spec, layout: &Layout, set: u32, slot: u32) -> bool
+    ensures { OnTrue result (HasSlot (empty_sets spec.now layout.now) set slot) }
+{
+    match spec.base.sets.items().get(set as usize) {
+        Some(decl) => decl.except.is_none() && u64::from(slot) < record_count(layout, decl.pool),
+        None => false,
+    }
+}
+
+// Whether something waits once a slot alone is a member of a set.
+fn waits_alone(
+    alloc: Global,
+    spec: &Spec,
+    layout: &Layout,
+    set: u32,
+    slot: u32,
+    waits: bool,
+) -> Result<bool, NoMemory>
+    requires typed { IsTyped spec.now }
+    requires legal { IsLegalLayout layout.now }
+    requires slot { HasSlot (empty_sets spec.now layout.now) set slot }
+{
+    let mut members = Members::new(alloc, spec, layout)?;
+    members.add(set, slot, waits);
+    Ok(members.take().is_some())
+}
+
 // Whether an element is a member of a set, asked in both ways.
 fn is_member(members: &Members, set: u32, elem: Element) -> bool {
     members.has_element(set, elem) && members.has(set, elem.slot)
@@ -90,5 +122,25 @@ fn pairs_are_collected_and_forgotten(rt: HostRuntime) -> Result<(), Fail> {
     found.model.forget(&instance);
     found.model.order();
     assert!(rt; found.model.fact(&instance).is_none() && !found.model.has(&fact));
+    Ok(())
+}
+
+#[test]
+fn members_wait_that_are_to(rt: HostRuntime) -> Result<(), Fail> {
+    let alloc = rt.alloc();
+    let tree = parse(alloc, TEXT)?;
+    let spec = spec(alloc, &tree)?;
+    let found = model_of(alloc, &spec, Vec::from_slice(alloc, &[2, 7, 9])?);
+    assert!(rt; found.is_some());
+    let Some(found) = found else {
+        return Ok(());
+    };
+    let may_be_member = has_slot(&spec, &found.layout, 0, 1);
+    assert!(rt; may_be_member);
+    if may_be_member {
+        let asked = waits_alone(alloc, &spec, &found.layout, 0, 1, true)?;
+        let unasked = waits_alone(alloc, &spec, &found.layout, 0, 1, false)?;
+        assert!(rt; asked && !unasked);
+    }
     Ok(())
 }

@@ -1,6 +1,7 @@
 // The model of an image.
 ghost use Rattle.std.specs.Prelude.{◌≡◌, true, IfSome};
 ghost use Rattle.dsr_given.specs.Shapes.{rule_shapes};
+ghost use Rattle.dsr_meaning.specs.Legal.{IsLegalLayout};
 ghost use Rattle.dsr_meaning.specs.Typed.{IsTyped};
 ghost use Rattle.dsr_model.specs.Views.{IsLayoutFor};
 
@@ -24,6 +25,7 @@ pub struct Found {
 pub fn model_of(alloc: Global, spec: &Spec, image: Vec<u8>) -> Option<Found>
     requires typed { IsTyped spec.now }
     ensures layout { IfSome result (λ found. IsLayoutFor spec.now found.layout) }
+    ensures legal { IfSome result (λ found. IsLegalLayout found.layout) }
     ensures rules { IfSome result (λ found. found.model.given.rules ≡ rule_shapes spec.now found.layout) }
     ensures ordered { IfSome result (λ found. found.model.ordered ≡ true) }
 {

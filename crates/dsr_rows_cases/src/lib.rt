@@ -3,6 +3,8 @@
 #![tactic(auto)]
 
 #[cfg(test)]
+mod functional;
+#[cfg(test)]
 mod marks;
 #[cfg(test)]
 mod numbers;

@@ -37,6 +37,38 @@ fn places_have_numbers(rt: HostRuntime) -> Result<(), Fail> {
     Ok(())
 }
 
+#[test]
+fn numbers_of_any_size_stand_anywhere(rt: HostRuntime) -> Result<(), Fail> {
+    let mut row = Row::new(rt.alloc(), 1000)?;
+    set(&mut row, 2, 4_294_967_296);
+    set(&mut row, 3, 4_294_967_295);
+    set(&mut row, 900, 18_446_744_073_709_551_615);
+    set(&mut row, 999, 0);
+    assert!(rt; get(&row, 2) == Some(4_294_967_296) && get(&row, 3) == Some(4_294_967_295));
+    assert!(rt; get(&row, 900) == Some(18_446_744_073_709_551_615));
+    assert!(rt; get(&row, 899).is_none() && get(&row, 999) == Some(0) && row.count() == 4);
+    set(&mut row, 900, 5);
+    set(&mut row, 2, 0);
+    assert!(rt; get(&row, 900) == Some(5) && get(&row, 2) == Some(0) && row.count() == 4);
+    Ok(())
+}
+
+#[test]
+fn numbers_before_say_nothing(rt: HostRuntime) -> Result<(), Fail> {
+    let mut row = Row::new(rt.alloc(), 10)?;
+    set(&mut row, 4, 12_884_901_895);
+    set(&mut row, 8, 4_294_967_297);
+    forget(&mut row, 4);
+    assert!(rt; get(&row, 4).is_none() && get(&row, 8) == Some(4_294_967_297));
+    set(&mut row, 4, 0);
+    assert!(rt; get(&row, 4) == Some(0));
+    row.clear();
+    assert!(rt; get(&row, 4).is_none() && get(&row, 8).is_none());
+    set(&mut row, 8, 0);
+    assert!(rt; get(&row, 4).is_none() && get(&row, 8) == Some(0));
+    Ok(())
+}
+
 fn raise(tally: &mut Tally, target: u64) {
     if target < tally.targets() && tally.count(target) < 9 {
         tally.raise(target);

@@ -1,5 +1,5 @@
 // The pairs of a relation, with the sources of each target.
-ghost use Rattle.std.specs.Prelude.{◌≡◌, ◌≤◌, ◌+◌, ◌++◌, ◌∷◌, [], true, length};
+ghost use Rattle.std.specs.Prelude.{◌≡◌, ◌≤◌, ◌+◌, ◌++◌, ◌∷◌, [], false, true, length};
 
 use dsr_related::Relation;
 use std::test::Fail;
@@ -22,6 +22,7 @@ fn targets_are_counted(rt: HostRuntime) -> Result<(), Fail> {
 // Pushes (0, 2), (3, 0), (3, 2) and (7, 2), not in order, and one of them twice.
 fn push_all(relation: &mut Relation)
     requires room { length relation.old.pairs.pairs + 5 ≤ relation.old.pairs.room }
+    requires many { relation.old.functional ≡ false }
     ensures pairs { relation.new.pairs.pairs
         ≡ relation.old.pairs.pairs ++ (3, 2) ∷ (7, 2) ∷ (3, 0) ∷ (0, 2) ∷ (3, 2) ∷ [] }
     ensures targets { relation.new.targets ≡ relation.old.targets }
@@ -71,5 +72,58 @@ fn next_pairs_and_targets_are_found(rt: HostRuntime) -> Result<(), Fail> {
     assert!(rt; relation.after_near(7, 2, 3).is_none() && relation.after_near(7, 2, 9).is_none());
     assert!(rt; relation.next_target(3, 0) == Some(0) && relation.next_target(3, 1) == Some(2));
     assert!(rt; relation.next_target(3, 3).is_none() && relation.next_target(1, 0).is_none());
+    Ok(())
+}
+
+// Pushes (0, 2), (3, 0) and (7, 2) to a relation in which each source has one target at most.
+fn push_some(relation: &mut Relation)
+    requires empty { relation.old.pairs.pairs ≡ [] }
+    requires room { relation.old.pairs.room ≡ 8 }
+    ensures pairs { relation.new.pairs.pairs ≡ (0, 2) ∷ (3, 0) ∷ (7, 2) ∷ [] }
+    ensures targets { relation.new.targets ≡ relation.old.targets }
+{
+    relation.push(0, 2);
+    relation.push(3, 0);
+    relation.push(7, 2);
+}
+
+// Whether the pairs above are found, by their sources and by their targets.
+fn has_some(relation: &Relation) -> bool
+    requires { relation.now.pairs.ordered ≡ true }
+{
+    relation.has(3, 0)
+        && !relation.has(3, 2)
+        && relation.targets_of(3) == 1
+        && relation.targets_of(4) == 0
+        && relation.first() == Some((0, 2))
+        && relation.after(0, 1) == Some((0, 2))
+        && relation.after_near(3, 0, 1) == Some((7, 2))
+        && relation.next_target(3, 0) == Some(0)
+        && relation.next_target(3, 1).is_none()
+        && relation.greatest_target(7) == Some(2)
+}
+
+// Whether their targets have these sources.
+fn has_some_sources(relation: &Relation) -> bool
+    requires { relation.now.pairs.ordered ≡ true }
+{
+    relation.sources_of(2) == 2
+        && relation.sources_of(1) == 0
+        && relation.greatest_source(2) == Some(7)
+        && relation.greatest_source(1).is_none()
+}
+
+#[test]
+fn each_source_has_one_target(rt: HostRuntime) -> Result<(), Fail> {
+    let mut counted = Relation::functional(rt.alloc(), 8, 3)?;
+    push_some(&mut counted);
+    counted.finish();
+    assert!(rt; has_some(&counted) && has_some_sources(&counted));
+    let mut other = Relation::functional(rt.alloc(), 8, 0)?;
+    push_some(&mut other);
+    other.finish();
+    assert!(rt; has_some(&other) && has_some_sources(&other));
+    other.clear();
+    assert!(rt; !other.has(3, 0));
     Ok(())
 }

@@ -1,0 +1,10 @@
+use Rattle.std.proofs.Common.{◌++◌, ◌∙◌, ap}
+use Rattle.dsr_updating.specs.Facts.{complement_by}
+use Rattle.dsr_facts.proofs.Taking.{each_more}
+use Rattle.dsr_facts.proofs.gathering.complements.Goals as goal
+
+pub loop-set-preserved : goal.loop-set-preserved
+loop-set-preserved c =
+    c.in_ok-push_complement.ensures
+    ∙ ap (λ pairs. pairs ++ complement_by c.loop-set.set c.declared-item.result) c.loop-set.invariant
+    ∙ each_more complement_by c.items-declared-items.result.now c.loop-set.set c.declared-item.result c.loop-set-test.true c.declared-item.is

@@ -1,0 +1,10 @@
+pub mod Decided
+pub mod Givers
+pub mod Numbered
+pub mod Once
+pub mod Only
+pub mod Removed
+pub mod Results
+pub mod Tellings
+pub mod Widths
+pub mod Writes

@@ -1,0 +1,6 @@
+use Rattle.std.proofs.Common.{◌≡◌, drop}
+use Rattle.dsr_updating.specs.Templates.{accept_slot}
+use Rattle.dsr_goal.proofs.adding.accept_slot.Given as goal
+
+abbrev pub invariant-loop-guard : goal.invariant-loop-guard
+invariant-loop-guard l = accept_slot l.field (drop l.guard-index l.guards) ≡ accept_slot l.field l.guards

@@ -1,0 +1,4 @@
+pub mod Knowing
+pub mod Places
+pub mod Raws
+pub mod Removing

@@ -1,0 +1,26 @@
+// Kinds of rules.
+ghost use Rattle.std.specs.Prelude.{◌≡◌};
+ghost use Rattle.dsr_updating.specs.Givers as rules;
+
+use dsr_ir::{Inc, Span};
+
+/// Whether the rule has no index.
+pub fn is_single(span: Span) -> bool
+    ensures { result ≡ rules.is_single span }
+{
+    matches!(span, Span::Single)
+}
+
+/// Whether the record itself is the member or the source.
+pub fn is_own(inc: &Inc) -> bool
+    ensures { result ≡ rules.is_own inc.now }
+{
+    matches!(inc, Inc::Own(_) | Inc::OwnPair(_, _))
+}
+
+/// Whether the slot at the index is.
+pub fn is_slot(inc: &Inc) -> bool
+    ensures { result ≡ rules.is_slot inc.now }
+{
+    matches!(inc, Inc::Slot(_, _) | Inc::SlotPair(_, _, _))
+}

@@ -13,10 +13,6 @@ use Rattle.dsr_meaning.specs.Refusals.{Refusal}
 use Rattle.dsr_script.specs.Scripts.{Answer}
 use Rattle.dsr_script.specs.declared.status.Verdict.TheVariants as verdicts
 
--- the number of a constraint and a binding, as a binding of the constraint
-abbrev pub violation_of : ℕ × Binding → BoundConstraint
-violation_of v = record { constraint = v.0; binding = v.1 }
-
 -- the name of a pool: pools count from 1, and 0 is the head
 abbrev pub pool_name : Spec → ℕ → List ℕ
 pool_name spec pool =

@@ -30,8 +30,8 @@ fn refused(alloc: Global, by: &[u8], kind: u8, place: u64) -> Result<Told, NoMem
     })
 }
 
-/// The refusal of a text by its syntax, with its kind: 1 where no token stands at the place, 2 where the token there
-/// doesn't go on, and 3 where it goes over a limit.
+/// The refusal of a text by its syntax, with its kind: 1 where no token stands at the place, 2
+/// where the token there doesn't go on, and 3 where it goes over a limit.
 pub fn syntax_refused(alloc: Global, kind: u8, place: u64) -> Result<Told, NoMemory>
     ensures { IfOk result (λ told. shown told ≡ syntax_answer kind place) }
 {

@@ -1,7 +1,8 @@
 // Verdicts on an image.
 ghost use Rattle.std.specs.Prelude.{◌≡◌, ◌++◌, IfOk, OnOk, map};
-ghost use Rattle.dsr_answers.specs.Texts.{verdict_answer, violation_line, violation_of};
+ghost use Rattle.dsr_answers.specs.Texts.{verdict_answer, violation_line};
 ghost use Rattle.dsr_script.specs.Moves.{shown};
+ghost use Rattle.dsr_meaning.specs.Consistency.{bound_constraint};
 
 use crate::names::{constraint_name, push_binding};
 use crate::texts::{push, push_number, told};
@@ -17,7 +18,7 @@ fn push_violation(
     binding: &Binding,
 ) -> Result<(), NoMemory>
     ensures { OnOk result (text.new.items ≡ text.old.items
-        ++ violation_line spec.now (violation_of (constraint, binding.now))) }
+        ++ violation_line spec.now (bound_constraint (constraint, binding.now))) }
 {
     push(text, b"violated ")?;
     push(text, constraint_name(spec, constraint))?;
@@ -29,7 +30,7 @@ fn push_violation(
 /// The verdict by the violated bindings of an image.
 pub fn verdict(alloc: Global, spec: &Spec, violations: &[(u32, Binding)]) -> Result<Told, NoMemory>
     ensures { IfOk result (λ told.
-        shown told ≡ verdict_answer spec.now (map violation_of violations.now)) }
+        shown told ≡ verdict_answer spec.now (map bound_constraint violations.now)) }
 {
     if violations.is_empty() {
         return told(alloc, Verdict::Ok, b"consistent\n");

@@ -6,7 +6,7 @@ ghost use Rattle.dsr_meaning.specs.Consistency.{AreViolations};
 ghost use Rattle.dsr_meaning.specs.Models.{IsFact};
 ghost use Rattle.dsr_meaning.specs.Typed.{IsTyped};
 ghost use Rattle.dsr_script.specs.Moves.{shown};
-ghost use Rattle.dsr_truth.specs.Walks.{bound};
+ghost use Rattle.dsr_meaning.specs.Consistency.{bound_constraint};
 
 use dsr_answers::{layout_refused, verdict};
 use dsr_fixpoint::rebuild;
@@ -27,7 +27,7 @@ fn violations_of(
 ) -> Result<Vec<(u32, Binding)>, NoMemory>
     requires { IsLaidOut spec.now layout.now image.now }
     ensures { IfOk result (λ vs. AreViolations (IsFact spec.now layout.now image.now) spec.now
-        (map bound vs.items)) }
+        (map bound_constraint vs.items)) }
 {
     let mut model = Model::prepare(alloc, spec, layout)?;
     rebuild(&mut model, spec, layout, image)?;

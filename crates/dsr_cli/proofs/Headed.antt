@@ -1,5 +1,6 @@
 -- What a run says of the files that a shelf tells, by its script.
 use Rattle.std.proofs.Common.{◌≡◌, ◌≢◌, ◌≤◌, ◌↔◌, ◌⊎◌, ℕ, List, [], ◌∷◌, length, Option, None, Some, IfSome, refl, sym, ap, subst, ◌∙◌, inl, inr}
+use Rattle.std.proofs.lemmas.Option.{same_Some}
 use Rattle.std.specs.FinMap.{get}
 use Rattle.dsr_answers.specs.Refused.{IsMeaning, IsRefused, no_token, unexpected, past_limit, no_meaning}
 use Rattle.dsr_answers.specs.Texts.{verdict_answer}
@@ -212,9 +213,6 @@ module _ (before after : Outside) (verdict : Verdict) (spec : Spec) (layout : La
     inconsistent = tells_inconsistent (IsFact spec layout image) spec verdict vs exactly speaks.says;
   }
 
-some_same : {A : Type 0} (x y : A) → Some x ≡ Some y → x ≡ y
-some_same x y e = cc
-
 none_first : (rs : List Refusal) (refusal : Refusal) → rs ≡ [] → first_of rs ≡ Some refusal → ⊥
 none_first rs refusal none first = let e : None ≡ Some refusal = sym (ap first_of none) ∙ first in cc
 
@@ -226,15 +224,15 @@ module _ (words : List (List ℕ)) (before after : Outside) (status : Status) (r
       let means : IsMeaning is.text is.means.tree = record { is_tree = is.means.is_tree; no_fault = is.means.no_fault } in
       elim (check_told before after files held verdict is.spec_name is.image_name run.came run.next script run.loaded run.ends) [
         | inl refused_run ↦
-            let same : refused_run.text ≡ is.text = some_same refused_run.text is.text (sym refused_run.file ∙ is.spec_file) in
+            let same : refused_run.text ≡ is.text = same_Some refused_run.text is.text (sym refused_run.file ∙ is.spec_file) in
             absurd (not_refused is.text is.means.tree refused_run.answer means (subst (λ t. IsRefused t refused_run.answer) same refused_run.is_refused))
         | inr checked_run ↦
             let read = checked_run.read in
-            let same : read.text ≡ is.text = some_same read.text is.text (sym read.file ∙ is.spec_file) in
+            let same : read.text ≡ is.text = same_Some read.text is.text (sym read.file ∙ is.spec_file) in
             let tree : read.tree ≡ is.means.tree =
             tree_unique is.text read.tree is.means.tree (subst (λ t. IsMeaning t read.tree) same read.meaning).is_tree is.means.is_tree in
             let meant : specification read.tree ≡ spec = ap specification tree ∙ sym is.means.is in
-            let bytes : checked_run.image ≡ image = some_same checked_run.image image (sym checked_run.image_file ∙ is.image_file) in
+            let bytes : checked_run.image ≡ image = same_Some checked_run.image image (sym checked_run.image_file ∙ is.image_file) in
             by_answer files spec layout image verdict is.laid_out checked_run.answer
             (subst (λ s. IsCheckAnswer s image checked_run.answer) meant (subst (λ b. IsCheckAnswer (specification read.tree) b checked_run.answer) bytes checked_run.fits))
             checked_run.speaks
@@ -246,7 +244,7 @@ module _ (words : List (List ℕ)) (before after : Outside) (status : Status) (r
       by_answer files spec layout image verdict laid_out _ (refused refusal first) speaks =
           absurd (none_first (refusals spec image) refusal laid_out.accepted first)
       by_answer files spec layout image verdict laid_out _ (checked other vs is exactly) speaks =
-          let same : other ≡ layout = some_same other layout (sym is.numbers ∙ laid_out.numbers) in
+          let same : other ≡ layout = same_Some other layout (sym is.numbers ∙ laid_out.numbers) in
           verdict_by before after verdict spec layout image vs (subst (λ l. AreViolations (IsFact spec l image) spec vs) same exactly) speaks
 
   was_checked : (files : Files) (spec_name image_name : List ℕ) (verdict : Verdict) → before.held ≡ Some files

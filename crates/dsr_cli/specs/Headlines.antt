@@ -23,7 +23,8 @@ use Rattle.dsr_cli.specs.Words.{Check, Text, command_of}
 
 -- the words ask to check an image under a specification: their files are within their limits, the text means the
 -- specification, and the image has the layout
-pub record IsChecked (files : Files) (words : List (List ℕ)) (spec : Spec) (layout : Layout) (image : List ℕ) : Type 0 where
+pub record IsChecked (files : Files) (words : List (List ℕ)) (spec : Spec) (layout : Layout)
+    (image : List ℕ) : Type 0 where
   pub spec_name : List ℕ
   pub image_name : List ℕ
   pub asked : command_of words ≡ Some (Check spec_name image_name)
@@ -35,8 +36,10 @@ pub record IsChecked (files : Files) (words : List (List ℕ)) (spec : Spec) (la
   pub means : IsSpecificationOf text spec
   pub laid_out : IsLayoutOf spec image layout
 
--- a verdict on an image: it says exactly whether the image is consistent, and the text tells exactly its violated bindings
-pub record IsVerdictOn (spec : Spec) (layout : Layout) (image : List ℕ) (before after : Outside) (verdict : Verdict) : Type 0 where
+-- a verdict on an image: it says exactly whether the image is
+-- consistent, and the text tells exactly its violated bindings
+pub record IsVerdictOn (spec : Spec) (layout : Layout) (image : List ℕ) (before after : Outside)
+    (verdict : Verdict) : Type 0 where
   pub violations : List BoundConstraint
   pub exactly : AreViolations (IsFact spec layout image) spec violations
   pub told : after.output.written ≡ appended before.output.written (verdict_answer spec violations).text
@@ -73,7 +76,8 @@ pub record IsPrinted (files : Files) (words : List (List ℕ)) (tree : TreeShape
   pub short_text : length text ≤ spec_limit
   pub meaning : IsMeaning text tree
 
--- where the shelf tells its files, a text that is printed is the canonical one of the specification that was asked for
+-- where the shelf tells its files, a text that is printed is
+-- the canonical one of the specification that was asked for
 abbrev pub PrintsTexts : List (List ℕ) → Outside → Outside → Status → Type 0
 PrintsTexts words before after status =
     (files : Files) (spec_name : List ℕ) → before.held ≡ Some files

@@ -55,12 +55,14 @@ units_behind first scope units =
 -- what is wrong with a constraint of this number, apart from its form and a limit
 abbrev pub own_faults_of : Checker → ℕ → ConstraintOf → List Fault
 own_faults_of checker i c =
-    own_faults (known_of checker.known) checker.constants.rules.now (get bytes_eq checker.numbers.now) i (constraint_shape c)
+    own_faults (known_of checker.known) checker.constants.rules.now
+    (get bytes_eq checker.numbers.now) i (constraint_shape c)
 
 -- what is wrong with it at all
 abbrev pub faults_of : Checker → ℕ → ConstraintOf → List Fault
 faults_of checker i c =
-    constraint_faults (known_of checker.known) checker.constants.rules.now (get bytes_eq checker.numbers.now) i (constraint_shape c)
+    constraint_faults (known_of checker.known) checker.constants.rules.now
+    (get bytes_eq checker.numbers.now) i (constraint_shape c)
 
 -- why a constraint without such faults has no normal form
 abbrev pub faults_of_form : Known → ConstraintOf → List Fault

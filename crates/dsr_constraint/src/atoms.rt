@@ -42,7 +42,8 @@ impl Scope<'_> {
     }
 
     fn check_relation(&self, told: &mut Told, relation: &PlacedName)
-        ensures { Finds (unknown ((known_of self.now.known).relation relation.now.name) relation.now) told.old.fault told.new.fault }
+        ensures { Finds (unknown ((known_of self.now.known).relation relation.now.name)
+            relation.now) told.old.fault told.new.fault }
     {
         note_found(told, self.known.relation(&relation.name), relation);
     }
@@ -100,7 +101,8 @@ impl Scope<'_> {
 
     // Whether a relation has another source than the first variable, or other targets than the second.
     fn pairs_others(&self, first: &Var, second: &Var, rel: Option<&Rel>) -> bool
-        ensures { result ≡ pairs_others (scope_told self.now) first.now second.now (option_map (λ r. r.now) rel.entry) }
+        ensures { result ≡ pairs_others (scope_told self.now) first.now second.now
+            (option_map (λ r. r.now) rel.entry) }
     {
         has_other_source(rel, self.pool_of(first)) || has_other_target(rel, self.pool_of(second))
     }
@@ -146,7 +148,9 @@ impl Scope<'_> {
         measure: &Measure,
     )
         requires { Narrow self.now.known constants.now }
-        ensures { Finds (measure_faults (known_of self.now.known) constants.now.rules.now relation measure.now) told.old.fault told.new.fault }
+        ensures { Finds (measure_faults
+            (known_of self.now.known) constants.now.rules.now relation measure.now) told.old.fault
+            told.new.fault }
     {
         match measure {
             Measure::Number(number) => {
@@ -159,7 +163,8 @@ impl Scope<'_> {
 
     fn check_constants(&self, told: &mut Told, constants: &Constants, atom: &Atom)
         requires { Narrow self.now.known constants.now }
-        ensures { Finds (atom_constants (scope_told self.now) constants.now.rules.now atom.now) told.old.fault told.new.fault }
+        ensures { Finds (atom_constants (scope_told self.now) constants.now.rules.now atom.now)
+            told.old.fault told.new.fault }
     {
         match atom {
             Atom::Value {
@@ -181,7 +186,8 @@ impl Scope<'_> {
     /// The faults of an atom; pools and kinds are asked only where each name stands for something.
     pub fn check_atom(&self, told: &mut Told, constants: &Constants, atom: &Atom)
         requires { Narrow self.now.known constants.now }
-        ensures { Finds (atom_faults (scope_told self.now) constants.now.rules.now atom.now) told.old.fault told.new.fault }
+        ensures { Finds (atom_faults (scope_told self.now) constants.now.rules.now atom.now)
+            told.old.fault told.new.fault }
     {
         let mut names = Told { fault: None };
         self.check_atom_names(&mut names, atom);

@@ -128,7 +128,9 @@ pub fn check_refusal(
     fault: NormalFault,
 ) -> Result<(), NoMemory>
     ensures known { OnOk result (IsSome (refusal_told fault)) }
-    ensures found { OnOk result (Finds (refusal_faults (constraint_shape constraint.now) (refusal_told fault)) told.old.fault told.new.fault) }
+    ensures found { OnOk result
+        (Finds (refusal_faults (constraint_shape constraint.now) (refusal_told fault))
+        told.old.fault told.new.fault) }
 {
     let place = constraint.name.place;
     match fault {

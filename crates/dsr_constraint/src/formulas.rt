@@ -13,7 +13,8 @@ use dsr_tree::{Formula, Join, Unit};
 #[cycle(formula)]
 pub fn check_formula(scope: &Scope, told: &mut Told, constants: &Constants, formula: &Formula)
     requires { Narrow scope.now.known constants.now }
-    ensures { Finds (formula_faults (scope_told scope.now) constants.now.rules.now (formula_shape formula.now)) told.old.fault told.new.fault }
+    ensures { Finds (formula_faults (scope_told scope.now) constants.now.rules.now
+        (formula_shape formula.now)) told.old.fault told.new.fault }
 {
     check_join(scope, told, constants, &formula.first);
     check_joins(scope, told, constants, &formula.rest);
@@ -32,7 +33,8 @@ fn check_joins(scope: &Scope, told: &mut Told, constants: &Constants, joins: &[J
 #[cycle(formula)]
 fn check_join(scope: &Scope, told: &mut Told, constants: &Constants, join: &Join)
     requires { Narrow scope.now.known constants.now }
-    ensures { Finds (join_faults (scope_told scope.now) constants.now.rules.now (join_shape join.now)) told.old.fault told.new.fault }
+    ensures { Finds (join_faults (scope_told scope.now) constants.now.rules.now
+        (join_shape join.now)) told.old.fault told.new.fault }
 {
     check_unit(scope, told, constants, &join.first);
     check_units(scope, told, constants, &join.rest);
@@ -51,7 +53,8 @@ fn check_units(scope: &Scope, told: &mut Told, constants: &Constants, units: &[U
 #[cycle(formula)]
 fn check_unit(scope: &Scope, told: &mut Told, constants: &Constants, unit: &Unit)
     requires { Narrow scope.now.known constants.now }
-    ensures { Finds (unit_faults (scope_told scope.now) constants.now.rules.now (unit_shape unit.now)) told.old.fault told.new.fault }
+    ensures { Finds (unit_faults (scope_told scope.now) constants.now.rules.now
+        (unit_shape unit.now)) told.old.fault told.new.fault }
 {
     match unit {
         Unit::Not { unit, .. } => check_unit(scope, told, constants, unit),

@@ -119,7 +119,8 @@ fn check_unit_negations(told: &mut Told, unit: &Unit)
 
 // The unit below a `not`.
 fn check_not(told: &mut Told, place: u64, unit: &Unit)
-    ensures { Finds (when (unit_has_value (unit_shape unit.now)) conditions.NegatedValue place) told.old.fault told.new.fault }
+    ensures { Finds (when (unit_has_value (unit_shape unit.now)) conditions.NegatedValue place)
+        told.old.fault told.new.fault }
 {
     told.note_if(unit_has_value(unit), Condition::NegatedValue, place);
 }

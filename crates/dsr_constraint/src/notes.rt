@@ -7,7 +7,8 @@ use dsr_faults::Told;
 
 /// Takes note of the fault that is told of a part.
 pub fn note_part(told: &mut Told, part: &Told)
-    ensures { (faults : List Fault) → Finds faults None part.now.fault → Finds faults told.old.fault told.new.fault }
+    ensures { (faults : List Fault) → Finds faults None part.now.fault →
+        Finds faults told.old.fault told.new.fault }
 {
     if let Some(fault) = part.fault {
         told.note_if(true, fault.condition, fault.place);

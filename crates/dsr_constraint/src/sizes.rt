@@ -53,7 +53,8 @@ impl Scope<'_> {
     }
 
     fn check_part_names(&self, told: &mut Told, var: &Var, part: &PlacedName)
-        ensures { Finds (size_names (scope_told self.now) var.now (Some part.now)) told.old.fault told.new.fault }
+        ensures { Finds (size_names (scope_told self.now) var.now (Some part.now)) told.old.fault
+            told.new.fault }
     {
         match var {
             Var::Head { .. } => {
@@ -69,7 +70,8 @@ impl Scope<'_> {
 
     /// The names of a size that stand for nothing.
     pub fn check_size_names(&self, told: &mut Told, size: &Size)
-        ensures { Finds (size_names (scope_told self.now) size.now.var size.now.part) told.old.fault told.new.fault }
+        ensures { Finds (size_names (scope_told self.now) size.now.var size.now.part) told.old.fault
+            told.new.fault }
     {
         match &size.part {
             Some(part) => self.check_part_names(told, &size.var, part),

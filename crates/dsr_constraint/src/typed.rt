@@ -36,8 +36,11 @@ fn add_constraint(
     conjs: &[Conj],
 ) -> Result<(), NoMemory>
     requires scope { scope_told scope.now ≡ scope_of (scope_told scope.now).known constraint.now.quantifier }
-    requires conjs { conjs.now ≡ normal_form (typed_formula (scope_told scope.now) (formula_shape constraint.now.formula)) }
-    ensures { OnOk result (typed.new.items ≡ typed.old.items ++ typed_constraint (scope_told scope.now).known (constraint_shape constraint.now) ∷ []) }
+    requires conjs { conjs.now
+        ≡ normal_form
+        (typed_formula (scope_told scope.now) (formula_shape constraint.now.formula)) }
+    ensures { OnOk result (typed.new.items ≡ typed.old.items
+        ++ typed_constraint (scope_told scope.now).known (constraint_shape constraint.now) ∷ []) }
 {
     let name = constraint.name.name.clone(alloc)?;
     let conjs = all_without_complements(alloc, scope.known.base, conjs)?;
@@ -57,8 +60,11 @@ fn add_typed(
     typed: &mut Vec<Constraint>,
     constraint: &dsr_tree::Constraint,
 ) -> Result<(), NoMemory>
-    ensures found { OnOk result (Finds (faults_of_form known.now constraint.now) told.old.fault told.new.fault) }
-    ensures typed { OnOk result (faults_of_form known.now constraint.now ≡ [] → typed.new.items ≡ typed.old.items ++ typed_of known.now constraint.now ∷ []) }
+    ensures found { OnOk result
+        (Finds (faults_of_form known.now constraint.now) told.old.fault told.new.fault) }
+    ensures typed { OnOk result
+        (faults_of_form known.now constraint.now ≡ [] → typed.new.items ≡ typed.old.items
+        ++ typed_of known.now constraint.now ∷ []) }
 {
     let scope = scope_of(known, &constraint.quantifier);
     let formula = Formula::new(typed_formula(alloc, &scope, &constraint.formula)?);
@@ -82,8 +88,11 @@ impl Checker<'_> {
         constraint: &dsr_tree::Constraint,
     ) -> Result<(), NoMemory>
         requires { Narrow self.now.known self.now.constants }
-        ensures found { OnOk result (Finds (faults_of self.now number constraint.now) told.old.fault told.new.fault) }
-        ensures typed { OnOk result (faults_of self.now number constraint.now ≡ [] → typed.new.items ≡ typed.old.items ++ typed_of self.now.known constraint.now ∷ []) }
+        ensures found { OnOk result
+            (Finds (faults_of self.now number constraint.now) told.old.fault told.new.fault) }
+        ensures typed { OnOk result
+            (faults_of self.now number constraint.now ≡ [] → typed.new.items ≡ typed.old.items
+            ++ typed_of self.now.known constraint.now ∷ []) }
     {
         let is_over = number == constraint_limit(self.known.base.version);
         told.note_if(is_over, Condition::Limit, constraint.name.place);
@@ -104,9 +113,14 @@ impl Checker<'_> {
         constraints: &[dsr_tree::Constraint],
     ) -> Result<Vec<Constraint>, NoMemory>
         requires least { Narrow self.now.known self.now.constants }
-        requires numbers { get bytes_eq self.now.numbers.now ≡ constraint_number (map constraint_shape constraints.now) }
-        ensures found { OnOk result (Finds (faults_of_all self.now.known self.now.constants.rules.now constraints.now) told.old.fault told.new.fault) }
-        ensures typed { IfOk result (λ cs. faults_of_all self.now.known self.now.constants.rules.now constraints.now ≡ [] → cs.items ≡ typed_of_all self.now.known constraints.now) }
+        requires numbers { get bytes_eq self.now.numbers.now
+            ≡ constraint_number (map constraint_shape constraints.now) }
+        ensures found { OnOk result
+            (Finds (faults_of_all self.now.known self.now.constants.rules.now constraints.now)
+            told.old.fault told.new.fault) }
+        ensures typed { IfOk result
+            (λ cs. faults_of_all self.now.known self.now.constants.rules.now constraints.now ≡ [] →
+            cs.items ≡ typed_of_all self.now.known constraints.now) }
     {
         let mut typed = Vec::new(alloc);
         for (number, constraint) in constraints.iter().enumerate() {
@@ -125,8 +139,12 @@ fn typed_among(
     items: &[dsr_tree::Constraint],
 ) -> Result<Vec<Constraint>, NoMemory>
     requires { Narrow known.now constants.now }
-    ensures found { OnOk result (Finds (faults_of_all known.now constants.now.rules.now items.now) told.old.fault told.new.fault) }
-    ensures typed { IfOk result (λ cs. faults_of_all known.now constants.now.rules.now items.now ≡ [] → cs.items ≡ typed_of_all known.now items.now) }
+    ensures found { OnOk result
+        (Finds (faults_of_all known.now constants.now.rules.now items.now) told.old.fault
+        told.new.fault) }
+    ensures typed { IfOk result
+        (λ cs. faults_of_all known.now constants.now.rules.now items.now ≡ [] → cs.items
+        ≡ typed_of_all known.now items.now) }
 {
     let numbers = constraint_numbers(alloc, items)?;
     let checker = Checker {
@@ -174,9 +192,15 @@ pub fn constraints(
     structures: &Structures,
 ) -> Result<Vec<Constraint>, SpecFault>
     requires typed { AreTyped structures.now }
-    ensures no_fault { IfOk result (λ _. constraints_faults (known_in structures.now) tree.now.rules (map constraint_shape tree.now.constraints) ≡ []) }
-    ensures constraints { IfOk result (λ cs. cs.items ≡ typed_constraints (known_in structures.now) (map constraint_shape tree.now.constraints)) }
-    ensures fault { IfErr result (Tells (constraints_faults (known_in structures.now) tree.now.rules (map constraint_shape tree.now.constraints))) }
+    ensures no_fault { IfOk result
+        (λ _. constraints_faults (known_in structures.now) tree.now.rules
+        (map constraint_shape tree.now.constraints) ≡ []) }
+    ensures constraints { IfOk result
+        (λ cs. cs.items
+        ≡ typed_constraints (known_in structures.now) (map constraint_shape tree.now.constraints)) }
+    ensures fault { IfErr result
+        (Tells (constraints_faults (known_in structures.now) tree.now.rules
+        (map constraint_shape tree.now.constraints))) }
 {
     let tables = name_tables(alloc, structures)?;
     let known = Known {

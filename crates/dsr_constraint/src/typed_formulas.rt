@@ -17,7 +17,8 @@ pub fn typed_formula(
     scope: &Scope,
     formula: &Formula,
 ) -> Result<FormulaNode, NoMemory>
-    ensures { IfOk result (λ node. formula_shape node ≡ typed_formula (scope_told scope.now) (formula_tree_of formula.now)) }
+    ensures { IfOk result (λ node. formula_shape node
+        ≡ typed_formula (scope_told scope.now) (formula_tree_of formula.now)) }
 {
     let first = typed_join(alloc, scope, &formula.first)?;
     Ok(FormulaNode::Any(typed_joins(alloc, scope, &formula.rest, first)?))
@@ -31,7 +32,8 @@ fn typed_joins(
     rest: &[Join],
     first: FormulaNode,
 ) -> Result<Vec<FormulaNode>, NoMemory>
-    ensures { IfOk result (λ parts. in_row (map formula_shape parts.items) ≡ joins_behind (formula_shape first) scope.now rest.now) }
+    ensures { IfOk result (λ parts. in_row (map formula_shape parts.items)
+        ≡ joins_behind (formula_shape first) scope.now rest.now) }
 {
     let mut parts = Vec::new(alloc);
     parts.push(first)?;
@@ -44,7 +46,8 @@ fn typed_joins(
 
 #[cycle(formula)]
 fn typed_join(alloc: Global, scope: &Scope, join: &Join) -> Result<FormulaNode, NoMemory>
-    ensures { IfOk result (λ node. formula_shape node ≡ typed_join (scope_told scope.now) (join_shape join.now)) }
+    ensures { IfOk result (λ node. formula_shape node
+        ≡ typed_join (scope_told scope.now) (join_shape join.now)) }
 {
     let first = typed_unit(alloc, scope, &join.first)?;
     Ok(FormulaNode::Every(typed_units(alloc, scope, &join.rest, first)?))
@@ -58,7 +61,8 @@ fn typed_units(
     rest: &[Unit],
     first: FormulaNode,
 ) -> Result<Vec<FormulaNode>, NoMemory>
-    ensures { IfOk result (λ parts. in_row (map formula_shape parts.items) ≡ units_behind (formula_shape first) scope.now rest.now) }
+    ensures { IfOk result (λ parts. in_row (map formula_shape parts.items)
+        ≡ units_behind (formula_shape first) scope.now rest.now) }
 {
     let mut parts = Vec::new(alloc);
     parts.push(first)?;
@@ -71,7 +75,8 @@ fn typed_units(
 
 #[cycle(formula)]
 fn typed_unit(alloc: Global, scope: &Scope, unit: &Unit) -> Result<FormulaNode, NoMemory>
-    ensures { IfOk result (λ node. formula_shape node ≡ typed_unit (scope_told scope.now) (unit_shape unit.now)) }
+    ensures { IfOk result (λ node. formula_shape node
+        ≡ typed_unit (scope_told scope.now) (unit_shape unit.now)) }
 {
     match unit {
         Unit::Not { unit, .. } => Ok(FormulaNode::Not(boxed_unit(alloc, scope, unit)?)),
@@ -84,7 +89,8 @@ fn typed_unit(alloc: Global, scope: &Scope, unit: &Unit) -> Result<FormulaNode, 
 // A unit, in a box of its own.
 #[cycle(formula)]
 fn boxed_unit(alloc: Global, scope: &Scope, unit: &Unit) -> Result<Box<FormulaNode>, NoMemory>
-    ensures { IfOk result (λ node. formula_shape node.value ≡ typed_unit (scope_told scope.now) (unit_shape unit.now)) }
+    ensures { IfOk result (λ node. formula_shape node.value
+        ≡ typed_unit (scope_told scope.now) (unit_shape unit.now)) }
 {
     Ok(Box::new(alloc, typed_unit(alloc, scope, unit)?)?)
 }

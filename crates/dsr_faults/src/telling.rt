@@ -27,7 +27,8 @@ impl Told {
 
     /// Takes note of a name that stands for nothing.
     pub fn note_unknown(&mut self, number: Option<usize>, name: &PlacedName)
-        ensures { Finds (when (is_none number) conditions.UnknownName name.now.place) self.old.fault self.new.fault }
+        ensures { Finds (when (is_none number) conditions.UnknownName name.now.place) self.old.fault
+            self.new.fault }
     {
         self.note_if(number.is_none(), Condition::UnknownName, name.place);
     }

@@ -88,10 +88,13 @@ run_append (x ∷ xs) ys stacks = run_append xs ys (step x stacks)
 
 mutual
   read : (s : FormulaShape) (stacks : Stacks) → run (postfix s) stacks ≡ (s ∷ stacks.0, stacks.1)
-  read (AnyOf parts) stacks = run_append (row_postfix parts) (inl 0 ∷ []) stacks ∙ ap (run (inl 0 ∷ [])) (read_row parts stacks)
-  read (EveryOf parts) stacks = run_append (row_postfix parts) (inl 1 ∷ []) stacks ∙ ap (run (inl 1 ∷ [])) (read_row parts stacks)
+  read (AnyOf parts) stacks = run_append (row_postfix parts) (inl 0 ∷ []) stacks
+      ∙ ap (run (inl 0 ∷ [])) (read_row parts stacks)
+  read (EveryOf parts) stacks = run_append (row_postfix parts) (inl 1 ∷ []) stacks
+      ∙ ap (run (inl 1 ∷ [])) (read_row parts stacks)
   read (NotOf part) stacks = run_append (postfix part) (inl 2 ∷ []) stacks ∙ ap (run (inl 2 ∷ [])) (read part stacks)
-  read (GivenOf part) stacks = run_append (postfix part) (inl 3 ∷ []) stacks ∙ ap (run (inl 3 ∷ [])) (read part stacks)
+  read (GivenOf part) stacks = run_append (postfix part) (inl 3 ∷ []) stacks
+      ∙ ap (run (inl 3 ∷ [])) (read part stacks)
   read (LeafOf atom) stacks = refl
 
   read_row :

@@ -32,7 +32,8 @@ pub enum Kind {
     Gap,
 }
 
-/// A field of a structure; a `fixed` one is never written. A gap of n bytes is a `Gap` of `U8` with the length n.
+/// A field of a structure; a `fixed` one is never written. A gap of n bytes is a `Gap` of `U8` with
+/// the length n.
 #[derive(Drop)]
 pub struct Field {
     pub name: Name,

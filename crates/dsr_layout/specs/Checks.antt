@@ -8,9 +8,12 @@ use Rattle.dsr_meaning.specs.Refusals.{Refusal, outside_refusals, overlap_refusa
 -- for where pools lie
 abbrev pub place_refusals : (ℕ → Option ℕ) → Structures → Layout → List Refusal
 place_refusals size base layout =
-    outside_refusals layout ++ (overlap_refusals size base.head layout ++ (subtype_refusals size base.sets base.pools layout ++ zero_refusals layout))
+    outside_refusals layout
+    ++ (overlap_refusals size base.head layout
+    ++ (subtype_refusals size base.sets base.pools layout ++ zero_refusals layout))
 
 -- for codes and counts
 abbrev pub number_refusals : Spec → Structures → Layout → List Refusal
 number_refusals spec base layout =
-    none_refusals layout ++ (code_refusals base.structures layout ++ (count_refusals spec layout ++ instance_refusals spec layout))
+    none_refusals layout ++ (code_refusals base.structures layout
+    ++ (count_refusals spec layout ++ instance_refusals spec layout))

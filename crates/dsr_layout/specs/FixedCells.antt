@@ -19,7 +19,11 @@ next_bit bit f =
 -- the clipped cell of one of several fields that follow each other from a bit on
 abbrev pub clipped_cell : Order → Option ℕ → List Field → ℕ → Option Cell
 clipped_cell order start fields k =
-    option_and_then (λ f. cell_from order (option_and_then (λ s. option_map clip (bit_behind_fields (known []) s (take k fields))) start) f) (slice_get fields k)
+    option_and_then
+    (λ f. cell_from order
+    (option_and_then (λ s. option_map clip (bit_behind_fields (known []) s (take k fields))) start)
+    f)
+    (slice_get fields k)
 
 -- the cell lies in so many bytes, and its value has 64 bits at most
 pub record IsReadable (bytes : ℕ) (cell : Cell) : Type 0 where

@@ -46,7 +46,9 @@ bits_of base bytes structure = size_of (fixed_value base bytes) base.structures 
 -- where the structure has a size, each entry of its field ends within it
 abbrev pub LiesInStructure : Structures → List ℕ → FieldRef → FieldPlace → Type 0
 LiesInStructure base bytes field place =
-    IfSome (bits_of base bytes field.structure) (λ bits. (index : ℕ) → index < entry_count place → place.bit + (index + 1) * width_bits place.width ≤ bits)
+    IfSome (bits_of base bytes field.structure)
+    (λ bits. (index : ℕ) → index < entry_count place
+    → place.bit + (index + 1) * width_bits place.width ≤ bits)
 
 abbrev pub FieldsLieInStructures : Structures → List ℕ → Layout → Type 0
 FieldsLieInStructures base bytes layout =

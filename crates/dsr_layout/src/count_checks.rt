@@ -24,7 +24,8 @@ fn greatest_size(spec: &Spec, layout: &Layout, measure: Measure) -> u64
 }
 
 fn target_count(spec: &Spec, layout: &Layout, rel: u32) -> u64
-    ensures { result ≡ option_map_or (λ r. option_map_or (record_count layout.now) r.target 0) (slice_get spec.now.base.rels rel) 0 }
+    ensures { result ≡ option_map_or (λ r. option_map_or (record_count layout.now) r.target 0)
+        (slice_get spec.now.base.rels rel) 0 }
 {
     match spec.base.rels.items().get(rel as usize) {
         Some(rel) => match rel.target {
@@ -36,7 +37,8 @@ fn target_count(spec: &Spec, layout: &Layout, rel: u32) -> u64
 }
 
 fn source_count(spec: &Spec, layout: &Layout, rel: u32) -> u64
-    ensures { result ≡ option_map_or (λ r. record_count layout.now r.source) (slice_get spec.now.base.rels rel) 0 }
+    ensures { result ≡ option_map_or (λ r. record_count layout.now r.source)
+        (slice_get spec.now.base.rels rel) 0 }
 {
     match spec.base.rels.items().get(rel as usize) {
         Some(rel) => record_count(layout, rel.source),
@@ -113,7 +115,9 @@ fn any_outgrows(spec: &Spec, layout: &Layout, literals: &[Literal]) -> bool
 }
 
 fn constraint_outgrows(spec: &Spec, layout: &Layout, conjs: &[Conj]) -> bool
-    ensures { result ≡ any_of (λ conj. any_of (λ l. meaning.outgrows spec.now layout.now l.atom) conj.literals) conjs.now }
+    ensures { result ≡ any_of
+        (λ conj. any_of (λ l. meaning.outgrows spec.now layout.now l.atom) conj.literals)
+        conjs.now }
 {
     for conj in conjs {
         if any_outgrows(spec, layout, conj.literals.items()) {

@@ -75,7 +75,8 @@ fn cells_from(
 
 // The cells of the fixed fields, by their numbers among the fields of `Head`.
 fn fixed_cells(alloc: Global, base: &Structures) -> Result<Vec<Option<Cell>>, NoMemory>
-    ensures { IfOk result (λ cells. (k : ℕ) → known cells.items k ≡ option_map clip_cell (fixed_cell base.now k)) }
+    ensures { IfOk result (λ cells. (k : ℕ) → known cells.items k
+        ≡ option_map clip_cell (fixed_cell base.now k)) }
 {
     let structures = base.structures.items();
     let ends = ends(alloc, &[], structures)?;
@@ -167,8 +168,10 @@ pub fn fixed_values(
     requires placeable { ArePlaceable base.now }
     requires image { length bytes.now ≤ 67108864 }
     ensures values { IfOk result (λ values. (k : ℕ) → known values.items k ≡ fixed_value base.now bytes.now k) }
-    ensures uncut { IfOk result (λ _. cut_refusals (fixed_cell base.now) (head_fields base.now) (length bytes.now) ≡ []) }
-    ensures refused { IfErr result (Tells (cut_refusals (fixed_cell base.now) (head_fields base.now) (length bytes.now))) }
+    ensures uncut { IfOk result
+        (λ _. cut_refusals (fixed_cell base.now) (head_fields base.now) (length bytes.now) ≡ []) }
+    ensures refused { IfErr result
+        (Tells (cut_refusals (fixed_cell base.now) (head_fields base.now) (length bytes.now))) }
 {
     let cells = fixed_cells(alloc, base)?;
     if let Some(fault) = cut(&cells, head_fields(base), bytes.len() as u64) {

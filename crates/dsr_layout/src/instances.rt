@@ -91,7 +91,8 @@ fn quantifier_instances(spec: &Spec, layout: &Layout, quant: Quant) -> u64
 }
 
 fn all_quantifier_instances(spec: &Spec, layout: &Layout, constraints: &[Constraint]) -> u64
-    ensures { result ≡ clip (sum (map (λ c. meaning.quantifier_instances spec.now layout.now c.quant) constraints.now)) }
+    ensures { result ≡ clip (sum
+        (map (λ c. meaning.quantifier_instances spec.now layout.now c.quant) constraints.now)) }
 {
     let mut total: u64 = 0;
     for constraint in constraints {

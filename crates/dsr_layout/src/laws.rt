@@ -14,7 +14,8 @@ ghost use Rattle.dsr_layout.specs.Laws.{OfEachLayout, HasByte, HasCode};
 
 /// Each entry of a field lies in the bytes of the structure that declares the field.
 pub fn fields_lie_in_structures()
-    ensures { (base : Structures) (bytes : List ℕ) → IfSome (layout_of base bytes) (laws.FieldsLieInStructures base bytes) }
+    ensures { (base : Structures) (bytes : List ℕ) →
+        IfSome (layout_of base bytes) (laws.FieldsLieInStructures base bytes) }
 {}
 
 /// A structure is at least as large as the one that it extends, so that the fields of its
@@ -60,13 +61,15 @@ pub fn instances_are_few()
 
 /// Where nothing is refused, the image has all bytes of the head.
 pub fn heads_fit_their_images()
-    ensures image { (spec : Spec) (bytes : List ℕ) → refusals spec bytes ≡ [] → laws.HoldHead spec.base bytes (length bytes) }
+    ensures image { (spec : Spec) (bytes : List ℕ) → refusals spec bytes ≡ [] →
+        laws.HoldHead spec.base bytes (length bytes) }
     ensures layout { OfEachLayout (λ spec bytes layout. laws.HoldHead spec.base bytes layout.length) }
 {}
 
 /// Where nothing is refused, each structure has a size.
 pub fn structures_have_sizes()
-    ensures { (spec : Spec) (bytes : List ℕ) → refusals spec bytes ≡ [] → laws.StructuresHaveSizes spec.base bytes }
+    ensures { (spec : Spec) (bytes : List ℕ) → refusals spec bytes ≡ [] →
+        laws.StructuresHaveSizes spec.base bytes }
 {}
 
 /// The refusal that is told has the least kind of all that apply.
@@ -81,5 +84,6 @@ pub fn ranges_share_bytes()
 
 /// A value is told to be a code exactly where it is the code of some slot of the pool.
 pub fn codes_are_of_slots()
-    ensures { (n : PoolNumbers) (value : ℕ) → IsTrue (is_code_below n value n.count) ↔ (slot : ℕ) × HasCode n slot value }
+    ensures { (n : PoolNumbers) (value : ℕ) → IsTrue (is_code_below n value n.count) ↔ (slot : ℕ)
+        × HasCode n slot value }
 {}

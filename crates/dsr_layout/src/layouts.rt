@@ -93,7 +93,8 @@ fn layout_fault(
     requires placeable { IsPlaceable spec.now }
     requires few { length layout.now.pools ≤ 32 }
     requires computable { All IsComputable layout.now.pools }
-    ensures { IfOk result (λ fault. fault ≡ told_of (layout_refusals (size_in ends.now) spec.now spec.now.base layout.now)) }
+    ensures { IfOk result (λ fault. fault
+        ≡ told_of (layout_refusals (size_in ends.now) spec.now spec.now.base layout.now)) }
 {
     let fault = place_fault(alloc, &spec.base, ends, layout)?;
     if fault.is_some() {
@@ -136,7 +137,9 @@ fn made(
     requires placeable { ArePlaceable base.now }
     requires ends { HoldsEnds (known fixed.now) base.now.structures ends.now }
     ensures made { IfOk result (IsMade base.now length fixed.now ends.now) }
-    ensures refused { IfErr result (Tells (size_refusals (size_in ends.now) base.now.structures ++ value_refusals (known fixed.now) (size_in ends.now) base.now.pools)) }
+    ensures refused { IfErr result
+        (Tells (size_refusals (size_in ends.now) base.now.structures
+        ++ value_refusals (known fixed.now) (size_in ends.now) base.now.pools)) }
 {
     let fields = places(alloc, fixed, ends, base.structures.items())?;
     let pools = pools_of(alloc, fixed, ends, base.pools.items())?;

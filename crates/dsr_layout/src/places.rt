@@ -120,8 +120,12 @@ fn placed(
     start: u64,
     fields: &[Field],
 ) -> Result<Vec<FieldPlace>, LayoutFault>
-    ensures placed { IfOk result (λ places. option_map (map clip_place) (meaning.placed (known fixed.now) start fields.now) ≡ Some places.items) }
-    ensures refused { IfErr result (λ e. (e ≡ LayoutFault.NoMemory) ⊎ ((e ≡ LayoutFault.Arith) × (meaning.placed (known fixed.now) start fields.now ≡ None))) }
+    ensures placed { IfOk result
+        (λ places. option_map (map clip_place) (meaning.placed (known fixed.now) start fields.now)
+        ≡ Some places.items) }
+    ensures refused { IfErr result
+        (λ e. (e ≡ LayoutFault.NoMemory)
+        ⊎ ((e ≡ LayoutFault.Arith) × (meaning.placed (known fixed.now) start fields.now ≡ None))) }
 {
     let mut places = Vec::new(alloc);
     let mut bit = start;
@@ -143,8 +147,12 @@ fn own_places(
     structure: &Structure,
 ) -> Result<Vec<FieldPlace>, LayoutFault>
     ensures sized { IfOk result (λ _. IsSome (size_in ends.now number)) }
-    ensures placed { IfOk result (λ places. own_places_in (known fixed.now) ends.now number structure.now ≡ Some places.items) }
-    ensures refused { IfErr result (λ e. (e ≡ LayoutFault.NoMemory) ⊎ ((e ≡ LayoutFault.Arith) × LacksPlaces (known fixed.now) ends.now number structure.now)) }
+    ensures placed { IfOk result
+        (λ places. own_places_in (known fixed.now) ends.now number structure.now
+        ≡ Some places.items) }
+    ensures refused { IfErr result
+        (λ e. (e ≡ LayoutFault.NoMemory)
+        ⊎ ((e ≡ LayoutFault.Arith) × LacksPlaces (known fixed.now) ends.now number structure.now)) }
 {
     if size_in(ends, number).is_none() {
         return Err(LayoutFault::Arith);

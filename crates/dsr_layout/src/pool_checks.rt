@@ -50,7 +50,8 @@ fn pool_range(pool: &PoolNumbers) -> ByteRange
 // The bytes of the head and of all pools.
 fn ranges(alloc: Global, head: u64, pools: &[PoolNumbers]) -> Result<Vec<ByteRange>, NoMemory>
     requires computable { All IsComputable pools.now }
-    ensures { IfOk result (λ ranges. map range_of ranges.items ≡ record { first = 0; behind = head } ∷ map meaning.pool_range pools.now) }
+    ensures { IfOk result (λ ranges. map range_of ranges.items ≡ record { first = 0; behind = head }
+        ∷ map meaning.pool_range pools.now) }
 {
     let mut ranges = Vec::new(alloc);
     ranges.push(ByteRange {
@@ -73,7 +74,9 @@ fn share_byte(a: &ByteRange, b: &ByteRange) -> bool
 // The first of the later ranges that shares a byte with this one.
 fn overlap_with(range: &ByteRange, number: u32, later: &[ByteRange]) -> Option<LayoutFault>
     requires few { number + length later.now ≤ 32 }
-    ensures { result ≡ told_of (each_at (λ q r. refused_when (meaning.share_byte (range_of range.now) r) (meaning.Overlap number q)) (suc number) (map range_of later.now)) }
+    ensures { result ≡ told_of
+        (each_at (λ q r. refused_when (meaning.share_byte (range_of range.now) r)
+        (meaning.Overlap number q)) (suc number) (map range_of later.now)) }
 {
     for (i, other) in later.iter().enumerate() {
         if share_byte(range, other) {

@@ -99,7 +99,9 @@ pub fn pools_of(
     ends: &[Option<u64>],
     pools: &[Pool],
 ) -> Result<Vec<PoolNumbers>, LayoutFault>
-    ensures numbers { IfOk result (λ numbers. meaning.pools_of (known fixed.now) (size_in ends.now) pools.now ≡ Some numbers.items) }
+    ensures numbers { IfOk result
+        (λ numbers. meaning.pools_of (known fixed.now) (size_in ends.now) pools.now
+        ≡ Some numbers.items) }
     ensures computable { IfOk result (λ numbers. All IsComputable numbers.items) }
     ensures valued { IfOk result (λ _. value_refusals (known fixed.now) (size_in ends.now) pools.now ≡ []) }
     ensures refused { IfErr result (Tells (value_refusals (known fixed.now) (size_in ends.now) pools.now)) }

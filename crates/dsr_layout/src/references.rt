@@ -24,7 +24,8 @@ pub enum Ref {
 /// The slot of a pool that has a code.
 pub fn slot_with(pool: &PoolNumbers, value: u64) -> Option<u64>
     requires step { 0 < pool.now.step }
-    ensures found { IfSome result (λ slot. (slot < pool.now.count) × (value ≡ pool.now.code + slot * pool.now.step)) }
+    ensures found { IfSome result
+        (λ slot. (slot < pool.now.count) × (value ≡ pool.now.code + slot * pool.now.step)) }
     ensures code { is_some result ≡ is_code_below pool.now value pool.now.count }
 {
     let distance = value.checked_sub(pool.code)?;

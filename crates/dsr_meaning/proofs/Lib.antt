@@ -3,6 +3,7 @@ pub mod Counts
 pub mod Derived
 pub mod Empty
 pub mod Firing
+pub mod Lists
 pub mod Ordered
 pub mod Placing
 pub mod Powers

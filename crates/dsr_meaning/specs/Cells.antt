@@ -33,7 +33,8 @@ bytes_value Big bytes at (suc count) =
 -- the value of a cell
 abbrev pub cell_value : List ℕ → Cell → ℕ
 cell_value bytes cell =
-    if cell.bytewise then bytes_value cell.order bytes (cell.bit / 8) (cell.width / 8) else bits_value bytes cell.bit cell.width
+    if cell.bytewise then bytes_value cell.order bytes (cell.bit / 8) (cell.width / 8)
+    else bits_value bytes cell.bit cell.width
 
 -- 8, 16, 32 or 64 bits
 abbrev pub IsByteWidth : ℕ → Type 0

@@ -32,6 +32,9 @@ pub record BoundConstraint : Type 0 where
   pub constraint : ℕ
   pub binding : Binding
 
+abbrev pub bound_constraint : ℕ × Binding → BoundConstraint
+bound_constraint v = record { constraint = v.0; binding = v.1 }
+
 -- the binding is one of the constraint's quantifier, and no conjunction has all its literals true
 pub record IsViolated (is_fact : Fact → Type 0) (spec : Spec) (v : BoundConstraint) : Type 0 where
   pub constraint : Constraint
@@ -64,9 +67,11 @@ pub record AreViolations (is_fact : Fact → Type 0) (spec : Spec) (vs : List Bo
   pub all : (v : BoundConstraint) → IsViolated is_fact spec v → IsIn v vs
   pub only : (v : BoundConstraint) → IsIn v vs → IsViolated is_fact spec v
 
--- the violated binding that comes first where constraints stand in an order of their own, given by their numbers: that
+-- the violated binding that comes first where constraints stand
+-- in an order of their own, given by their numbers: that
 -- of the first constraint which has any, and of its violated bindings the least
-pub record IsFirstViolated (is_fact : Fact → Type 0) (spec : Spec) (order : List ℕ) (v : BoundConstraint) : Type 0 where
+pub record IsFirstViolated (is_fact : Fact → Type 0) (spec : Spec) (order : List ℕ)
+    (v : BoundConstraint) : Type 0 where
   pub violated : IsViolated is_fact spec v
   pub at : ℕ
   pub placed : slice_get order at ≡ Some v.constraint
@@ -83,7 +88,8 @@ NoneIsViolated is_fact spec order =
     (k : ℕ) (w : BoundConstraint) → slice_get order k ≡ Some w.constraint
     → IsViolated is_fact spec w → ⊥
 
--- no binding of a constraint that stands earlier in the order is violated, and none of the one at the place that comes
+-- no binding of a constraint that stands earlier in the order
+-- is violated, and none of the one at the place that comes
 -- before the binding
 abbrev pub NoneIsViolatedBefore : (Fact → Type 0) → Spec → List ℕ → ℕ → Binding → Type 0
 NoneIsViolatedBefore is_fact spec order at binding =

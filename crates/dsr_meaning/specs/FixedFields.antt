@@ -36,7 +36,11 @@ cell_at order f bit =
 -- the cell of a fixed field, by its number among the fields that `Head` itself declares
 abbrev pub fixed_cell : Structures → ℕ → Option Cell
 fixed_cell base k =
-    option_and_then (λ f. if is_fixed f then option_map (cell_at base.order f) (own_bit (lineage base.structures base.head) k) else None) (slice_get (head_fields base) k)
+    option_and_then
+    (λ f. if is_fixed f
+    then option_map (cell_at base.order f) (own_bit (lineage base.structures base.head) k)
+    else None)
+    (slice_get (head_fields base) k)
 
 -- the value of a fixed field
 abbrev pub fixed_value : Structures → List ℕ → ℕ → Option ℕ

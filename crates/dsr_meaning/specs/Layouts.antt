@@ -29,9 +29,11 @@ slot_bytes fixed size structure (Some e) = value_of fixed e
 -- the numbers of a pool, by the values of the fixed fields and the sizes of structures
 abbrev pub pool_of : (ℕ → Option ℕ) → (ℕ → Option ℕ) → Pool → Option PoolNumbers
 pool_of fixed size p =
-    option_and_then (λ count. option_and_then (λ slot. option_and_then (λ start. option_and_then (λ code. option_and_then (λ step. option_map (λ none.
+    option_and_then (λ count. option_and_then (λ slot. option_and_then (λ start.
+    option_and_then (λ code. option_and_then (λ step. option_map (λ none.
     record { start = start; slot = slot; count = count; code = code; step = step; none = none })
-    (value_of fixed p.none)) (value_of fixed p.step)) (value_of fixed p.code)) (value_of fixed p.start)) (slot_bytes fixed size p.structure p.slot)) (value_of fixed p.count)
+    (value_of fixed p.none)) (value_of fixed p.step)) (value_of fixed p.code))
+    (value_of fixed p.start)) (slot_bytes fixed size p.structure p.slot)) (value_of fixed p.count)
 
 -- the byte behind a pool
 abbrev pub pool_end : PoolNumbers → ℕ

@@ -10,7 +10,8 @@ use Rattle.dsr_meaning.specs.Cells.{is_bytewise, width_bits}
 use Rattle.dsr_meaning.specs.Layouts.{pool_end}
 use Rattle.dsr_meaning.specs.Placeable.{IsLegalWidth}
 
--- a pool in an image of so many bytes: its slots lie there, each has a code of its own, and none has the one of no slot
+-- a pool in an image of so many bytes: its slots lie there, each
+-- has a code of its own, and none has the one of no slot
 pub record IsLegalPool (bytes : ℕ) (n : PoolNumbers) : Type 0 where
   pub slot_some : 0 < n.slot
   pub step_some : 0 < n.step
@@ -47,7 +48,8 @@ entry_count place = unwrap_or place.length 1
 -- so many bits from the start of a record on are its own: those of a slot, or the image's where it is the head
 abbrev pub HasBits : Layout → Element → ℕ → Type 0
 HasBits layout e bits =
-    MatchBool (nat_eq e.pool 0) (bits ≤ 8 * layout.length) (IsSomeAnd (pool_numbers layout e.pool) (λ n. (e.slot < n.count) × (bits ≤ 8 * n.slot)))
+    MatchBool (nat_eq e.pool 0) (bits ≤ 8 * layout.length)
+    (IsSomeAnd (pool_numbers layout e.pool) (λ n. (e.slot < n.count) × (bits ≤ 8 * n.slot)))
 
 -- the record has an entry of the field
 pub record HasEntry (layout : Layout) (e : Element) (field : FieldRef) (index : ℕ) : Type 0 where

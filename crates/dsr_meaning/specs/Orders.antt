@@ -36,7 +36,8 @@ InstancePrecedes i j =
     (i.rule < j.rule)
     ⊎ ((i.rule ≡ j.rule) × (Precedes i.elem j.elem ⊎ ((i.elem ≡ j.elem) × (i.index < j.index))))
 
--- bindings of fewer variables come first, and those of as many are ordered by their elements, the first before the second
+-- bindings of fewer variables come first, and those of as many
+-- are ordered by their elements, the first before the second
 abbrev pub BindingPrecedes : Binding → Binding → Type 0
 BindingPrecedes bindings.Once bindings.Once = ⊥
 BindingPrecedes bindings.Once _ = Unit {0}
@@ -46,7 +47,8 @@ BindingPrecedes (bindings.Each a) (bindings.Pair b c) = Unit {0}
 BindingPrecedes (bindings.Pair a c) (bindings.Pair b d) = Precedes a b ⊎ ((a ≡ b) × Precedes c d)
 BindingPrecedes (bindings.Pair a c) _ = ⊥
 
--- a comparison tells an order: it is less exactly where the one comes before the other, and equal exactly where they are the same
+-- a comparison tells an order: it is less exactly where the one comes
+-- before the other, and equal exactly where they are the same
 pub record TellsOrder {A : Type 0} (compare : A → A → Ordering) (Before : A → A → Type 0) : Type 0 where
   pub less : (a b : A) → (compare a b ≡ Less) ↔ Before a b
   pub equal : (a b : A) → (compare a b ≡ Equal) ↔ (a ≡ b)

@@ -9,7 +9,8 @@ use Rattle.dsr_meaning.specs.Cells.{width_bits}
 use Rattle.dsr_meaning.specs.Expressions.{in_range, value_of}
 use Rattle.dsr_meaning.specs.Extents.{Extent, up_to_byte, bit_behind}
 
--- a structure by its number and its ancestors, the nearest first, among structures of which the last declared comes first
+-- a structure by its number and its ancestors, the nearest first,
+-- among structures of which the last declared comes first
 abbrev pub lineage_in : List Structure → ℕ → List Structure
 lineage_in [] i = []
 lineage_in (s ∷ earlier) i =

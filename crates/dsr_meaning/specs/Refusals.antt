@@ -117,7 +117,8 @@ overlap_refusals size head layout = overlaps 0 (head_range size head ∷ map poo
 
 abbrev pub is_larger : (ℕ → Option ℕ) → Layout → ℕ → ℕ → Bool
 is_larger size layout pool structure =
-    option_map_or (λ n. option_map_or (nat_lt n.slot) (bytes_of size structure) false) (pool_numbers layout pool) false
+    option_map_or (λ n. option_map_or (nat_lt n.slot) (bytes_of size structure) false)
+    (pool_numbers layout pool) false
 
 -- a structure by which a pool is read
 abbrev pub view_refusals : (ℕ → Option ℕ) → Layout → ℕ → ℕ → List Refusal
@@ -161,7 +162,11 @@ codes_fit bits n = fits bits n.none && (nat_eq n.count 0 || fits bits (last_code
 
 abbrev pub reference_refusals : Layout → ℕ → ℕ → Field → List Refusal
 reference_refusals layout i k f =
-    option_map_or (λ p. option_map_or (λ n. refused_when (not (codes_fit (width_bits f.width) n)) (CodeTooWide p i k)) (pool_numbers layout p) []) (kind_pool f.kind) []
+    option_map_or
+    (λ p. option_map_or
+    (λ n. refused_when (not (codes_fit (width_bits f.width) n)) (CodeTooWide p i k))
+    (pool_numbers layout p) [])
+    (kind_pool f.kind) []
 
 abbrev pub code_refusals : List Structure → Layout → List Refusal
 code_refusals structures layout =
@@ -184,7 +189,10 @@ given_path rel inc = if gives (Rel rel) inc then target_of inc else None
 -- whether a rule gives values to a relation from a field that a number doesn't fit
 abbrev pub gives_narrower : Layout → ℕ → ℕ → Rule → Bool
 gives_narrower layout rel value rule =
-    option_map_or (λ path. option_map_or (λ place. not (fits (width_bits place.width) value)) (field_place layout path.field) false) (given_path rel rule.inc) false
+    option_map_or
+    (λ path. option_map_or (λ place. not (fits (width_bits place.width) value))
+    (field_place layout path.field) false)
+    (given_path rel rule.inc) false
 
 -- whether a value that a comparison asks for may be as large as what it is compared with
 abbrev pub reaches_bound : Op → Bool
@@ -232,7 +240,8 @@ quantifier_instances spec layout (Pairs rel) =
 -- those of all rules, and once more for each constraint those of its quantifier's symbol
 abbrev pub instances : Spec → Layout → ℕ
 instances spec layout =
-    instances_where spec layout (λ _. true) spec.rules + sum (map (λ c. quantifier_instances spec layout c.quant) spec.constraints)
+    instances_where spec layout (λ _. true) spec.rules
+    + sum (map (λ c. quantifier_instances spec layout c.quant) spec.constraints)
 
 -- how many there may be
 abbrev pub instance_limit : ℕ → ℕ

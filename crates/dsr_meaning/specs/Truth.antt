@@ -41,7 +41,8 @@ HasVariable b (Into rel v) = IsSome (element_of b v)
 -- In what follows, `is_fact` says what a fact is: in the model of an image, or in any other set of facts. Nothing
 -- holds of a variable that names no element.
 
--- the size of a set is the number of its members, and that of a variable under a relation the number of its different targets or sources
+-- the size of a set is the number of its members, and that of a variable
+-- under a relation the number of its different targets or sources
 abbrev pub HasSize : (Fact → Type 0) → Binding → Measure → ℕ → Type 0
 HasSize is_fact b (Whole set) n = AreMany (λ e. is_fact (facts.Member set e)) n
 HasSize is_fact b (Out v rel) n =
@@ -63,7 +64,9 @@ AtomHolds is_fact b (atoms.Pair v w rel) =
 AtomHolds is_fact b (atoms.Count measure op k) =
     (n : ℕ) × HasSize is_fact b measure n × Compares op n k
 AtomHolds is_fact b (atoms.Value v rel op bound) =
-    IsSomeAnd (element_of b v) (λ x. (n : ℕ) × HasBound is_fact b bound n × ((value : ℕ) → is_fact (facts.Pair rel x (Num value)) → Compares op value n))
+    IsSomeAnd (element_of b v)
+    (λ x. (n : ℕ) × HasBound is_fact b bound n
+    × ((value : ℕ) → is_fact (facts.Pair rel x (Num value)) → Compares op value n))
 
 -- the literal is true; that it is only tested has no influence
 abbrev pub LiteralHolds : (Fact → Type 0) → Binding → Literal → Type 0

@@ -70,7 +70,8 @@ AreDifferent names =
 abbrev pub ancestors_among : List Structure → ℕ → List ℕ
 ancestors_among [] i = []
 ancestors_among (s ∷ earlier) i =
-    if nat_eq i (length earlier) then option_map_or (λ p. p ∷ ancestors_among earlier p) s.parent [] else ancestors_among earlier i
+    if nat_eq i (length earlier) then option_map_or (λ p. p ∷ ancestors_among earlier p) s.parent []
+    else ancestors_among earlier i
 
 -- the numbers of a structure's ancestors, the nearest first
 abbrev pub ancestors : List Structure → ℕ → List ℕ
@@ -332,16 +333,20 @@ ComparesSizes Le = Unit {0}
 ComparesSizes Ge = Unit {0}
 ComparesSizes _ = ⊥
 
--- variables have the pools of the set or relation; complements stand in no membership, where their bases stand for them
+-- variables have the pools of the set or relation; complements
+-- stand in no membership, where their bases stand for them
 abbrev pub IsTypedAtom : Spec → Quant → Atom → Type 0
 IsTypedAtom spec quant (atoms.Member v set) =
     (pool : ℕ) × (pool_of_var spec.base quant v ≡ Some pool) × IsPlainSetOf spec.base pool set
 IsTypedAtom spec quant (atoms.Pair v w rel) =
-    IsSomeAnd (slice_get spec.base.rels rel) (λ r. IsSome r.target × (pool_of_var spec.base quant v ≡ Some r.source) × (pool_of_var spec.base quant w ≡ r.target))
+    IsSomeAnd (slice_get spec.base.rels rel)
+    (λ r. IsSome r.target × (pool_of_var spec.base quant v ≡ Some r.source)
+    × (pool_of_var spec.base quant w ≡ r.target))
 IsTypedAtom spec quant (atoms.Count measure op k) =
     IsTypedMeasure spec.base quant measure × ComparesSizes op
 IsTypedAtom spec quant (atoms.Value v rel op bound) =
-    IsSomeAnd (slice_get spec.base.rels rel) (λ r. (r.target ≡ None) × (pool_of_var spec.base quant v ≡ Some r.source))
+    IsSomeAnd (slice_get spec.base.rels rel)
+    (λ r. (r.target ≡ None) × (pool_of_var spec.base quant v ≡ Some r.source))
     × IsTypedBound spec quant rel bound
 
 -- only memberships are negated

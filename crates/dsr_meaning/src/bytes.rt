@@ -7,7 +7,8 @@ ghost use Rattle.dsr_meaning.specs.Writes.{AreBitsApart, AreBytes, HasSameBits, 
 /// Two lists of bytes with the same bits outside of a range have the same value in every cell
 /// outside of it.
 pub fn others_keep_their_values()
-    ensures { (old new : List ℕ) (cell : Cell) (bit width : ℕ) → AreBytes old → AreBytes new → IsFieldCell cell →
+    ensures { (old new : List ℕ) (cell : Cell) (bit width : ℕ) → AreBytes old → AreBytes new →
+        IsFieldCell cell →
         OthersStay bit width old new → AreBitsApart cell.bit cell.width bit width → cell_value new cell ≡ cell_value old cell }
 {}
 

@@ -20,13 +20,15 @@ pub fn typed_specifications_are_placeable()
 
 /// On a legal layout an active instance gives one fact.
 pub fn instances_give_one_fact()
-    ensures { (spec : Spec) (layout : Layout) (bytes : List ℕ) → IsLegalLayout layout → (i : Instance) (a b : Fact) →
+    ensures { (spec : Spec) (layout : Layout) (bytes : List ℕ) → IsLegalLayout layout →
+        (i : Instance) (a b : Fact) →
         IsDerivedBy spec layout bytes i a → IsDerivedBy spec layout bytes i b → a ≡ b }
 {}
 
 /// What rules give from the facts at the ends of chains are such facts again.
 pub fn models_are_closed()
-    ensures { (spec : Spec) (layout : Layout) (bytes : List ℕ) → IsClosed spec layout bytes (IsDerived spec layout bytes) }
+    ensures { (spec : Spec) (layout : Layout) (bytes : List ℕ) →
+        IsClosed spec layout bytes (IsDerived spec layout bytes) }
 {}
 
 /// The facts at the ends of chains belong to each set of facts that rules don't leave.

@@ -1,5 +1,5 @@
-//! Builds the model of an image so many times, to be timed by hand: the words are the names of a specification and of
-//! an image, and a number.
+//! Builds the model of an image so many times, to be timed by hand: the words are the names of a
+//! specification and of an image, and a number.
 #![tactic(auto)]
 
 mod turns;

@@ -32,7 +32,8 @@ all_ancestors base = each_at (λ i _. ancestors base.structures i ∷ []) 0 base
 -- the field that a structure itself declares under a name
 abbrev pub own_field : NameTables → List ℕ → ℕ → Option FieldRef
 own_field tables q i =
-    option_and_then (λ t. option_map (λ k. record { structure = i; field = k }) (get bytes_eq t q)) (slice_get tables.fields.items i)
+    option_and_then (λ t. option_map (λ k. record { structure = i; field = k }) (get bytes_eq t q))
+    (slice_get tables.fields.items i)
 
 -- the first of several structures to declare a field of this name
 abbrev pub first_field : NameTables → List ℕ → List ℕ → Option FieldRef

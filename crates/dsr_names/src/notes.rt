@@ -10,7 +10,8 @@ use dsr_tree::{Condition, PlacedName};
 
 /// Takes note of a name that stands for nothing, and says whether it stands for something.
 pub fn note_name(told: &mut Told, is_known: bool, name: &PlacedName) -> bool
-    ensures told { Finds (when (not is_known) conditions.UnknownName name.now.place) told.old.fault told.new.fault }
+    ensures told { Finds (when (not is_known) conditions.UnknownName name.now.place) told.old.fault
+        told.new.fault }
     ensures known { result ≡ is_nil (when (not is_known) conditions.UnknownName name.now.place) }
 {
     told.note_if(!is_known, Condition::UnknownName, name.place);

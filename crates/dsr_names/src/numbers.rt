@@ -92,7 +92,8 @@ fn enter(
     name: &Name,
     number: u32,
 ) -> Result<(), NoMemory>
-    ensures { OnOk result ((q : List ℕ) → get bytes_eq table.new q ≡ entered (get bytes_eq table.old) name.now number q) }
+    ensures { OnOk result ((q : List ℕ) → get bytes_eq table.new q
+        ≡ entered (get bytes_eq table.old) name.now number q) }
 {
     if table.contains_key(name) {
         return Ok(());
@@ -109,7 +110,8 @@ pub fn numbers_from<T: Named>(
     items: &[T],
 ) -> Result<IndexMap<Name, u32>, NoMemory>
     requires { first + length items.now < 2 ^ 32 }
-    ensures { IfOk result (λ m. (q : List ℕ) → get bytes_eq m q ≡ position_from (λ x. is_named (T.own_name x) q) first items.now) }
+    ensures { IfOk result (λ m. (q : List ℕ) → get bytes_eq m q
+        ≡ position_from (λ x. is_named (T.own_name x) q) first items.now) }
 {
     let mut table = IndexMap::new(alloc);
     for (number, item) in items.iter().enumerate() {

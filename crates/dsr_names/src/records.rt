@@ -41,7 +41,8 @@ fn is_record(known: &Known<'_>, rule: &Rule, var: &Var) -> bool
 
 /// The field that a path of a rule reads, where that is known.
 pub fn path_field(known: &Known<'_>, rule: &Rule, path: &Path) -> Option<FieldRef>
-    ensures { result ≡ rules.path_field (rules.scope_of (known_of known.now) rule.now) path.now.var path.now.field }
+    ensures { result ≡ rules.path_field
+        (rules.scope_of (known_of known.now) rule.now) path.now.var path.now.field }
 {
     if is_record(known, rule, &path.var) {
         known.array_field(record_structure(known, &rule.premise), &path.field.name)

@@ -30,7 +30,8 @@ pub struct NameTables {
 // For each structure the fields that it declares itself.
 fn own_fields(alloc: Global, structures: &[Structure]) -> Result<Vec<IndexMap<Name, u32>>, NoMemory>
     requires { All (λ s. length s.fields ≤ 64) structures.now }
-    ensures { IfOk result (λ tables. map (get bytes_eq) tables.items ≡ map (λ s q. position_from (has_field_name q) 0 s.fields) structures.now) }
+    ensures { IfOk result (λ tables. map (get bytes_eq) tables.items
+        ≡ map (λ s q. position_from (has_field_name q) 0 s.fields) structures.now) }
 {
     let mut tables = Vec::new(alloc);
     for structure in structures {
@@ -41,7 +42,8 @@ fn own_fields(alloc: Global, structures: &[Structure]) -> Result<Vec<IndexMap<Na
 
 // A structure's parent and the parent's ancestors.
 fn line_of(alloc: Global, earlier: &[Vec<u32>], parent: Option<u32>) -> Result<Vec<u32>, NoMemory>
-    ensures { IfOk result (λ line. line.items ≡ option_map_or (λ p. p ∷ slice_index_or (map (λ v. v.items) earlier.now) p []) parent []) }
+    ensures { IfOk result (λ line. line.items
+        ≡ option_map_or (λ p. p ∷ slice_index_or (map (λ v. v.items) earlier.now) p []) parent []) }
 {
     let Some(parent) = parent else {
         return Ok(Vec::new(alloc));
@@ -56,7 +58,8 @@ fn line_of(alloc: Global, earlier: &[Vec<u32>], parent: Option<u32>) -> Result<V
 
 // The ancestors of each structure.
 fn lines_of(alloc: Global, structures: &[Structure]) -> Result<Vec<Vec<u32>>, NoMemory>
-    ensures { IfOk result (λ lines. map (λ v. v.items) lines.items ≡ each_at (λ i _. ancestors structures.now i ∷ []) 0 structures.now) }
+    ensures { IfOk result (λ lines. map (λ v. v.items) lines.items
+        ≡ each_at (λ i _. ancestors structures.now i ∷ []) 0 structures.now) }
 {
     let mut lines = Vec::new(alloc);
     for structure in structures {
@@ -77,9 +80,15 @@ struct NumberTables {
 // A `?` costs its proof what stays to be dropped there, so these tables are made apart from the others.
 fn number_tables(alloc: Global, base: &Structures) -> Result<NumberTables, NoMemory>
     requires typed { AreTyped base.now }
-    ensures pools { IfOk result (λ t. (q : List ℕ) → get bytes_eq t.pools q ≡ position_from (λ p. bytes_eq p.name q) 1 base.now.pools) }
-    ensures sets { IfOk result (λ t. (q : List ℕ) → get bytes_eq t.sets q ≡ position_from (λ s. bytes_eq s.name q) 0 base.now.sets) }
-    ensures relations { IfOk result (λ t. (q : List ℕ) → get bytes_eq t.relations q ≡ position_from (λ r. bytes_eq r.name q) 0 base.now.rels) }
+    ensures pools { IfOk result
+        (λ t. (q : List ℕ) → get bytes_eq t.pools q
+        ≡ position_from (λ p. bytes_eq p.name q) 1 base.now.pools) }
+    ensures sets { IfOk result
+        (λ t. (q : List ℕ) → get bytes_eq t.sets q
+        ≡ position_from (λ s. bytes_eq s.name q) 0 base.now.sets) }
+    ensures relations { IfOk result
+        (λ t. (q : List ℕ) → get bytes_eq t.relations q
+        ≡ position_from (λ r. bytes_eq r.name q) 0 base.now.rels) }
 {
     let pools = numbers_from(alloc, 1, base.pools.items())?;
     let sets = numbers_from(alloc, 0, base.sets.items())?;

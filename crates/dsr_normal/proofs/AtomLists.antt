@@ -13,6 +13,7 @@ use Rattle.dsr_ir.specs.declared.constraints.Var.{Var}
 use Rattle.dsr_ir.specs.declared.constraints.Var.TheVariants as vars
 use Rattle.dsr_ir.specs.declared.rules.Op.{Op}
 use Rattle.dsr_ir.specs.declared.rules.Op.TheVariants as ops
+use Rattle.dsr_meaning.proofs.Lists.{in_front, in_front_or_last, last_in}
 use Rattle.dsr_meaning.specs.Counting.{IsIn, IsDistinct, Enumerates}
 use Rattle.dsr_typing.specs.NormalForms.{is_same_var, is_same_op, is_same_measure, is_same_bound, is_same_atom, has_atom, different, has_many_atoms}
 
@@ -140,27 +141,12 @@ in_has (x ∷ xs) a (inr h) = first_or (is_same_atom x a) (has_atom xs a) (in_ha
 pub found : (atoms : List Atom) (a : Atom) → IsTrue (has_atom atoms a) ↔ IsIn a atoms
 found atoms a = (has_so atoms a, in_has atoms a)
 
-in_front : (xs : List Atom) (a x : Atom) → IsIn x xs → IsIn x (xs ++ (a ∷ []))
-in_front [] a x h = absurd h
-in_front (y ∷ xs) a x (inl e) = inl e
-in_front (y ∷ xs) a x (inr h) = inr (in_front xs a x h)
-
-in_back : (xs : List Atom) (a x : Atom) → x ≡ a → IsIn x (xs ++ (a ∷ []))
-in_back [] a x e = inl e
-in_back (y ∷ xs) a x e = inr (in_back xs a x e)
-
-in_either : (xs : List Atom) (a x : Atom) → IsIn x (xs ++ (a ∷ [])) → IsIn x xs ⊎ (x ≡ a)
-in_either [] a x (inl e) = inr e
-in_either [] a x (inr h) = absurd h
-in_either (y ∷ xs) a x (inl e) = inl (inl e)
-in_either (y ∷ xs) a x (inr h) = elim (in_either xs a x h) as (λ _. IsIn x (y ∷ xs) ⊎ (x ≡ a)) [ inl i ↦ inl (inr i) | inr e ↦ inr e ]
-
 -- ---- the different atoms of a list
 
 more_distinct : (seen : List Atom) (a : Atom) → IsDistinct seen → (IsIn a seen → ⊥) → IsDistinct (seen ++ (a ∷ []))
 more_distinct [] a d h = (λ i. i, tt)
 more_distinct (x ∷ seen) a d h = (
-  λ i. elim (in_either seen a x i) as (λ _. ⊥) [ inl j ↦ d.0 j | inr e ↦ h (inl (sym e)) ],
+  λ i. elim (in_front_or_last a x seen i) as (λ _. ⊥) [ inl j ↦ d.0 j | inr e ↦ h (inl (sym e)) ],
   more_distinct seen a d.1 (λ i. h (inr i)),
 )
 
@@ -178,14 +164,14 @@ seen_kept : (seen atoms : List Atom) (x : Atom) → IsIn x seen → IsIn x (diff
 seen_kept seen [] x h = h
 seen_kept seen (a ∷ rest) x h = elim (has_atom seen a) as (λ t. IsIn x (different (if t then seen else seen ++ (a ∷ [])) rest)) [
   | true ↦ seen_kept seen rest x h
-  | false ↦ seen_kept (seen ++ (a ∷ [])) rest x (in_front seen a x h)
+  | false ↦ seen_kept (seen ++ (a ∷ [])) rest x (in_front x seen (a ∷ []) h)
 ]
 
 all_kept : (seen atoms : List Atom) (x : Atom) → IsIn x atoms → IsIn x (different seen atoms)
 all_kept seen [] x h = absurd h
 all_kept seen (a ∷ rest) x (inl e) = elim (has_atom seen a) as (λ t. has_atom seen a ≡ t → IsIn x (different (if t then seen else seen ++ (a ∷ [])) rest)) [
   | true ↦ λ p. seen_kept seen rest x (subst (λ (y : Atom). IsIn y seen) (sym e) (has_so seen a p))
-  | false ↦ λ p. seen_kept (seen ++ (a ∷ [])) rest x (in_back seen a x e)
+  | false ↦ λ p. seen_kept (seen ++ (a ∷ [])) rest x (subst (λ y. IsIn y (seen ++ (a ∷ []))) (sym e) (last_in a seen))
 ] refl
 all_kept seen (a ∷ rest) x (inr h) = elim (has_atom seen a) as (λ t. IsIn x (different (if t then seen else seen ++ (a ∷ [])) rest)) [
   | true ↦ all_kept seen rest x h
@@ -197,7 +183,7 @@ only_those seen [] x h = inl h
 only_those seen (a ∷ rest) x h = elim (has_atom seen a) as (λ t. IsIn x (different (if t then seen else seen ++ (a ∷ [])) rest) → IsIn x seen ⊎ IsIn x (a ∷ rest)) [
   | true ↦ λ k. elim (only_those seen rest x k) as (λ _. IsIn x seen ⊎ IsIn x (a ∷ rest)) [ inl i ↦ inl i | inr j ↦ inr (inr j) ]
   | false ↦ λ k. elim (only_those (seen ++ (a ∷ [])) rest x k) as (λ _. IsIn x seen ⊎ IsIn x (a ∷ rest)) [
-    | inl i ↦ elim (in_either seen a x i) as (λ _. IsIn x seen ⊎ IsIn x (a ∷ rest)) [ inl j ↦ inl j | inr e ↦ inr (inl e) ]
+    | inl i ↦ elim (in_front_or_last a x seen i) as (λ _. IsIn x seen ⊎ IsIn x (a ∷ rest)) [ inl j ↦ inl j | inr e ↦ inr (inl e) ]
     | inr j ↦ inr (inr j)
   ]
 ] h

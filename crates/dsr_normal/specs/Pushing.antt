@@ -18,15 +18,18 @@ mutual
 -- under `not`, `Any` and `Every` change places, and `not` of `not` is nothing; `given` goes on through `not`
 abbrev mutual
   pub pushed : (negated given : Bool) → FormulaShape → Plain
-  pushed negated given (AnyOf parts) = if negated then EveryPlain (pushed_row negated given parts) else AnyPlain (pushed_row negated given parts)
-  pushed negated given (EveryOf parts) = if negated then AnyPlain (pushed_row negated given parts) else EveryPlain (pushed_row negated given parts)
+  pushed negated given (AnyOf parts) = if negated then EveryPlain (pushed_row negated given parts)
+      else AnyPlain (pushed_row negated given parts)
+  pushed negated given (EveryOf parts) = if negated then AnyPlain (pushed_row negated given parts)
+      else EveryPlain (pushed_row negated given parts)
   pushed negated given (NotOf part) = pushed (not negated) given part
   pushed negated given (GivenOf part) = pushed negated true part
   pushed negated given (LeafOf atom) = LiteralPlain (record { atom = atom; negated = negated; given = given })
 
   pub pushed_row : (negated given : Bool) → FormulaShapes → Plains
   pushed_row negated given NoneOf = NonePlain
-  pushed_row negated given (MoreOf first rest) = MorePlain (pushed negated given first) (pushed_row negated given rest)
+  pushed_row negated given (MoreOf first rest) =
+      MorePlain (pushed negated given first) (pushed_row negated given rest)
 
 -- plain distribution: `Any` lists what its parts give, `Every` joins them
 abbrev mutual

@@ -16,7 +16,8 @@ pub(crate) fn formula_conjs(
     given: bool,
     node: &FormulaNode,
 ) -> Result<Vec<Conj>, NoMemory>
-    ensures { IfOk result (λ conjs. literals_of conjs.items ≡ distributed negated given (formula_shape node.now)) }
+    ensures { IfOk result (λ conjs. literals_of conjs.items
+        ≡ distributed negated given (formula_shape node.now)) }
 {
     match node {
         FormulaNode::Any(parts) => {
@@ -54,7 +55,8 @@ fn any_conjs(
     given: bool,
     parts: &[FormulaNode],
 ) -> Result<Vec<Conj>, NoMemory>
-    ensures { IfOk result (λ conjs. literals_of conjs.items ≡ any_row negated given (in_row (map formula_shape parts.now))) }
+    ensures { IfOk result (λ conjs. literals_of conjs.items
+        ≡ any_row negated given (in_row (map formula_shape parts.now))) }
 {
     let mut conjs = Vec::new(alloc);
     for part in parts {
@@ -72,7 +74,8 @@ fn every_conjs(
     given: bool,
     parts: &[FormulaNode],
 ) -> Result<Vec<Conj>, NoMemory>
-    ensures { IfOk result (λ conjs. literals_of conjs.items ≡ every_row negated given (in_row (map formula_shape parts.now))) }
+    ensures { IfOk result (λ conjs. literals_of conjs.items
+        ≡ every_row negated given (in_row (map formula_shape parts.now))) }
 {
     let size = every_size(negated, given, parts);
     if size.conjunctions == 0 {
@@ -125,7 +128,8 @@ fn joined_conj(alloc: Global, left: &Conj, right: &Conj) -> Result<Conj, NoMemor
 
 // This conjunction with each of those on the right.
 fn prefixed(alloc: Global, left: &Conj, right: &[Conj]) -> Result<Vec<Conj>, NoMemory>
-    ensures { IfOk result (λ conjs. literals_of conjs.items ≡ map (λ d. left.now.literals ++ d) (literals_of right.now)) }
+    ensures { IfOk result (λ conjs. literals_of conjs.items
+        ≡ map (λ d. left.now.literals ++ d) (literals_of right.now)) }
 {
     let mut conjs = Vec::new(alloc);
     for other in right {
@@ -137,7 +141,8 @@ fn prefixed(alloc: Global, left: &Conj, right: &[Conj]) -> Result<Vec<Conj>, NoM
 
 // Each conjunction on the left with each on the right.
 fn joined_conjs(alloc: Global, left: &[Conj], right: &[Conj]) -> Result<Vec<Conj>, NoMemory>
-    ensures { IfOk result (λ conjs. literals_of conjs.items ≡ joined (literals_of left.now) (literals_of right.now)) }
+    ensures { IfOk result (λ conjs. literals_of conjs.items
+        ≡ joined (literals_of left.now) (literals_of right.now)) }
 {
     let mut conjs = Vec::new(alloc);
     for first in left {

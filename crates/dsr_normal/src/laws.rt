@@ -19,5 +19,6 @@ pub fn different_atoms_are_all()
 
 /// The normal form is what is distributed once `not` and `given` are pushed down to the atoms.
 pub fn pushed_formulas_are_distributed()
-    ensures { (negated given : Bool) (formula : FormulaShape) → distributed negated given formula ≡ spread (pushed negated given formula) }
+    ensures { (negated given : Bool) (formula : FormulaShape) → distributed negated given formula
+        ≡ spread (pushed negated given formula) }
 {}

@@ -22,8 +22,10 @@ pub fn normal(alloc: Global, formula: &Formula) -> Result<Vec<Conj>, NormalFault
     ensures accepted { OnOk result (refusal_of formula.now ≡ None) }
     ensures refused { IfErr result (IsTold formula.now) }
     ensures negated_value { IsErrOf result faults.NegatedValue ↔ (refusal_of formula.now ≡ Some negated_value) }
-    ensures too_many_conjunctions { IsErrOf result faults.TooManyConjunctions ↔ (refusal_of formula.now ≡ Some too_many_conjunctions) }
-    ensures same_truth { IfOk result (λ conjs. (truth : Atom → Bool) → one_holds truth conjs.items ≡ holds truth formula.now) }
+    ensures too_many_conjunctions { IsErrOf result faults.TooManyConjunctions
+        ↔ (refusal_of formula.now ≡ Some too_many_conjunctions) }
+    ensures same_truth { IfOk result
+        (λ conjs. (truth : Atom → Bool) → one_holds truth conjs.items ≡ holds truth formula.now) }
 {
     let node = formula.node();
     if negates_value(false, node) {

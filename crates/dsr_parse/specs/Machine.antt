@@ -37,7 +37,8 @@ nullable (The p) = false
 abbrev pub first_of : Part → List Class
 first_of (an_expression depth) = a_number ∷ a_name ∷ a_mark sign.OpenParenthesis ∷ []
 first_of _ =
-    a_word keyword.Not ∷ a_word keyword.Given ∷ a_mark sign.OpenParenthesis ∷ a_word keyword.Size ∷ a_mark sign.Less ∷ a_word keyword.Head ∷ a_name ∷ []
+    a_word keyword.Not ∷ a_word keyword.Given ∷ a_mark sign.OpenParenthesis ∷ a_word keyword.Size
+    ∷ a_mark sign.Less ∷ a_word keyword.Head ∷ a_name ∷ []
 
 -- the kinds with which the texts of a right side begin
 abbrev pub first : Syntax → List Class
@@ -62,7 +63,9 @@ pub record Move : Type 0 where
 abbrev pub enter :
     (Part → Token → ℕ → List Syntax → Option Move) → Syntax → Token → ℕ → List Syntax → Option Move
 enter into (One charge class) t n k =
-    if accepts class t then Some (record { over = is_over charge n; count = count_after charge n; stack = k }) else None
+    if accepts class t
+    then Some (record { over = is_over charge n; count = count_after charge n; stack = k })
+    else None
 enter into Empty t n k = None
 enter into (Then a b) t n k =
     if may_begin a t then enter into a t n (b ∷ k) else (if nullable a then enter into b t n k else None)
@@ -88,7 +91,8 @@ abbrev pub is_done : List Syntax → Bool
 is_done [] = true
 is_done (s ∷ k) = nullable s && is_done k
 
--- how the machine ends: it accepts, or stops with so many tokens left, at one that isn't expected or goes over a limit
+-- how the machine ends: it accepts, or stops with so many
+-- tokens left, at one that isn't expected or goes over a limit
 pub data Outcome : Type 0 where
   Accepts : Outcome
   StopsAt : (left : ℕ) → Outcome

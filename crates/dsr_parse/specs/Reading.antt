@@ -24,7 +24,8 @@ pub record Standing : Type 0 where
   pub rest : List Lexeme
   pub counted : ℕ
 
--- from one place to the other the machine goes from what had to come before to what has to come after, whatever follows
+-- from one place to the other the machine goes from what had to
+-- come before to what has to come after, whatever follows
 pub record Goes (before after : List Syntax) (x y : Standing) : Type 0 where
   pub passes :
       (k : List Syntax) → run x.rest x.counted (before ++ k) ≡ run y.rest y.counted (after ++ k)

@@ -8,7 +8,8 @@ ghost use Rattle.dsr_parse.specs.declared.parser.SyntaxFault.{SyntaxFault};
 /// A text has at most one fault, and a text with a fault has no tree.
 pub fn faults_are_unique()
     ensures once { (text : List ℕ) (f g : SyntaxFault) → HasFault text f → HasFault text g → f ≡ g }
-    ensures no_tree { (text : List ℕ) (f : SyntaxFault) (tree : TreeShape) → HasFault text f → IsTreeOf text tree → ⊥ }
+    ensures no_tree { (text : List ℕ) (f : SyntaxFault) (tree : TreeShape) → HasFault text f →
+        IsTreeOf text tree → ⊥ }
 {}
 
 /// A text has at most one tree, with the places of its tokens.

@@ -79,7 +79,8 @@ pub fn parse(alloc: Global, text: &[u8]) -> Result<Tree, SyntaxFault>
     ensures fault { IfErr result (λ e. (e ≡ faults.NoMemory) ⊎ HasFault text.now e) }
     // Each text of the grammar within its limits is read, and each fault is told, unless memory runs out.
     ensures read { IsSpecText text.now → MatchResult result (λ _. Unit {0}) (λ e. e ≡ faults.NoMemory) }
-    ensures told { (fault : SyntaxFault) → HasFault text.now fault → IsErrAnd result (λ e. (e ≡ fault) ⊎ (e ≡ faults.NoMemory)) }
+    ensures told { (fault : SyntaxFault) → HasFault text.now fault →
+        IsErrAnd result (λ e. (e ≡ fault) ⊎ (e ≡ faults.NoMemory)) }
 {
     let front = front(alloc, text)?;
     let mut reader = Reader::new(alloc, &front.lexemes);

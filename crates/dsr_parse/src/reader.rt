@@ -157,7 +157,9 @@ impl<'a> Reader<'a> {
 
     // Reads a keyword where it is next, and gives its place.
     fn take_word(&mut self, keyword: Keyword) -> Option<u64>
-        ensures some { IfSome result (λ place. Reads (grammar.word keyword) (texts.word_at keyword place) self.old self.new) }
+        ensures some { IfSome result
+            (λ place. Reads (grammar.word keyword)
+            (texts.word_at keyword place) self.old self.new) }
         ensures next { IfSome result (λ place. is_next (grammar.word keyword) self.old.rest ≡ true) }
         ensures none { IfNone result (is_next (grammar.word keyword) self.old.rest ≡ false) }
         ensures same { IfNone result (self.new ≡ self.old) }
@@ -173,7 +175,8 @@ impl<'a> Reader<'a> {
 
     // Reads a sign where it is next, and gives its place.
     fn take_sign(&mut self, sign: Sign) -> Option<u64>
-        ensures some { IfSome result (λ place. Reads (grammar.mark sign) (texts.mark_at sign place) self.old self.new) }
+        ensures some { IfSome result
+            (λ place. Reads (grammar.mark sign) (texts.mark_at sign place) self.old self.new) }
         ensures next { IfSome result (λ place. is_next (grammar.mark sign) self.old.rest ≡ true) }
         ensures none { IfNone result (is_next (grammar.mark sign) self.old.rest ≡ false) }
         ensures same { IfNone result (self.new ≡ self.old) }
@@ -189,7 +192,8 @@ impl<'a> Reader<'a> {
 
     // Reads a keyword, and gives its place.
     fn word(&mut self, keyword: Keyword) -> Result<u64, Stop>
-        ensures ok { IfOk result (λ place. Reads (grammar.word keyword) (texts.word_at keyword place) self.old self.new) }
+        ensures ok { IfOk result (λ place. Reads (grammar.word keyword)
+            (texts.word_at keyword place) self.old self.new) }
         ensures err { IfErr result (λ e. Halts (grammar.word keyword ∷ []) self.old e) }
     {
         match self.take_word(keyword) {
@@ -200,7 +204,8 @@ impl<'a> Reader<'a> {
 
     // Reads a sign, and gives its place.
     fn sign(&mut self, sign: Sign) -> Result<u64, Stop>
-        ensures ok { IfOk result (λ place. Reads (grammar.mark sign) (texts.mark_at sign place) self.old self.new) }
+        ensures ok { IfOk result (λ place. Reads (grammar.mark sign)
+            (texts.mark_at sign place) self.old self.new) }
         ensures err { IfErr result (λ e. Halts (grammar.mark sign ∷ []) self.old e) }
     {
         match self.take_sign(sign) {
@@ -250,7 +255,8 @@ impl<'a> Reader<'a> {
 
     // Reads the number of a version.
     fn version_number(&mut self) -> Result<PlacedNumber, Stop>
-        ensures ok { IfOk result (λ number. Reads (One free a_version) (texts.number_text number) self.old self.new) }
+        ensures ok { IfOk result (λ number. Reads (One free a_version)
+            (texts.number_text number) self.old self.new) }
         ensures err { IfErr result (λ e. Halts (One free a_version ∷ []) self.old e) }
     {
         let Some((lexeme, rest)) = self.rest.split_first() else {
@@ -274,7 +280,8 @@ impl<'a> Reader<'a> {
         ensures below { OnOk result (self.old.counted < limit) }
         ensures rest { OnOk result (self.new.rest ≡ self.old.rest) }
         ensures counted { OnOk result (self.new.counted ≡ self.old.counted + 1) }
-        ensures past { IfErr result (λ e. (limit ≤ self.old.counted) × (e ≡ stop.Limit (length self.old.rest))) }
+        ensures past { IfErr result
+            (λ e. (limit ≤ self.old.counted) × (e ≡ stop.Limit (length self.old.rest))) }
     {
         if self.counted >= limit {
             return Err(Stop::Limit(self.rest.len()));
@@ -298,7 +305,8 @@ impl<'a> Reader<'a> {
 
     // Reads a keyword with which an atom begins.
     fn literal_word(&mut self, keyword: Keyword) -> Result<u64, Stop>
-        ensures ok { IfOk result (λ place. Reads (One grammar.literal (a_word keyword)) (texts.word_at keyword place) self.old self.new) }
+        ensures ok { IfOk result (λ place. Reads (One grammar.literal (a_word keyword))
+            (texts.word_at keyword place) self.old self.new) }
         ensures err { IfErr result (λ e. Halts (One grammar.literal (a_word keyword) ∷ []) self.old e) }
     {
         if !self.is_word(keyword) {
@@ -310,7 +318,8 @@ impl<'a> Reader<'a> {
 
     // Reads a sign with which an atom begins.
     fn literal_sign(&mut self, sign: Sign) -> Result<u64, Stop>
-        ensures ok { IfOk result (λ place. Reads (One grammar.literal (a_mark sign)) (texts.mark_at sign place) self.old self.new) }
+        ensures ok { IfOk result (λ place. Reads (One grammar.literal (a_mark sign))
+            (texts.mark_at sign place) self.old self.new) }
         ensures err { IfErr result (λ e. Halts (One grammar.literal (a_mark sign) ∷ []) self.old e) }
     {
         if !self.is_sign(sign) {
@@ -322,7 +331,8 @@ impl<'a> Reader<'a> {
 
     // Reads a name with which an atom begins.
     fn literal_name(&mut self) -> Result<PlacedName, Stop>
-        ensures ok { IfOk result (λ name. Reads (One grammar.literal a_name) (texts.name_text name) self.old self.new) }
+        ensures ok { IfOk result (λ name. Reads (One grammar.literal a_name)
+            (texts.name_text name) self.old self.new) }
         ensures err { IfErr result (λ e. Halts (One grammar.literal a_name ∷ []) self.old e) }
     {
         if !self.is_name() {
@@ -335,7 +345,8 @@ impl<'a> Reader<'a> {
     // Reads a keyword that opens a construct inside so many others.
     fn opening_word(&mut self, keyword: Keyword, depth: u64) -> Result<u64, Stop>
         ensures below { OnOk result (depth < 32) }
-        ensures ok { IfOk result (λ place. Reads (One (opening depth 32) (a_word keyword)) (texts.word_at keyword place) self.old self.new) }
+        ensures ok { IfOk result (λ place. Reads (One (opening depth 32) (a_word keyword))
+            (texts.word_at keyword place) self.old self.new) }
         ensures err { IfErr result (λ e. Halts (One (opening depth 32) (a_word keyword) ∷ []) self.old e) }
     {
         if !self.is_word(keyword) {
@@ -350,7 +361,8 @@ impl<'a> Reader<'a> {
     // Reads a sign that opens a construct inside so many others.
     fn opening_sign(&mut self, sign: Sign, depth: u64) -> Result<u64, Stop>
         ensures below { OnOk result (depth < 32) }
-        ensures ok { IfOk result (λ place. Reads (One (opening depth 32) (a_mark sign)) (texts.mark_at sign place) self.old self.new) }
+        ensures ok { IfOk result (λ place. Reads (One (opening depth 32) (a_mark sign))
+            (texts.mark_at sign place) self.old self.new) }
         ensures err { IfErr result (λ e. Halts (One (opening depth 32) (a_mark sign) ∷ []) self.old e) }
     {
         if !self.is_sign(sign) {
@@ -364,7 +376,8 @@ impl<'a> Reader<'a> {
 
     // Reads a keyword behind which an expression or a formula stands.
     fn starting_word(&mut self, keyword: Keyword) -> Result<u64, Stop>
-        ensures ok { IfOk result (λ place. Reads (One starts (a_word keyword)) (texts.word_at keyword place) self.old self.new) }
+        ensures ok { IfOk result (λ place. Reads (One starts (a_word keyword))
+            (texts.word_at keyword place) self.old self.new) }
         ensures err { IfErr result (λ e. Halts (One starts (a_word keyword) ∷ []) self.old e) }
     {
         match self.take_word(keyword) {
@@ -378,7 +391,8 @@ impl<'a> Reader<'a> {
 
     // Reads a sign behind which an expression or a formula stands.
     fn starting_sign(&mut self, sign: Sign) -> Result<u64, Stop>
-        ensures ok { IfOk result (λ place. Reads (One starts (a_mark sign)) (texts.mark_at sign place) self.old self.new) }
+        ensures ok { IfOk result (λ place. Reads (One starts (a_mark sign))
+            (texts.mark_at sign place) self.old self.new) }
         ensures err { IfErr result (λ e. Halts (One starts (a_mark sign) ∷ []) self.old e) }
     {
         match self.take_sign(sign) {

@@ -59,4 +59,5 @@ skipped_text length = (word keyword.Skip ▸ expr_text length) ▸ mark sign.Sem
 
 abbrev pub pair_text : Var → Var → PlacedName → Phrase
 pair_text first second relation =
-    mark sign.Less ▸ var_text first ▸ mark sign.Comma ▸ var_text second ▸ mark sign.Greater ▸ word keyword.In ▸ name_text relation
+    mark sign.Less ▸ var_text first ▸ mark sign.Comma ▸ var_text second ▸ mark sign.Greater
+    ▸ word keyword.In ▸ name_text relation

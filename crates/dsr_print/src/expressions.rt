@@ -37,7 +37,8 @@ pub fn add_expr(text: &mut Vec<u8>, expr: &Expr) -> Result<(), NoMemory>
 
 #[cycle(expression)]
 fn add_more_terms(text: &mut Vec<u8>, terms: &[MoreTerm]) -> Result<(), NoMemory>
-    ensures { OnOk result (Adds (in_turn more_term_text (map more_term_shape terms.now)) text.old.items text.new.items) }
+    ensures { OnOk result (Adds
+        (in_turn more_term_text (map more_term_shape terms.now)) text.old.items text.new.items) }
 {
     for more in terms {
         add_sum_sign(text, more.sign)?;
@@ -56,7 +57,9 @@ fn add_term(text: &mut Vec<u8>, term: &Term2) -> Result<(), NoMemory>
 
 #[cycle(expression)]
 fn add_more_factors(text: &mut Vec<u8>, factors: &[MoreFactor]) -> Result<(), NoMemory>
-    ensures { OnOk result (Adds (in_turn more_factor_text (map more_factor_shape factors.now)) text.old.items text.new.items) }
+    ensures { OnOk result (Adds
+        (in_turn more_factor_text (map more_factor_shape factors.now)) text.old.items
+        text.new.items) }
 {
     for more in factors {
         add_product_sign(text, more.sign)?;

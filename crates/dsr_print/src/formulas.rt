@@ -78,7 +78,8 @@ fn add_given(text: &mut Vec<u8>, unit: &Unit) -> Result<(), NoMemory>
 
 #[cycle(formula)]
 fn add_group(text: &mut Vec<u8>, formula: &Formula) -> Result<(), NoMemory>
-    ensures { OnOk result (Adds (parenthesized_text (formula_shape formula.now)) text.old.items text.new.items) }
+    ensures { OnOk result (Adds
+        (parenthesized_text (formula_shape formula.now)) text.old.items text.new.items) }
 {
     add_sign(text, Sign::OpenParenthesis)?;
     add_formula(text, formula)?;

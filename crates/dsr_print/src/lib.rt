@@ -56,7 +56,9 @@ fn add_order(text: &mut Vec<u8>, order: Order) -> Result<(), NoMemory>
 pub fn print(alloc: Global, tree: &Tree) -> Result<Vec<u8>, NoMemory>
     ensures canonical { IfOk result (λ text. text.items ≡ canonical (tree_shape tree.now)) }
     // Where the tree is one that was read, its text is read again as this tree but for places.
-    ensures again { IfOk result (λ text. (source : List ℕ) → IsTreeOf source (tree_shape tree.now) → IsReprinted source text.items (tree_shape tree.now)) }
+    ensures again { IfOk result
+        (λ text. (source : List ℕ) → IsTreeOf source (tree_shape tree.now) →
+        IsReprinted source text.items (tree_shape tree.now)) }
 {
     let mut text = Vec::new(alloc);
     add_version(&mut text, tree)?;

@@ -23,7 +23,9 @@ fn add_behind(text: &mut Vec<u8>, keyword: Keyword, expr: &Expr) -> Result<(), N
 }
 
 fn add_slot(text: &mut Vec<u8>, slot: &Option<Expr>) -> Result<(), NoMemory>
-    ensures { OnOk result (Adds (maybe_text (behind_text keyword.Slot) (option_map expr_shape slot.now)) text.old.items text.new.items) }
+    ensures { OnOk result (Adds
+        (maybe_text (behind_text keyword.Slot) (option_map expr_shape slot.now)) text.old.items
+        text.new.items) }
 {
     match slot {
         None => Ok(()),

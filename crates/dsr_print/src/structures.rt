@@ -35,7 +35,9 @@ pub fn add_brackets(text: &mut Vec<u8>, length: &Expr) -> Result<(), NoMemory>
 }
 
 fn add_length(text: &mut Vec<u8>, length: &Option<Expr>) -> Result<(), NoMemory>
-    ensures { OnOk result (Adds (maybe_text brackets_text (option_map expr_shape length.now)) text.old.items text.new.items) }
+    ensures { OnOk result (Adds
+        (maybe_text brackets_text (option_map expr_shape length.now)) text.old.items
+        text.new.items) }
 {
     match length {
         None => Ok(()),
@@ -97,7 +99,8 @@ fn add_field(text: &mut Vec<u8>, field: &Field) -> Result<(), NoMemory>
 }
 
 fn add_fields(text: &mut Vec<u8>, fields: &[Field]) -> Result<(), NoMemory>
-    ensures { OnOk result (Adds (in_turn field_text (map field_shape fields.now)) text.old.items text.new.items) }
+    ensures { OnOk result (Adds
+        (in_turn field_text (map field_shape fields.now)) text.old.items text.new.items) }
 {
     for field in fields {
         add_field(text, field)?;

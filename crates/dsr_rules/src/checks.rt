@@ -41,7 +41,8 @@ fn check_premise(known: &Known<'_>, told: &mut Told, premise: &Premise)
 impl Scope<'_> {
     // An index over a pool.
     fn check_pool_index(&self, told: &mut Told, place: u64, pool: &PlacedName)
-        ensures { Finds (span_index_faults (scope_told self.now) (indexes.Pool place pool.now)) told.old.fault told.new.fault }
+        ensures { Finds (span_index_faults (scope_told self.now) (indexes.Pool place pool.now))
+            told.old.fault told.new.fault }
     {
         told.note_if(self.name.is_some(), Condition::BadIndex, self.place);
         note_found(told, self.known.pool(&pool.name), pool);
@@ -49,7 +50,8 @@ impl Scope<'_> {
 
     // An index over an array.
     fn check_array_index(&self, told: &mut Told, array: &PlacedName)
-        ensures { Finds (span_index_faults (scope_told self.now) (indexes.Array array.now)) told.old.fault told.new.fault }
+        ensures { Finds (span_index_faults (scope_told self.now) (indexes.Array array.now))
+            told.old.fault told.new.fault }
     {
         let field = self.field_of(&array.name);
         self.check_field(told, array, field);

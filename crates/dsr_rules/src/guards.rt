@@ -26,7 +26,8 @@ impl Scope<'_> {
     }
 
     fn check_tested(&self, told: &mut Told, place: u64, test: RefTest, path: &Path)
-        ensures { Finds (tested_faults (scope_told self.now) place test path.now) told.old.fault told.new.fault }
+        ensures { Finds (tested_faults (scope_told self.now) place test path.now) told.old.fault
+            told.new.fault }
     {
         let field = self.check_path(told, path);
         let is_no_reference = self.is_no_reference(&path.var, field);
@@ -34,7 +35,8 @@ impl Scope<'_> {
     }
 
     fn check_compared(&self, told: &mut Told, path: &Path, compare: Compare, number: PlacedNumber)
-        ensures { Finds (compared_faults (scope_told self.now) path.now compare number) told.old.fault told.new.fault }
+        ensures { Finds (compared_faults (scope_told self.now) path.now compare number)
+            told.old.fault told.new.fault }
     {
         let field = self.check_path(told, path);
         let is_no_number = self.is_no_number(&path.var, field);

@@ -44,8 +44,11 @@ impl Scope<'_> {
         set: &PlacedName,
     ) -> bool
         requires found { found ≡ path_field (scope_told self.now) var.now field.now }
-        ensures told { Finds (target_names (scope_told self.now) var.now field.now index.now set.now) told.old.fault told.new.fault }
-        ensures known { result ≡ is_nil (target_names (scope_told self.now) var.now field.now index.now set.now) }
+        ensures told { Finds (target_names
+            (scope_told self.now) var.now field.now index.now set.now) told.old.fault
+            told.new.fault }
+        ensures known { result ≡ is_nil
+            (target_names (scope_told self.now) var.now field.now index.now set.now) }
     {
         let is_set = self.check_set(told, set);
         let is_path = self.check_path_names(told, var, field, found);
@@ -68,7 +71,8 @@ impl Scope<'_> {
         index: &Option<PlacedName>,
         set: &PlacedName,
     )
-        ensures { Finds (target_faults (scope_told self.now) var.now field.now index.now set.now) told.old.fault told.new.fault }
+        ensures { Finds (target_faults (scope_told self.now) var.now field.now index.now set.now)
+            told.old.fault told.new.fault }
     {
         let found = self.path_field(var, field);
         let leads_elsewhere = self.leads_elsewhere(var, found, self.pool_of_set(set));
@@ -79,7 +83,8 @@ impl Scope<'_> {
 
     // `head` without a field is the member of no set.
     fn check_head(&self, told: &mut Told, place: u64, set: &PlacedName)
-        ensures { Finds (own_faults (scope_told self.now) (vars.Head place) set.now) told.old.fault told.new.fault }
+        ensures { Finds (own_faults (scope_told self.now) (vars.Head place) set.now) told.old.fault
+            told.new.fault }
     {
         let is_known = self.check_set(told, set);
         note_mismatch(told, is_known, true, place);
@@ -94,7 +99,8 @@ impl Scope<'_> {
         set: &PlacedName,
     ) -> bool
         requires number { number ≡ (scope_told self.now).known.pool pool.now.name }
-        ensures told { Finds (slot_names (scope_told self.now) pool.now index.now set.now) told.old.fault told.new.fault }
+        ensures told { Finds (slot_names (scope_told self.now) pool.now index.now set.now)
+            told.old.fault told.new.fault }
         ensures known { result ≡ is_nil (slot_names (scope_told self.now) pool.now index.now set.now) }
     {
         let is_set = self.check_set(told, set);
@@ -110,7 +116,8 @@ impl Scope<'_> {
         index: &PlacedName,
         set: &PlacedName,
     )
-        ensures { Finds (slot_member_faults (scope_told self.now) (vars.Name pool.now) index.now set.now) told.old.fault told.new.fault }
+        ensures { Finds (slot_member_faults (scope_told self.now)
+            (vars.Name pool.now) index.now set.now) told.old.fault told.new.fault }
     {
         let number = self.known.pool(&pool.name);
         let disagree = disagree(number, self.pool_of_set(set));
@@ -120,7 +127,8 @@ impl Scope<'_> {
     }
 
     fn check_slot_member(&self, told: &mut Told, var: &Var, index: &PlacedName, set: &PlacedName)
-        ensures { Finds (slot_member_faults (scope_told self.now) var.now index.now set.now) told.old.fault told.new.fault }
+        ensures { Finds (slot_member_faults (scope_told self.now) var.now index.now set.now)
+            told.old.fault told.new.fault }
     {
         match var {
             Var::Head { place } => self.check_head(told, *place, set),
@@ -129,7 +137,8 @@ impl Scope<'_> {
     }
 
     fn check_record_names(&self, told: &mut Told, name: &PlacedName, set: &PlacedName) -> bool
-        ensures told { Finds (record_names (scope_told self.now) name.now set.now) told.old.fault told.new.fault }
+        ensures told { Finds (record_names (scope_told self.now) name.now set.now) told.old.fault
+            told.new.fault }
         ensures known { result ≡ is_nil (record_names (scope_told self.now) name.now set.now) }
     {
         let is_set = self.check_set(told, set);
@@ -139,7 +148,8 @@ impl Scope<'_> {
 
     // The rule's record by its name.
     fn check_record(&self, told: &mut Told, name: &PlacedName, set: &PlacedName)
-        ensures { Finds (own_faults (scope_told self.now) (vars.Name name.now) set.now) told.old.fault told.new.fault }
+        ensures { Finds (own_faults (scope_told self.now) (vars.Name name.now) set.now)
+            told.old.fault told.new.fault }
     {
         let disagree = disagree(self.pool, self.pool_of_set(set));
         let are_known = self.check_record_names(told, name, set);
@@ -156,7 +166,8 @@ impl Scope<'_> {
     }
 
     fn check_part(&self, told: &mut Told, var: &Var, part: &MemberPart, set: &PlacedName)
-        ensures { Finds (faults_of_member (scope_told self.now) var.now (Some part.now) set.now) told.old.fault told.new.fault }
+        ensures { Finds (faults_of_member (scope_told self.now) var.now (Some part.now) set.now)
+            told.old.fault told.new.fault }
     {
         match part {
             MemberPart::Field { field, index } => self.check_target(told, var, field, index, set),
@@ -165,7 +176,9 @@ impl Scope<'_> {
     }
 
     fn check_member(&self, told: &mut Told, member: &Member, set: &PlacedName)
-        ensures { Finds (faults_of_member (scope_told self.now) member.now.var member.now.part set.now) told.old.fault told.new.fault }
+        ensures { Finds (faults_of_member
+            (scope_told self.now) member.now.var member.now.part set.now) told.old.fault
+            told.new.fault }
     {
         match &member.part {
             Some(part) => self.check_part(told, &member.var, part, set),

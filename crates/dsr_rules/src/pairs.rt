@@ -30,7 +30,8 @@ impl Scope<'_> {
         name: &PlacedName,
         index: &Option<PlacedName>,
     ) -> bool
-        ensures told { Finds (term_names (scope_told self.now) (terms.Named name.now index.now)) told.old.fault told.new.fault }
+        ensures told { Finds (term_names (scope_told self.now) (terms.Named name.now index.now))
+            told.old.fault told.new.fault }
         ensures known { result ≡ is_nil (term_names (scope_told self.now) (terms.Named name.now index.now)) }
     {
         match index {
@@ -51,7 +52,8 @@ impl Scope<'_> {
     }
 
     fn check_source_index(&self, told: &mut Told, name: &PlacedName, index: &Option<PlacedName>)
-        ensures { Finds (term_faults (scope_told self.now) (terms.Named name.now index.now)) told.old.fault told.new.fault }
+        ensures { Finds (term_faults (scope_told self.now) (terms.Named name.now index.now))
+            told.old.fault told.new.fault }
     {
         if let Some(index) = index {
             self.check_slot(told, name, index);
@@ -124,7 +126,8 @@ impl Scope<'_> {
         relation: Option<&Rel>,
     ) -> bool
         requires field { field ≡ path_field (scope_told self.now) path.now.var path.now.field }
-        ensures { result ≡ relates_others (scope_told self.now) term.now path.now (option_map (λ r. r.now) relation.entry) }
+        ensures { result ≡ relates_others (scope_told self.now) term.now path.now
+            (option_map (λ r. r.now) relation.entry) }
     {
         match relation {
             Some(relation) => {
@@ -144,7 +147,8 @@ impl Scope<'_> {
         relation: Option<&Rel>,
     ) -> bool
         requires field { field ≡ path_field (scope_told self.now) path.now.var path.now.field }
-        ensures { result ≡ pair_mismatches (scope_told self.now) term.now path.now (option_map (λ r. r.now) relation.entry) }
+        ensures { result ≡ pair_mismatches (scope_told self.now) term.now path.now
+            (option_map (λ r. r.now) relation.entry) }
     {
         self.is_no_pair(term, path, field)
             || self.is_other_head(&path.var)
@@ -161,7 +165,8 @@ impl Scope<'_> {
         relation: &PlacedName,
     ) -> bool
         requires field { field ≡ path_field (scope_told self.now) path.now.var path.now.field }
-        ensures told { Finds (pair_names (scope_told self.now) term.now path.now relation.now) told.old.fault told.new.fault }
+        ensures told { Finds (pair_names (scope_told self.now) term.now path.now relation.now)
+            told.old.fault told.new.fault }
         ensures known { result ≡ is_nil (pair_names (scope_told self.now) term.now path.now relation.now) }
     {
         let is_relation = note_found(told, self.known.relation(&relation.name), relation);
@@ -179,7 +184,8 @@ impl Scope<'_> {
         path: &Path,
         relation: &PlacedName,
     )
-        ensures { Finds (pair_faults (scope_told self.now) place term.now path.now relation.now) told.old.fault told.new.fault }
+        ensures { Finds (pair_faults (scope_told self.now) place term.now path.now relation.now)
+            told.old.fault told.new.fault }
     {
         let field = self.path_field(&path.var, &path.field);
         let declared = self.known.relation_named(&relation.name);

@@ -31,7 +31,8 @@ impl Scope<'_> {
         note_name(told, is_this(self.name, &name.name), name)
     }
 
-    /// Notes a field that the record hasn't got, and says whether it may have it. What was found under its name is given.
+    /// Notes a field that the record hasn't got, and says whether it may have it. What was found
+    /// under its name is given.
     pub fn check_field(&self, told: &mut Told, name: &PlacedName, found: Option<FieldRef>) -> bool
         requires found { found ≡ field_of (scope_told self.now) name.now.name }
         ensures told { Finds (field_faults (scope_told self.now) name.now) told.old.fault told.new.fault }
@@ -41,7 +42,8 @@ impl Scope<'_> {
         note_name(told, is_known, name)
     }
 
-    /// Notes the names of a path that stand for nothing, and says whether there are none. The field that it reads is given.
+    /// Notes the names of a path that stand for nothing, and says whether there are none. The field
+    /// that it reads is given.
     pub fn check_path_names(
         &self,
         told: &mut Told,
@@ -50,7 +52,8 @@ impl Scope<'_> {
         found: Option<FieldRef>,
     ) -> bool
         requires found { found ≡ path_field (scope_told self.now) var.now field.now }
-        ensures told { Finds (path_names (scope_told self.now) var.now field.now) told.old.fault told.new.fault }
+        ensures told { Finds (path_names (scope_told self.now) var.now field.now) told.old.fault
+            told.new.fault }
         ensures known { result ≡ is_nil (path_names (scope_told self.now) var.now field.now) }
     {
         if self.is_record(var) {
@@ -93,7 +96,8 @@ impl Scope<'_> {
     }
 
     fn is_bad_index(&self, field: Option<FieldRef>, index: &Option<PlacedName>) -> bool
-        ensures { result ≡ (is_foreign (scope_told self.now) index.now || is_misread (scope_told self.now) field index.now) }
+        ensures { result ≡ (is_foreign (scope_told self.now) index.now
+            || is_misread (scope_told self.now) field index.now) }
     {
         self.is_foreign(index) || self.is_misread(field, index)
     }

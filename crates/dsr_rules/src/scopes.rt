@@ -95,7 +95,8 @@ fn array_length<'a>(
     structure: Option<u32>,
     array: &PlacedName,
 ) -> Option<&'a Expr>
-    ensures { option_map (λ e. e.now) result ≡ index_entries (known_of known.now) structure (indexes.Array array.now) }
+    ensures { option_map (λ e. e.now) result
+        ≡ index_entries (known_of known.now) structure (indexes.Array array.now) }
 {
     match known.array_field(structure, &array.name) {
         Some(field) => known.field_length(field),
@@ -105,7 +106,8 @@ fn array_length<'a>(
 
 /// How many slots a pool has, where it is known.
 pub fn slot_count<'a>(known: &Known<'a>, pool: &PlacedName) -> Option<&'a Expr>
-    ensures { option_map (λ e. e.now) result ≡ option_map (λ d. d.count) (pool_named (known_of known.now) pool.now.name) }
+    ensures { option_map (λ e. e.now) result
+        ≡ option_map (λ d. d.count) (pool_named (known_of known.now) pool.now.name) }
 {
     match known.pool_named(&pool.name) {
         Some(pool) => Some(&pool.count),

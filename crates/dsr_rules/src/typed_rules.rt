@@ -97,7 +97,8 @@ impl Scope<'_> {
     }
 
     fn typed_guard_list(&self, alloc: Global, guards: &Guards) -> Result<Seq<Guard>, NoMemory>
-        ensures { IfOk result (λ gs. gs ≡ map (typed_guard (scope_told self.now)) (guards.now.first ∷ guards.now.rest)) }
+        ensures { IfOk result (λ gs. gs
+            ≡ map (typed_guard (scope_told self.now)) (guards.now.first ∷ guards.now.rest)) }
     {
         let mut typed = Vec::new(alloc);
         typed.push(self.typed_guard(&guards.first))?;

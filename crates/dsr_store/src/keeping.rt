@@ -49,7 +49,8 @@ pub(crate) fn put_file(
     name: &str,
     bytes: &[u8],
 ) -> Result<(), AllocError>
-    ensures ok { OnOk result (files_of files.new.items ≡ map.insert (files_of files.old.items) name.now bytes.now) }
+    ensures ok { OnOk result (files_of files.new.items
+        ≡ map.insert (files_of files.old.items) name.now bytes.now) }
     ensures err { OnErr result (files.new.items ≡ files.old.items) }
 {
     let content = Content::new(Vec::from_slice(alloc, bytes)?);

@@ -51,9 +51,11 @@ impl Shelf for MemoryShelf {
 
     fn load(&mut self, alloc: Global, name: &str, cap: u64) -> Result<Vec<u8>, ShelfFault>
         ensures capped { IfOk result (λ bytes. vec_len bytes ≤ cap) }
-        ensures front { IfOk result (λ bytes. IsFrontOf (held_in self.old.files.items) name.now cap bytes.items) }
+        ensures front { IfOk result
+            (λ bytes. IsFrontOf (held_in self.old.files.items) name.now cap bytes.items) }
         ensures held { held_in self.new.files.items ≡ held_in self.old.files.items }
-        ensures later { failures self.old.fail.items self.old.calls ≤ failures self.new.fail.items self.new.calls }
+        ensures later { failures self.old.fail.items self.old.calls
+            ≤ failures self.new.fail.items self.new.calls }
         ensures failed { IsErrOf result ShelfFault.Failed →
             Rose (failures self.old.fail.items self.old.calls) (failures self.new.fail.items self.new.calls)
             ⊎ Lacks (held_in self.old.files.items) name.now }
@@ -83,11 +85,13 @@ impl Shelf for MemoryShelf {
 
     /// A save that is made to fail leaves the file empty.
     fn save(&mut self, alloc: Global, name: &str, bytes: &[u8]) -> Result<(), ShelfFault>
-        ensures ok { OnOk result (held_in self.new.files.items ≡ with_file (held_in self.old.files.items) name.now bytes.now) }
+        ensures ok { OnOk result (held_in self.new.files.items
+            ≡ with_file (held_in self.old.files.items) name.now bytes.now) }
         ensures no_memory { IsErrOf result ShelfFault.NoMemory →
             held_in self.new.files.items ≡ held_in self.old.files.items }
         ensures others { OthersStand (held_in self.old.files.items) (held_in self.new.files.items) name.now }
-        ensures later { failures self.old.fail.items self.old.calls ≤ failures self.new.fail.items self.new.calls }
+        ensures later { failures self.old.fail.items self.old.calls
+            ≤ failures self.new.fail.items self.new.calls }
         ensures failed { IsErrOf result ShelfFault.Failed →
             Rose (failures self.old.fail.items self.old.calls) (failures self.new.fail.items self.new.calls) }
         ensures quiet { IsErrOf result ShelfFault.Failed ⊎
@@ -139,7 +143,8 @@ impl Shelf for SureShelf {
 
     fn load(&mut self, alloc: Global, name: &str, cap: u64) -> Result<Vec<u8>, ShelfFault>
         ensures capped { IfOk result (λ bytes. vec_len bytes ≤ cap) }
-        ensures front { IfOk result (λ bytes. IsFrontOf (held_in self.old.files.items) name.now cap bytes.items) }
+        ensures front { IfOk result
+            (λ bytes. IsFrontOf (held_in self.old.files.items) name.now cap bytes.items) }
         ensures held { held_in self.new.files.items ≡ held_in self.old.files.items }
         ensures last { Marks result (record { saving = false; name = name.now }) self.old.last self.new.last }
 
@@ -186,9 +191,11 @@ impl Sink for MemorySink {
 
     fn put(&mut self, _alloc: Global, piece: &[u8]) -> Result<(), SinkFault>
         ensures ok { OnOk result (Some self.new.bytes.items ≡ appended (Some self.old.bytes.items) piece.now) }
-        ensures no_memory { IsErrOf result SinkFault.NoMemory → Some self.new.bytes.items ≡ Some self.old.bytes.items }
+        ensures no_memory { IsErrOf result SinkFault.NoMemory → Some self.new.bytes.items
+            ≡ Some self.old.bytes.items }
         ensures front { AppendsFront (Some self.old.bytes.items) (Some self.new.bytes.items) piece.now }
-        ensures later { failures self.old.fail.items self.old.calls ≤ failures self.new.fail.items self.new.calls }
+        ensures later { failures self.old.fail.items self.old.calls
+            ≤ failures self.new.fail.items self.new.calls }
         ensures failed { IsErrOf result SinkFault.Failed →
             Rose (failures self.old.fail.items self.old.calls) (failures self.new.fail.items self.new.calls) }
         ensures quiet { IsErrOf result SinkFault.Failed ⊎
@@ -228,7 +235,8 @@ impl Sink for SureSink {
 
     fn put(&mut self, _alloc: Global, piece: &[u8]) -> Result<(), SinkFault>
         ensures ok { OnOk result (Some self.new.bytes.items ≡ appended (Some self.old.bytes.items) piece.now) }
-        ensures no_memory { IsErrOf result SinkFault.NoMemory → Some self.new.bytes.items ≡ Some self.old.bytes.items }
+        ensures no_memory { IsErrOf result SinkFault.NoMemory → Some self.new.bytes.items
+            ≡ Some self.old.bytes.items }
         ensures front { AppendsFront (Some self.old.bytes.items) (Some self.new.bytes.items) piece.now }
 
         ensures sure { IfErr result (λ fault. fault ≡ SinkFault.NoMemory) }

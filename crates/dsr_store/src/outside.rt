@@ -130,7 +130,8 @@ pub trait Shelf {
         ensures failed { IsErrOf result ShelfFault.Failed →
             Rose (faults self.old) (faults self.new) ⊎ Lacks (held self.old) name.now }
         ensures quiet { IsErrOf result ShelfFault.Failed ⊎ (faults self.new ≡ faults self.old) }
-        ensures last { Marks result (record { saving = false; name = name.now }) (last self.old) (last self.new) };
+        ensures last { Marks result (record { saving = false; name = name.now }) (last self.old)
+            (last self.new) };
 
     /// Makes these the bytes of the file of this name, which need not be held yet. After `Failed`
     /// that file may hold anything, or be gone.
@@ -141,7 +142,8 @@ pub trait Shelf {
         ensures later { faults self.old ≤ faults self.new }
         ensures failed { IsErrOf result ShelfFault.Failed → Rose (faults self.old) (faults self.new) }
         ensures quiet { IsErrOf result ShelfFault.Failed ⊎ (faults self.new ≡ faults self.old) }
-        ensures last { Marks result (record { saving = true; name = name.now }) (last self.old) (last self.new) };
+        ensures last { Marks result (record { saving = true; name = name.now }) (last self.old)
+            (last self.new) };
 }
 
 /// Why a call of a sink did not write its piece.

@@ -25,7 +25,8 @@ fn fault_of(error: &io::Error) -> ShelfFault
 /// that is interrupted is tried again.
 pub fn read_front<F: Read>(alloc: Global, file: &mut F, cap: u64) -> Result<Vec<u8>, ShelfFault>
     ensures capped { IfOk result (λ bytes. vec_len bytes ≤ cap) }
-    ensures front { IfOk result (λ bytes. IfSome (F.remaining file.old) (λ whole. bytes.items ≡ take cap whole)) }
+    ensures front { IfOk result
+        (λ bytes. IfSome (F.remaining file.old) (λ whole. bytes.items ≡ take cap whole)) }
 {
     let mut bytes = Vec::new(alloc);
     let mut chunk = [0u8; CHUNK];

@@ -38,9 +38,9 @@ bytes_same (widths.U32 place) = refl
 bytes_same (widths.U64 place) = refl
 bytes_same (widths.Bits place number) = refl
 
-some_same : {A B : Type 0} (g : A → B) (o : Option A) → is_some (option_map g o) ≡ is_some o
-some_same g None = refl
-some_same g (Some x) = refl
+mapped_is_some : {A B : Type 0} (g : A → B) (o : Option A) → is_some (option_map g o) ≡ is_some o
+mapped_is_some g None = refl
+mapped_is_some g (Some x) = refl
 
 entries_same : {A B : Type 0} (g : A → B) (o : Option A) → option_map {U = ℕ} (λ _. 0) (option_map g o) ≡ option_map {U = ℕ} (λ _. 0) o
 entries_same g None = refl
@@ -48,7 +48,7 @@ entries_same g (Some x) = refl
 
 -- whether a field is one whose beginning matters, before and after
 pub begins_same : (w : Width) {A B : Type 0} (g : A → B) (o : Option A) → (reads_bytes (typed_width w) || is_some (option_map g o)) ≡ (is_bytewise w || is_some o)
-begins_same w g o = λ i. bytes_same w i || some_same g o i
+begins_same w g o = λ i. bytes_same w i || mapped_is_some g o i
 
 module _ (names : Names) where
   pub legal_field : (f : FieldTree) → HasLegalWidth f → IsLegal (typed_field names f)

@@ -57,7 +57,13 @@ known_of names = told_by names.tree.now names.tables.now
 -- where a field stands
 abbrev pub place_of : Position → FieldPosition
 place_of at =
-    record { structure = at.structure; number = at.number; in_head = at.in_head; on_byte = at.on_byte; behind_open = at.behind_open }
+    record {
+      structure = at.structure;
+      number = at.number;
+      in_head = at.in_head;
+      on_byte = at.on_byte;
+      behind_open = at.behind_open;
+    }
 
 -- all numbers for which names stand, and the next ones, are numbers of 32 bits
 abbrev pub Fit : (List ℕ → Option ℕ) → Type 0

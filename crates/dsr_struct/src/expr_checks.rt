@@ -22,7 +22,8 @@ pub fn check_expr(told: &mut Told, fixed: &IndexMap<Name, usize>, expr: &Expr)
 
 #[cycle(expression)]
 fn check_more_terms(told: &mut Told, fixed: &IndexMap<Name, usize>, terms: &[MoreTerm])
-    ensures { Finds (more_terms_faults (get bytes_eq fixed.now) (in_terms (map more_term_shape terms.now))) told.old.fault told.new.fault }
+    ensures { Finds (more_terms_faults (get bytes_eq fixed.now)
+        (in_terms (map more_term_shape terms.now))) told.old.fault told.new.fault }
 {
     for more in terms {
         check_term(told, fixed, &more.term);
@@ -39,7 +40,8 @@ fn check_term(told: &mut Told, fixed: &IndexMap<Name, usize>, term: &Term2)
 
 #[cycle(expression)]
 fn check_more_factors(told: &mut Told, fixed: &IndexMap<Name, usize>, factors: &[MoreFactor])
-    ensures { Finds (more_factors_faults (get bytes_eq fixed.now) (in_factors (map more_factor_shape factors.now))) told.old.fault told.new.fault }
+    ensures { Finds (more_factors_faults (get bytes_eq fixed.now)
+        (in_factors (map more_factor_shape factors.now))) told.old.fault told.new.fault }
 {
     for more in factors {
         check_factor(told, fixed, &more.factor);
@@ -48,7 +50,8 @@ fn check_more_factors(told: &mut Told, fixed: &IndexMap<Name, usize>, factors: &
 
 #[cycle(expression)]
 fn check_factor(told: &mut Told, fixed: &IndexMap<Name, usize>, factor: &Factor)
-    ensures { Finds (factor_faults (get bytes_eq fixed.now) (factor_shape factor.now)) told.old.fault told.new.fault }
+    ensures { Finds (factor_faults (get bytes_eq fixed.now) (factor_shape factor.now))
+        told.old.fault told.new.fault }
 {
     match factor {
         Factor::Number(_) => (),
@@ -59,7 +62,8 @@ fn check_factor(told: &mut Told, fixed: &IndexMap<Name, usize>, factor: &Factor)
 
 /// The names of an expression that may be left out.
 pub fn check_maybe_expr(told: &mut Told, fixed: &IndexMap<Name, usize>, expr: &Option<Expr>)
-    ensures { Finds (maybe_expr_faults (get bytes_eq fixed.now) (option_map expr_shape expr.now)) told.old.fault told.new.fault }
+    ensures { Finds (maybe_expr_faults (get bytes_eq fixed.now) (option_map expr_shape expr.now))
+        told.old.fault told.new.fault }
 {
     if let Some(expr) = expr {
         check_expr(told, fixed, expr);

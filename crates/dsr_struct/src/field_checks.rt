@@ -109,7 +109,8 @@ fn is_misplaced(at: Position, field: &NamedField) -> bool
 
 // Whether a field has to begin where a byte does, and doesn't.
 fn is_misaligned(at: Position, field: &NamedField) -> bool
-    ensures { let f = named_shape field.now in result ≡ ((is_bytewise f.width || is_some f.length) && not at.on_byte) }
+    ensures { let f = named_shape field.now in result
+        ≡ ((is_bytewise f.width || is_some f.length) && not at.on_byte) }
 {
     (is_bytewise(field.width) || field.length.is_some()) && !at.on_byte
 }
@@ -144,7 +145,9 @@ impl Names<'_> {
     }
 
     fn check_content(&self, told: &mut Told, width: Width, content: &Option<Content>)
-        ensures { Finds (content_faults (get bytes_eq self.now.tables.now.symbols.pools) width content.now) told.old.fault told.new.fault }
+        ensures { Finds (content_faults
+            (get bytes_eq self.now.tables.now.symbols.pools) width content.now) told.old.fault
+            told.new.fault }
     {
         match content {
             Some(Content::Init { number, .. }) => {
@@ -157,7 +160,8 @@ impl Names<'_> {
     }
 
     fn check_named_field(&self, told: &mut Told, at: Position, field: &NamedField)
-        ensures { Finds (named_field_faults (known_of self.now) (place_of at) (named_shape field.now)) told.old.fault told.new.fault }
+        ensures { Finds (named_field_faults (known_of self.now) (place_of at)
+            (named_shape field.now)) told.old.fault told.new.fault }
     {
         let place = field.name.place;
         let is_twice = self.is_declared_above(at, &field.name.name);
@@ -172,7 +176,8 @@ impl Names<'_> {
     }
 
     fn check_field(&self, told: &mut Told, at: Position, field: &Field)
-        ensures { Finds (field_faults (known_of self.now) (place_of at) (field_shape field.now)) told.old.fault told.new.fault }
+        ensures { Finds (field_faults (known_of self.now) (place_of at) (field_shape field.now))
+            told.old.fault told.new.fault }
     {
         match field {
             Field::Named(field) => self.check_named_field(told, at, field),

@@ -131,7 +131,8 @@ fn enter(
     name: &Name,
     number: usize,
 ) -> Result<(), NoMemory>
-    ensures { OnOk result ((q : List ℕ) → get bytes_eq table.new q ≡ entered (get bytes_eq table.old) name.now number q) }
+    ensures { OnOk result ((q : List ℕ) → get bytes_eq table.new q
+        ≡ entered (get bytes_eq table.old) name.now number q) }
 {
     if table.get(name).is_none() {
         table.insert(name.clone(alloc)?, number)?;
@@ -141,7 +142,8 @@ fn enter(
 
 // For each name the number of the first item that has it.
 fn numbers_of<T: Named>(alloc: Global, items: &[T]) -> Result<IndexMap<Name, usize>, NoMemory>
-    ensures { IfOk result (λ m. (q : List ℕ) → get bytes_eq m q ≡ position_from (λ x. is_named (T.own_name x) q) 0 items.now) }
+    ensures { IfOk result (λ m. (q : List ℕ) → get bytes_eq m q
+        ≡ position_from (λ x. is_named (T.own_name x) q) 0 items.now) }
 {
     let mut table = IndexMap::new(alloc);
     for (number, item) in items.iter().enumerate() {
@@ -154,7 +156,8 @@ fn numbers_of<T: Named>(alloc: Global, items: &[T]) -> Result<IndexMap<Name, usi
 
 // For each name the number of the first fixed field that has it.
 fn fixed_fields(alloc: Global, fields: &[Field]) -> Result<IndexMap<Name, usize>, NoMemory>
-    ensures { IfOk result (λ m. (q : List ℕ) → get bytes_eq m q ≡ position_from (has_fixed_name q) 0 (map field_shape fields.now)) }
+    ensures { IfOk result (λ m. (q : List ℕ) → get bytes_eq m q
+        ≡ position_from (has_fixed_name q) 0 (map field_shape fields.now)) }
 {
     let mut table = IndexMap::new(alloc);
     for (number, field) in fields.iter().enumerate() {
@@ -173,7 +176,8 @@ fn fixed_of_head(
     tree: &Tree,
     structures: &IndexMap<Name, usize>,
 ) -> Result<IndexMap<Name, usize>, NoMemory>
-    ensures { IfOk result (λ m. (q : List ℕ) → get bytes_eq m q ≡ fixed_in (tree_shape tree.now) (get bytes_eq structures.now (codes "Head")) q) }
+    ensures { IfOk result (λ m. (q : List ℕ) → get bytes_eq m q
+        ≡ fixed_in (tree_shape tree.now) (get bytes_eq structures.now (codes "Head")) q) }
 {
     let head = head_name(alloc)?;
     if let Some(number) = structures.get(&head) {
@@ -189,7 +193,8 @@ fn own_fields(
     alloc: Global,
     structures: &[Structure],
 ) -> Result<Vec<IndexMap<Name, usize>>, NoMemory>
-    ensures { IfOk result (λ tables. map (get bytes_eq) tables.items ≡ map (λ s. field_number (structure_shape s)) structures.now) }
+    ensures { IfOk result (λ tables. map (get bytes_eq) tables.items
+        ≡ map (λ s. field_number (structure_shape s)) structures.now) }
 {
     let mut tables = Vec::new(alloc);
     for structure in structures {
@@ -231,7 +236,8 @@ fn line_of(
     earlier: &[Vec<usize>],
     parent: Option<usize>,
 ) -> Result<Vec<usize>, NoMemory>
-    ensures { IfOk result (λ line. line.items ≡ with_ancestors (λ p. slice_index_or (map (λ v. v.items) earlier.now) p []) parent) }
+    ensures { IfOk result (λ line. line.items
+        ≡ with_ancestors (λ p. slice_index_or (map (λ v. v.items) earlier.now) p []) parent) }
 {
     let mut line = Vec::new(alloc);
     if let Some(parent) = parent {
@@ -249,7 +255,8 @@ fn ancestors_of(
     numbers: &IndexMap<Name, usize>,
     structures: &[Structure],
 ) -> Result<Vec<Vec<usize>>, NoMemory>
-    ensures { IfOk result (λ lines. map (λ v. v.items) lines.items ≡ all_ancestors (get bytes_eq numbers.now) (map structure_shape structures.now)) }
+    ensures { IfOk result (λ lines. map (λ v. v.items) lines.items
+        ≡ all_ancestors (get bytes_eq numbers.now) (map structure_shape structures.now)) }
 {
     let mut lines = Vec::new(alloc);
     for structure in structures {

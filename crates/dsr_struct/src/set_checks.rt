@@ -33,7 +33,8 @@ impl Names<'_> {
 
     // The structure of the pool that a name stands for.
     pub fn structure_of_pool(&self, name: &PlacedName) -> Option<usize>
-        ensures { result ≡ option_and_then (pool_structure (known_of self.now)) ((known_of self.now).pool name.now.name) }
+        ensures { result ≡ option_and_then (pool_structure (known_of self.now))
+            ((known_of self.now).pool name.now.name) }
     {
         match self.pool(&name.name) {
             Some(pool) => self.pool_structure(pool),
@@ -43,7 +44,8 @@ impl Names<'_> {
 
     // The pool of the set that a name stands for.
     fn pool_of_set(&self, name: &PlacedName) -> Option<usize>
-        ensures { result ≡ option_and_then (set_pool (known_of self.now)) (plain_set (known_of self.now) name.now.name) }
+        ensures { result ≡ option_and_then (set_pool (known_of self.now))
+            (plain_set (known_of self.now) name.now.name) }
     {
         match self.plain_set(&name.name) {
             Some(set) => self.set_pool(set),
@@ -114,7 +116,8 @@ impl Names<'_> {
     }
 
     fn check_relation(&self, told: &mut Told, number: usize, relation: &Relation)
-        ensures { Finds (relation_faults (known_of self.now) number relation.now) told.old.fault told.new.fault }
+        ensures { Finds (relation_faults (known_of self.now) number relation.now) told.old.fault
+            told.new.fault }
     {
         let name = &relation.name;
         let is_first = is_at(number, self.relation(&name.name));
@@ -127,7 +130,8 @@ impl Names<'_> {
 
     /// The faults of relations.
     pub fn check_relations(&self, told: &mut Told, relations: &[Relation])
-        ensures { Finds (each_at (relation_faults (known_of self.now)) 0 relations.now) told.old.fault told.new.fault }
+        ensures { Finds (each_at (relation_faults (known_of self.now)) 0 relations.now)
+            told.old.fault told.new.fault }
     {
         for (number, relation) in relations.iter().enumerate() {
             self.check_relation(told, number, relation);
@@ -165,7 +169,8 @@ impl Names<'_> {
 
     // Whether a supply that names sets alone avoids one of another pool.
     fn is_supply_mismatch(&self, supply: &Fresh) -> bool
-        ensures { result ≡ is_supply_mismatch (known_of self.now) ((known_of self.now).pool supply.now.pool.name) (supply.now.first ∷ supply.now.rest) }
+        ensures { result ≡ is_supply_mismatch (known_of self.now)
+            ((known_of self.now).pool supply.now.pool.name) (supply.now.first ∷ supply.now.rest) }
     {
         let pool = self.pool(&supply.pool.name);
         let rest = supply.rest.items();
@@ -180,7 +185,8 @@ impl Names<'_> {
     }
 
     fn check_plain_sets(&self, told: &mut Told, names: &[PlacedName])
-        ensures { Finds (each_at (λ _ q. unknown_name (plain_set (known_of self.now)) q) 1 names.now) told.old.fault told.new.fault }
+        ensures { Finds (each_at (λ _ q. unknown_name (plain_set (known_of self.now)) q) 1
+            names.now) told.old.fault told.new.fault }
     {
         for name in names {
             self.check_plain_set(told, name);
@@ -205,7 +211,8 @@ impl Names<'_> {
 
     /// The faults of supplies.
     pub fn check_supplies(&self, told: &mut Told, supplies: &[Fresh])
-        ensures { Finds (each_at (supply_faults (known_of self.now)) 0 supplies.now) told.old.fault told.new.fault }
+        ensures { Finds (each_at (supply_faults (known_of self.now)) 0 supplies.now) told.old.fault
+            told.new.fault }
     {
         for (number, supply) in supplies.iter().enumerate() {
             self.check_supply(told, number, supply);

@@ -34,7 +34,8 @@ impl Names<'_> {
     }
 
     fn check_structure(&self, told: &mut Told, number: usize, structure: &Structure)
-        ensures { Finds (structure_faults (known_of self.now) number (structure_shape structure.now)) told.old.fault told.new.fault }
+        ensures { Finds (structure_faults (known_of self.now) number
+            (structure_shape structure.now)) told.old.fault told.new.fault }
     {
         let name = &structure.name;
         let is_first = is_at(number, self.structure(&name.name));
@@ -46,7 +47,8 @@ impl Names<'_> {
 
     /// The faults of structures.
     pub fn check_structures(&self, told: &mut Told, structures: &[Structure])
-        ensures { Finds (each_at (structure_faults (known_of self.now)) 0 (map structure_shape structures.now)) told.old.fault told.new.fault }
+        ensures { Finds (each_at (structure_faults (known_of self.now)) 0
+            (map structure_shape structures.now)) told.old.fault told.new.fault }
     {
         for (number, structure) in structures.iter().enumerate() {
             self.check_structure(told, number, structure);
@@ -54,7 +56,8 @@ impl Names<'_> {
     }
 
     fn check_pool(&self, told: &mut Told, number: usize, pool: &Pool)
-        ensures { Finds (pool_faults (known_of self.now) number (pool_shape pool.now)) told.old.fault told.new.fault }
+        ensures { Finds (pool_faults (known_of self.now) number (pool_shape pool.now))
+            told.old.fault told.new.fault }
     {
         let fixed = &self.tables.fixed;
         let is_first = is_at(number, self.pool(&pool.name.name));
@@ -71,7 +74,8 @@ impl Names<'_> {
 
     /// The faults of pools.
     pub fn check_pools(&self, told: &mut Told, pools: &[Pool])
-        ensures { Finds (each_at (pool_faults (known_of self.now)) 0 (map pool_shape pools.now)) told.old.fault told.new.fault }
+        ensures { Finds (each_at (pool_faults (known_of self.now)) 0 (map pool_shape pools.now))
+            told.old.fault told.new.fault }
     {
         for (number, pool) in pools.iter().enumerate() {
             self.check_pool(told, number, pool);

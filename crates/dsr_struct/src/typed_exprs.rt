@@ -59,7 +59,8 @@ fn typed_sum(
     first: Expr,
 ) -> Result<Expr, NoMemory>
     requires { Fit (get bytes_eq fixed.now) }
-    ensures { IfOk result (λ e. e ≡ typed_sum (get bytes_eq fixed.now) first (in_terms (map more_term_shape rest.now))) }
+    ensures { IfOk result (λ e. e
+        ≡ typed_sum (get bytes_eq fixed.now) first (in_terms (map more_term_shape rest.now))) }
 {
     let mut sum = first;
     for more in rest {
@@ -86,7 +87,9 @@ fn typed_product(
     first: Expr,
 ) -> Result<Expr, NoMemory>
     requires { Fit (get bytes_eq fixed.now) }
-    ensures { IfOk result (λ e. e ≡ typed_product (get bytes_eq fixed.now) first (in_factors (map more_factor_shape rest.now))) }
+    ensures { IfOk result (λ e. e
+        ≡ typed_product (get bytes_eq fixed.now) first
+        (in_factors (map more_factor_shape rest.now))) }
 {
     let mut product = first;
     for more in rest {
@@ -119,7 +122,8 @@ pub fn typed_maybe_expr(
     expr: &Option<dsr_tree::Expr>,
 ) -> Result<Option<Expr>, NoMemory>
     requires { Fit (get bytes_eq fixed.now) }
-    ensures { IfOk result (λ e. e ≡ option_map (typed_expr (get bytes_eq fixed.now)) (option_map expr_shape expr.now)) }
+    ensures { IfOk result (λ e. e
+        ≡ option_map (typed_expr (get bytes_eq fixed.now)) (option_map expr_shape expr.now)) }
 {
     match expr {
         Some(expr) => Ok(Some(typed_expr(alloc, fixed, expr)?)),

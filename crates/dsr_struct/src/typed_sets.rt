@@ -91,7 +91,8 @@ impl Names<'_> {
     /// The table of relations.
     pub fn typed_relations(&self, alloc: Global) -> Result<Seq<Rel>, NoMemory>
         requires fit { AllFit (known_of self.now) }
-        ensures { IfOk result (λ rs. rs ≡ map (typed_relation (known_of self.now)) (known_of self.now).tree.relations) }
+        ensures { IfOk result (λ rs. rs
+            ≡ map (typed_relation (known_of self.now)) (known_of self.now).tree.relations) }
     {
         let mut typed = Vec::new(alloc);
         for relation in self.tree.relations.items() {

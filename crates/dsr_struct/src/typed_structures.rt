@@ -135,7 +135,8 @@ impl Names<'_> {
     pub fn typed_structures(&self, alloc: Global) -> Result<Seq<Structure>, NoMemory>
         requires fit { AllFit (known_of self.now) }
         requires legal { All HasLegalWidths (known_of self.now).tree.structures }
-        ensures { IfOk result (λ ss. ss ≡ map (typed_structure (known_of self.now)) (known_of self.now).tree.structures) }
+        ensures { IfOk result (λ ss. ss
+            ≡ map (typed_structure (known_of self.now)) (known_of self.now).tree.structures) }
     {
         let mut typed = Vec::new(alloc);
         for structure in self.tree.structures.items() {

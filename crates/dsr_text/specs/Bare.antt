@@ -131,7 +131,13 @@ bare_place place = 0
 
 abbrev pub bare_named_field : NamedFieldTree → NamedFieldTree
 bare_named_field f =
-    record { fixed = option_map bare_place f.fixed; width = bare_width f.width; name = bare_name f.name; length = option_map bare_expr f.length; content = option_map bare_content f.content }
+    record {
+      fixed = option_map bare_place f.fixed;
+      width = bare_width f.width;
+      name = bare_name f.name;
+      length = option_map bare_expr f.length;
+      content = option_map bare_content f.content;
+    }
 
 abbrev pub bare_field : FieldTree → FieldTree
 bare_field (named field) = named (bare_named_field field)
@@ -139,7 +145,12 @@ bare_field (skipped place length) = skipped 0 (bare_expr length)
 
 abbrev pub bare_structure : StructureTree → StructureTree
 bare_structure s =
-    record { place = 0; name = bare_name s.name; parent = option_map bare_name s.parent; fields = map bare_field s.fields }
+    record {
+      place = 0;
+      name = bare_name s.name;
+      parent = option_map bare_name s.parent;
+      fields = map bare_field s.fields;
+    }
 
 -- pools, sets, relations, supplies
 abbrev pub bare_pool : PoolTree → PoolTree
@@ -220,7 +231,13 @@ bare_inclusion (inclusions.Member member set) =
 
 abbrev pub bare_rule : Rule → Rule
 bare_rule r =
-    record { place = 0; premise = bare_premise r.premise; span = option_map bare_span r.span; guards = option_map bare_guards r.guards; inclusion = bare_inclusion r.inclusion }
+    record {
+      place = 0;
+      premise = bare_premise r.premise;
+      span = option_map bare_span r.span;
+      guards = option_map bare_guards r.guards;
+      inclusion = bare_inclusion r.inclusion;
+    }
 
 -- constraints
 abbrev pub bare_binder : Binder → Binder
@@ -232,7 +249,12 @@ bare_quantifier q = record { place = 0; binder = bare_binder q.binder; symbol = 
 
 abbrev pub bare_constraint : ConstraintTree → ConstraintTree
 bare_constraint c =
-    record { place = 0; name = bare_name c.name; quantifier = option_map bare_quantifier c.quantifier; formula = bare_formula c.formula }
+    record {
+      place = 0;
+      name = bare_name c.name;
+      quantifier = option_map bare_quantifier c.quantifier;
+      formula = bare_formula c.formula;
+    }
 
 -- a whole tree
 abbrev pub bare_tree : TreeShape → TreeShape

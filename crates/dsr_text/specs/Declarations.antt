@@ -44,7 +44,8 @@ abbrev mutual
 
   pub more_factors_faults : (List ℕ → Option ℕ) → MoreFactorTrees → List Fault
   more_factors_faults fixed no_factors = []
-  more_factors_faults fixed (more_factors sign factor rest) = factor_faults fixed factor ++ more_factors_faults fixed rest
+  more_factors_faults fixed (more_factors sign factor rest) = factor_faults fixed factor
+      ++ more_factors_faults fixed rest
 
   pub factor_faults : (List ℕ → Option ℕ) → FactorTree → List Fault
   factor_faults fixed (number_tree number) = []
@@ -144,7 +145,8 @@ abbrev pub is_declared_above : Names → FieldPosition → List ℕ → Bool
 is_declared_above names at q =
     not (is_at at.number (own_field names at.structure q)) || inherits names at.structure q
 
--- whether a field may not be fixed where it stands: outside of `Head`, as an array, or behind a length that isn't a number
+-- whether a field may not be fixed where it stands: outside of
+-- `Head`, as an array, or behind a length that isn't a number
 abbrev pub is_misplaced : FieldPosition → NamedFieldTree → Bool
 is_misplaced at f = not at.in_head || is_some f.length || at.behind_open
 
@@ -175,11 +177,18 @@ is_not_before i (Some p) = nat_le i p
 abbrev pub parent_faults : Names → ℕ → Option PlacedName → List Fault
 parent_faults names i None = []
 parent_faults names i (Some q) =
-    unknown_name (used_structure names) q ++ when (is_not_before i (used_structure names q.name)) conditions.SubtypeLoop q.place
+    unknown_name (used_structure names) q
+    ++ when (is_not_before i (used_structure names q.name)) conditions.SubtypeLoop q.place
 
 abbrev pub position_of : Names → ℕ → StructureTree → ℕ → FieldPosition
 position_of names i s j =
-    record { structure = i; number = j; in_head = is_head s.name.name; on_byte = ends_byte (take j s.fields); behind_open = inherits_open names i || has_open (take j s.fields) }
+    record {
+      structure = i;
+      number = j;
+      in_head = is_head s.name.name;
+      on_byte = ends_byte (take j s.fields);
+      behind_open = inherits_open names i || has_open (take j s.fields);
+    }
 
 abbrev pub structure_faults : Names → ℕ → StructureTree → List Fault
 structure_faults names i s =
@@ -214,15 +223,21 @@ abbrev pub is_unrelated : Names → Option ℕ → Option ℕ → Bool
 is_unrelated names (Some i) (Some a) = not (descends names i a)
 is_unrelated names _ _ = false
 
--- a view by a structure that is none, or that doesn't descend from the pool's; a base that is no set, or one of another pool
+-- a view by a structure that is none, or that doesn't descend from
+-- the pool's; a base that is no set, or one of another pool
 abbrev pub view_faults : Names → Set → Option View → List Fault
 view_faults names s None = []
 view_faults names s (Some (views.As place q)) =
     unknown_name (used_structure names) q
-    ++ when (is_unrelated names (used_structure names q.name) (option_and_then (pool_structure names) (names.pool s.pool.name))) conditions.PoolMismatch s.place
+    ++ when
+    (is_unrelated names (used_structure names q.name)
+    (option_and_then (pool_structure names) (names.pool s.pool.name)))
+    conditions.PoolMismatch s.place
 view_faults names s (Some (views.Except place q)) =
     unknown_name (plain_set names) q
-    ++ when (disagree (names.pool s.pool.name) (option_and_then (set_pool names) (plain_set names q.name))) conditions.PoolMismatch s.place
+    ++ when
+    (disagree (names.pool s.pool.name) (option_and_then (set_pool names) (plain_set names q.name)))
+    conditions.PoolMismatch s.place
 
 abbrev pub set_faults : Names → ℕ → Set → List Fault
 set_faults names i s =
@@ -243,7 +258,8 @@ target_faults names (targets.Pool q) = unknown_name names.pool q
 
 abbrev pub relation_faults : Names → ℕ → Relation → List Fault
 relation_faults names i r =
-    when (is_some (names.set r.name.name) || not (is_at i (names.relation r.name.name))) conditions.NameTwice r.name.place
+    when (is_some (names.set r.name.name) || not (is_at i (names.relation r.name.name)))
+    conditions.NameTwice r.name.place
     ++ (when (nat_eq (length names.tree.sets + i) 64) conditions.Limit r.name.place
     ++ (source_faults names r.source
     ++ target_faults names r.target))

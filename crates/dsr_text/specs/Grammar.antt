@@ -42,7 +42,9 @@ operator s = One (counted 32) (a_mark s)
 -- parentheses in an expression, at most 32 deep
 abbrev pub factor : ℕ → Syntax
 factor depth =
-    choice number (name ∷ row (One (opening depth 32) (a_mark sign.OpenParenthesis) ∷ The (an_expression (suc depth)) ∷ mark sign.CloseParenthesis ∷ []) ∷ [])
+    choice number (name ∷ row
+    (One (opening depth 32) (a_mark sign.OpenParenthesis) ∷ The (an_expression (suc depth))
+    ∷ mark sign.CloseParenthesis ∷ []) ∷ [])
 
 abbrev pub product_sign : Syntax
 product_sign = Either (operator sign.Times) (operator sign.Over)
@@ -89,7 +91,9 @@ bound = choice (mark sign.AtMost) (mark sign.AtLeast ∷ mark sign.Equal ∷ [])
 
 abbrev pub compare : Syntax
 compare =
-    choice (mark sign.Equal) (mark sign.Differs ∷ mark sign.Less ∷ mark sign.AtMost ∷ mark sign.Greater ∷ mark sign.AtLeast ∷ [])
+    choice (mark sign.Equal)
+    (mark sign.Differs ∷ mark sign.Less ∷ mark sign.AtMost ∷ mark sign.Greater
+    ∷ mark sign.AtLeast ∷ [])
 
 -- an atom is counted at its first token: a formula has at most 128
 abbrev pub literal : Charge
@@ -100,7 +104,8 @@ count_atom = row (size_by literal ∷ bound ∷ number ∷ [])
 
 abbrev pub pair_atom : Syntax
 pair_atom =
-    row (One literal (a_mark sign.Less) ∷ var ∷ mark sign.Comma ∷ var ∷ mark sign.Greater ∷ word keyword.In ∷ name ∷ [])
+    row (One literal (a_mark sign.Less) ∷ var ∷ mark sign.Comma ∷ var ∷ mark sign.Greater
+    ∷ word keyword.In ∷ name ∷ [])
 
 abbrev pub measure : Syntax
 measure = Either number (size_by free)
@@ -122,7 +127,8 @@ nesting depth class = One (opening depth 32) class
 abbrev pub unit : ℕ → Syntax
 unit depth = choice (Then (nesting depth (a_word keyword.Not)) (The (a_unit (suc depth))))
     (Then (nesting depth (a_word keyword.Given)) (The (a_unit (suc depth)))
-    ∷ row (nesting depth (a_mark sign.OpenParenthesis) ∷ The (a_formula (suc depth)) ∷ mark sign.CloseParenthesis ∷ [])
+    ∷ row (nesting depth (a_mark sign.OpenParenthesis) ∷ The (a_formula (suc depth))
+    ∷ mark sign.CloseParenthesis ∷ [])
     ∷ atom ∷ [])
 
 abbrev pub more_unit : ℕ → Syntax
@@ -147,7 +153,9 @@ rule_of (a_unit depth) = unit depth
 
 abbrev pub width : Syntax
 width =
-    choice (word keyword.U8) (word keyword.U16 ∷ word keyword.U32 ∷ word keyword.U64 ∷ row (word keyword.Bits ∷ number ∷ []) ∷ [])
+    choice (word keyword.U8)
+    (word keyword.U16 ∷ word keyword.U32 ∷ word keyword.U64
+    ∷ row (word keyword.Bits ∷ number ∷ []) ∷ [])
 
 abbrev pub brackets : Syntax
 brackets = Then (expr_behind (a_mark sign.OpenBracket)) (mark sign.CloseBracket)
@@ -177,7 +185,9 @@ structure =
 abbrev pub pool : Syntax
 pool =
     row (word keyword.Pool ∷ name ∷ mark sign.Colon ∷ name ∷ brackets ∷ maybe (expr_behind (a_word keyword.Slot))
-    ∷ expr_behind (a_word keyword.At) ∷ expr_behind (a_word keyword.Codes) ∷ expr_behind (a_word keyword.Step) ∷ expr_behind (a_word keyword.None) ∷ mark sign.Semicolon ∷ [])
+    ∷ expr_behind (a_word keyword.At) ∷ expr_behind (a_word keyword.Codes)
+    ∷ expr_behind (a_word keyword.Step) ∷ expr_behind (a_word keyword.None)
+    ∷ mark sign.Semicolon ∷ [])
 
 abbrev pub view : Syntax
 view = Either (row (word keyword.As ∷ name ∷ [])) (row (word keyword.Except ∷ name ∷ []))
@@ -222,7 +232,8 @@ ref_test =
 
 abbrev pub guard : Syntax
 guard =
-    Either (row (ref_test ∷ mark sign.OpenParenthesis ∷ path ∷ mark sign.CloseParenthesis ∷ [])) (row (path ∷ compare ∷ number ∷ []))
+    Either (row (ref_test ∷ mark sign.OpenParenthesis ∷ path ∷ mark sign.CloseParenthesis ∷ []))
+    (row (path ∷ compare ∷ number ∷ []))
 
 abbrev pub more_guard : Syntax
 more_guard = Then (word keyword.And) guard
@@ -235,7 +246,8 @@ term = Either (word keyword.Head) (Then name index)
 
 abbrev pub member_part : Syntax
 member_part =
-    Either (row (mark sign.Dot ∷ name ∷ index ∷ [])) (row (mark sign.OpenBracket ∷ name ∷ mark sign.CloseBracket ∷ []))
+    Either (row (mark sign.Dot ∷ name ∷ index ∷ []))
+    (row (mark sign.OpenBracket ∷ name ∷ mark sign.CloseBracket ∷ []))
 
 abbrev pub member : Syntax
 member = Then var (maybe member_part)
@@ -252,7 +264,8 @@ inclusion = Either pair_inclusion member_inclusion
 
 abbrev pub rule : Syntax
 rule =
-    row (word keyword.Rule ∷ premise ∷ maybe span ∷ maybe guards ∷ mark sign.Gives ∷ inclusion ∷ mark sign.Semicolon ∷ [])
+    row (word keyword.Rule ∷ premise ∷ maybe span ∷ maybe guards ∷ mark sign.Gives ∷ inclusion
+    ∷ mark sign.Semicolon ∷ [])
 
 -- ---- constraints
 
@@ -283,4 +296,5 @@ order = row (word keyword.Order ∷ endian ∷ mark sign.Semicolon ∷ [])
 
 abbrev pub spec : Syntax
 spec =
-    row (version ∷ order ∷ Many structure ∷ Many pool ∷ Many set ∷ Many relation ∷ Many fresh ∷ Many rule ∷ Many constraint ∷ [])
+    row (version ∷ order ∷ Many structure ∷ Many pool ∷ Many set ∷ Many relation ∷ Many fresh
+    ∷ Many rule ∷ Many constraint ∷ [])

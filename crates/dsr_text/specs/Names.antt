@@ -50,7 +50,8 @@ supply_number t q = position_from (λ f. bytes_eq f.pool.name q) 0 t.supplies
 -- the fixed field that a structure itself declares under a name, by its number among all fields there
 abbrev pub fixed_in : TreeShape → Option ℕ → List ℕ → Option ℕ
 fixed_in t structure q =
-    option_and_then (λ s. position_from (has_fixed_name q) 0 s.fields) (option_and_then (slice_get t.structures) structure)
+    option_and_then (λ s. position_from (has_fixed_name q) 0 s.fields)
+    (option_and_then (slice_get t.structures) structure)
 
 -- that of `Head`
 abbrev pub fixed_number : TreeShape → List ℕ → Option ℕ
@@ -70,11 +71,14 @@ abbrev pub with_ancestors : (ℕ → List ℕ) → Option ℕ → List ℕ
 with_ancestors ancestors None = []
 with_ancestors ancestors (Some p) = p ∷ ancestors p
 
--- the ancestors of a structure by its number, the nearest first, among structures of which the last declared comes first
+-- the ancestors of a structure by its number, the nearest first,
+-- among structures of which the last declared comes first
 abbrev pub ancestors_in : (List ℕ → Option ℕ) → List StructureTree → ℕ → List ℕ
 ancestors_in number [] i = []
 ancestors_in number (s ∷ earlier) i =
-    if nat_eq i (length earlier) then with_ancestors (ancestors_in number earlier) (parent_number number i s.parent) else ancestors_in number earlier i
+    if nat_eq i (length earlier)
+    then with_ancestors (ancestors_in number earlier) (parent_number number i s.parent)
+    else ancestors_in number earlier i
 
 -- those of each structure, in order of declaration
 abbrev pub all_ancestors : (List ℕ → Option ℕ) → List StructureTree → List (List ℕ)
@@ -93,14 +97,25 @@ pub record Names : Type 0 where
   pub relation : List ℕ → Option ℕ
   pub supply : List ℕ → Option ℕ
 
--- 64 structures are allowed, and behind the first one too many nothing is asked: its name comes before all that stands there
+-- 64 structures are allowed, and behind the first one too many
+-- nothing is asked: its name comes before all that stands there
 abbrev pub asked_structures : TreeShape → List StructureTree
 asked_structures t = take 65 t.structures
 
 -- what the names of a tree stand for
 abbrev pub names_of : TreeShape → Names
 names_of t =
-    record { tree = t; structure = structure_number t; fields = map field_number t.structures; ancestors = all_ancestors (structure_number t) (asked_structures t); fixed = fixed_number t; pool = pool_number t; set = set_number t; relation = relation_number t; supply = supply_number t }
+    record {
+      tree = t;
+      structure = structure_number t;
+      fields = map field_number t.structures;
+      ancestors = all_ancestors (structure_number t) (asked_structures t);
+      fixed = fixed_number t;
+      pool = pool_number t;
+      set = set_number t;
+      relation = relation_number t;
+      supply = supply_number t;
+    }
 
 -- the structure of a name as a parent, a pool's structure or a set's: `Head` is none of these
 abbrev pub used_structure : Names → List ℕ → Option ℕ

@@ -24,7 +24,8 @@ abbrev pub in_turn : {X : Type 0} → (X → Phrase) → List X → Phrase
 in_turn phrase [] = silent
 in_turn phrase (x ∷ xs) = phrase x ▸ in_turn phrase xs
 
--- the phrase stands first among tokens, which go on with the others: its tokens are these, at the places that it keeps
+-- the phrase stands first among tokens, which go on with the
+-- others: its tokens are these, at the places that it keeps
 pub data Says : Phrase → List Lexeme → List Lexeme → Type 0 where
   says_nothing : (rest : List Lexeme) → Says silent rest rest
   says :

@@ -22,7 +22,8 @@ pub record IsFront (ls : List Lexeme) : Type 0 where
   pub more : List Marked
   pub derived : Derives rule_of spec 0 count (within ls ++ more)
 
--- some text of the grammar begins with the tokens, within the limits, and then has this one, which goes over a limit or doesn't
+-- some text of the grammar begins with the tokens, within the
+-- limits, and then has this one, which goes over a limit or doesn't
 pub record LeadsOn (ls : List Lexeme) (t : Token) (over : Bool) : Type 0 where
   pub count : ℕ
   pub more : List Marked
@@ -45,7 +46,8 @@ pub record IsNoToken (text : List ℕ) (place : ℕ) : Type 0 where
   pub fault : HasTokenFault text place
   pub front : IsFront fault.before
 
--- the place of the first token that continues no text of the grammar, whatever the limits; or the text's end, where its tokens only begin one
+-- the place of the first token that continues no text of the grammar,
+-- whatever the limits; or the text's end, where its tokens only begin one
 pub data IsUnexpected (text : List ℕ) : ℕ → Type 0 where
   at_token :
       (before : List Lexeme) (found : Lexeme) → StandFirst text (before ++ found ∷ [])

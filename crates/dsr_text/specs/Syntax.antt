@@ -54,7 +54,8 @@ pub data Part : Type 0 where
   a_formula : (depth : ℕ) → Part
   a_unit : (depth : ℕ) → Part
 
--- the right side of a production: a token, nothing, one after the other, one or the other, any number of times, a part
+-- the right side of a production: a token, nothing, one after
+-- the other, one or the other, any number of times, a part
 pub data Syntax : Type 0 where
   One : (charge : Charge) (class : Class) → Syntax
   Empty : Syntax
@@ -68,7 +69,8 @@ pub record Marked : Type 0 where
   pub token : Token
   pub over : Bool
 
--- the texts of a right side, where `rule` has the production of each part, between what is counted before it and behind it
+-- the texts of a right side, where `rule` has the production of
+-- each part, between what is counted before it and behind it
 pub data Derives (rule : Part → Syntax) : Syntax → ℕ → ℕ → List Marked → Type 0 where
   one :
       (charge : Charge) (class : Class) (n : ℕ) (t : Token) → IsOf class t

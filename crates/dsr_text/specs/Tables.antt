@@ -64,7 +64,8 @@ abbrev mutual
 
   pub typed_product : (List ℕ → Option ℕ) → ExprShape → MoreFactorTrees → ExprShape
   typed_product fixed left no_factors = left
-  typed_product fixed left (more_factors sign factor rest) = typed_product fixed (product_of sign left (typed_factor fixed factor)) rest
+  typed_product fixed left (more_factors sign factor rest) =
+      typed_product fixed (product_of sign left (typed_factor fixed factor)) rest
 
   pub typed_factor : (List ℕ → Option ℕ) → FactorTree → ExprShape
   typed_factor fixed (number_tree number) = NumOf number.number
@@ -89,13 +90,29 @@ typed_content names (Some (contents.Refers place name)) = kinds.Refers (pool_in 
 -- a gap of n bytes is an array of n bytes without a name
 abbrev pub typed_field : Names → FieldTree → Field
 typed_field names (named f) =
-    record { name = f.name.name; fixed = is_some f.fixed; width = typed_width f.width; len = option_map (typed_expr names.fixed) f.length; kind = typed_content names f.content }
+    record {
+      name = f.name.name;
+      fixed = is_some f.fixed;
+      width = typed_width f.width;
+      len = option_map (typed_expr names.fixed) f.length;
+      kind = typed_content names f.content;
+    }
 typed_field names (skipped place length) =
-    record { name = []; fixed = false; width = widths.U8; len = Some (typed_expr names.fixed length); kind = kinds.Gap }
+    record {
+      name = [];
+      fixed = false;
+      width = widths.U8;
+      len = Some (typed_expr names.fixed length);
+      kind = kinds.Gap;
+    }
 
 abbrev pub typed_structure : Names → StructureTree → Structure
 typed_structure names s =
-    record { name = s.name.name; parent = option_map (number_in (used_structure names)) s.parent; fields = map (typed_field names) s.fields }
+    record {
+      name = s.name.name;
+      parent = option_map (number_in (used_structure names)) s.parent;
+      fields = map (typed_field names) s.fields;
+    }
 
 -- ---- pools, and the sets that their supplies avoid
 
@@ -108,7 +125,17 @@ avoided names pool =
 
 abbrev pub typed_pool : Names → PoolTree → Pool
 typed_pool names p =
-    record { name = p.name.name; structure = number_in (used_structure names) p.structure; count = typed_expr names.fixed p.count; slot = option_map (typed_expr names.fixed) p.slot; start = typed_expr names.fixed p.start; code = typed_expr names.fixed p.code; step = typed_expr names.fixed p.step; none = typed_expr names.fixed p.none; avoid = avoided names p.name.name }
+    record {
+      name = p.name.name;
+      structure = number_in (used_structure names) p.structure;
+      count = typed_expr names.fixed p.count;
+      slot = option_map (typed_expr names.fixed) p.slot;
+      start = typed_expr names.fixed p.start;
+      code = typed_expr names.fixed p.code;
+      step = typed_expr names.fixed p.step;
+      none = typed_expr names.fixed p.none;
+      avoid = avoided names p.name.name;
+    }
 
 -- ---- sets and relations
 
@@ -125,7 +152,12 @@ typed_except names _ = None
 
 abbrev pub typed_set : Names → Set → SetDecl
 typed_set names s =
-    record { name = s.name.name; pool = pool_in names s.pool; structure = set_structure names s s.view; except = typed_except names s.view }
+    record {
+      name = s.name.name;
+      pool = pool_in names s.pool;
+      structure = set_structure names s s.view;
+      except = typed_except names s.view;
+    }
 
 abbrev pub typed_source : Names → Var → ℕ
 typed_source names (vars.Head place) = 0
@@ -147,7 +179,15 @@ version_of n = if nat_eq n 2 then 2 else 1
 
 abbrev pub tables_with : Names → Structures
 tables_with names =
-    record { version = version_of names.tree.version.number; order = names.tree.order; head = unwrap_or (names.structure (codes "Head")) 0; structures = map (typed_structure names) names.tree.structures; pools = map (typed_pool names) names.tree.pools; sets = map (typed_set names) names.tree.sets; rels = map (typed_relation names) names.tree.relations }
+    record {
+      version = version_of names.tree.version.number;
+      order = names.tree.order;
+      head = unwrap_or (names.structure (codes "Head")) 0;
+      structures = map (typed_structure names) names.tree.structures;
+      pools = map (typed_pool names) names.tree.pools;
+      sets = map (typed_set names) names.tree.sets;
+      rels = map (typed_relation names) names.tree.relations;
+    }
 
 -- the tables of structures, pools, sets, relations and supplies
 abbrev pub tables : TreeShape → Structures

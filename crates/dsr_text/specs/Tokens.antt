@@ -157,7 +157,8 @@ abbrev pub EndsLine : List ℕ → Type 0
 EndsLine [] = Unit {0}
 EndsLine (b ∷ rest) = b ≡ 10
 
--- what stands at a place before the rest of a text, with its tokens: a blank, a comment from `#` to the end of its line, or a token
+-- what stands at a place before the rest of a text, with its tokens: a
+-- blank, a comment from `#` to the end of its line, or a token
 pub data Begins (second : Bool) (place : ℕ) : List ℕ → List ℕ → List Lexeme → Type 0 where
   a_blank : (b : ℕ) (rest : List ℕ) → IsTrue (is_blank b) → Begins second place (b ∷ []) rest []
   a_comment :

@@ -110,12 +110,14 @@ abbrev mutual
 
   pub more_factors_text : MoreFactorTrees → Phrase
   more_factors_text no_factors = silent
-  more_factors_text (more_factors sign factor rest) = (product_text sign ▸ factor_text factor) ▸ more_factors_text rest
+  more_factors_text (more_factors sign factor rest) = (product_text sign ▸ factor_text factor)
+      ▸ more_factors_text rest
 
   pub factor_text : FactorTree → Phrase
   factor_text (number_tree number) = number_text number
   factor_text (name_tree name) = name_text name
-  factor_text (group_tree place inner) = mark_at sign.OpenParenthesis place ▸ expr_text inner ▸ mark sign.CloseParenthesis
+  factor_text (group_tree place inner) = mark_at sign.OpenParenthesis place ▸ expr_text inner
+      ▸ mark sign.CloseParenthesis
 
 abbrev pub more_term_text : MoreTermTree → Phrase
 more_term_text more = sum_text more.sign ▸ term2_text more.term
@@ -160,7 +162,8 @@ measure_text (measures.Size size) = size_text size
 abbrev pub atom_text : Atom → Phrase
 atom_text (atoms.Count size bound number) = size_text size ▸ bound_text bound ▸ number_text number
 atom_text (atoms.Pair place first second relation) =
-    mark_at sign.Less place ▸ var_text first ▸ mark sign.Comma ▸ var_text second ▸ mark sign.Greater ▸ word keyword.In ▸ name_text relation
+    mark_at sign.Less place ▸ var_text first ▸ mark sign.Comma ▸ var_text second
+    ▸ mark sign.Greater ▸ word keyword.In ▸ name_text relation
 atom_text (atoms.Member var set) = var_text var ▸ word keyword.In ▸ name_text set
 atom_text (atoms.Value var relation compare measure) =
     var_text var ▸ mark sign.Dot ▸ name_text relation ▸ compare_text compare ▸ measure_text measure
@@ -183,7 +186,8 @@ abbrev mutual
   pub unit_text : UnitTree → Phrase
   unit_text (not_tree place unit) = word_at keyword.Not place ▸ unit_text unit
   unit_text (given_tree place unit) = word_at keyword.Given place ▸ unit_text unit
-  unit_text (parenthesized_tree place formula) = mark_at sign.OpenParenthesis place ▸ formula_text formula ▸ mark sign.CloseParenthesis
+  unit_text (parenthesized_tree place formula) = mark_at sign.OpenParenthesis place
+      ▸ formula_text formula ▸ mark sign.CloseParenthesis
   unit_text (atom_tree atom) = atom_text atom
 
 -- a join behind `or`
@@ -215,7 +219,9 @@ fixed_text place = word_at keyword.Fixed place
 
 abbrev pub named_field_text : NamedFieldTree → Phrase
 named_field_text f =
-    maybe_text fixed_text f.fixed ▸ width_text f.width ▸ name_text f.name ▸ maybe_text brackets_text f.length ▸ maybe_text content_text f.content ▸ mark sign.Semicolon
+    maybe_text fixed_text f.fixed ▸ width_text f.width ▸ name_text f.name
+    ▸ maybe_text brackets_text f.length ▸ maybe_text content_text f.content
+    ▸ mark sign.Semicolon
 
 abbrev pub field_text : FieldTree → Phrase
 field_text (named field) = named_field_text field
@@ -227,7 +233,8 @@ parent_text parent = word keyword.Extends ▸ name_text parent
 
 abbrev pub structure_text : StructureTree → Phrase
 structure_text s =
-    word_at keyword.Structure s.place ▸ name_text s.name ▸ maybe_text parent_text s.parent ▸ mark sign.OpenBrace ▸ in_turn field_text s.fields ▸ mark sign.CloseBrace
+    word_at keyword.Structure s.place ▸ name_text s.name ▸ maybe_text parent_text s.parent
+    ▸ mark sign.OpenBrace ▸ in_turn field_text s.fields ▸ mark sign.CloseBrace
 
 -- ---- pools, sets, relations, supplies
 
@@ -237,7 +244,10 @@ behind_text k e = word k ▸ expr_text e
 
 abbrev pub pool_text : PoolTree → Phrase
 pool_text p =
-    word_at keyword.Pool p.place ▸ name_text p.name ▸ mark sign.Colon ▸ name_text p.structure ▸ brackets_text p.count ▸ maybe_text (behind_text keyword.Slot) p.slot ▸ behind_text keyword.At p.start ▸ behind_text keyword.Codes p.code ▸ behind_text keyword.Step p.step ▸ behind_text keyword.None p.none ▸ mark sign.Semicolon
+    word_at keyword.Pool p.place ▸ name_text p.name ▸ mark sign.Colon ▸ name_text p.structure
+    ▸ brackets_text p.count ▸ maybe_text (behind_text keyword.Slot) p.slot
+    ▸ behind_text keyword.At p.start ▸ behind_text keyword.Codes p.code
+    ▸ behind_text keyword.Step p.step ▸ behind_text keyword.None p.none ▸ mark sign.Semicolon
 
 abbrev pub view_text : View → Phrase
 view_text (views.As place structure) = word_at keyword.As place ▸ name_text structure
@@ -245,7 +255,8 @@ view_text (views.Except place set) = word_at keyword.Except place ▸ name_text 
 
 abbrev pub set_text : Set → Phrase
 set_text s =
-    word_at keyword.Set s.place ▸ name_text s.name ▸ word keyword.Of ▸ name_text s.pool ▸ maybe_text view_text s.view ▸ mark sign.Semicolon
+    word_at keyword.Set s.place ▸ name_text s.name ▸ word keyword.Of ▸ name_text s.pool
+    ▸ maybe_text view_text s.view ▸ mark sign.Semicolon
 
 abbrev pub target_text : Target → Phrase
 target_text (targets.Number place) = word_at keyword.Number place
@@ -253,14 +264,16 @@ target_text (targets.Pool name) = name_text name
 
 abbrev pub relation_text : Relation → Phrase
 relation_text r =
-    word_at keyword.Relation r.place ▸ name_text r.name ▸ mark sign.Colon ▸ var_text r.source ▸ mark sign.Arrow ▸ target_text r.target ▸ mark sign.Semicolon
+    word_at keyword.Relation r.place ▸ name_text r.name ▸ mark sign.Colon ▸ var_text r.source
+    ▸ mark sign.Arrow ▸ target_text r.target ▸ mark sign.Semicolon
 
 abbrev pub more_name_text : PlacedName → Phrase
 more_name_text name = mark sign.Comma ▸ name_text name
 
 abbrev pub fresh_text : Fresh → Phrase
 fresh_text f =
-    word_at keyword.Fresh f.place ▸ name_text f.pool ▸ word keyword.Avoid ▸ name_text f.first ▸ in_turn more_name_text f.rest ▸ mark sign.Semicolon
+    word_at keyword.Fresh f.place ▸ name_text f.pool ▸ word keyword.Avoid ▸ name_text f.first
+    ▸ in_turn more_name_text f.rest ▸ mark sign.Semicolon
 
 -- ---- rules
 
@@ -318,12 +331,15 @@ member_text m = var_text m.var ▸ maybe_text member_part_text m.part
 
 abbrev pub inclusion_text : Inclusion → Phrase
 inclusion_text (inclusions.Pair place term path relation) =
-    mark_at sign.Less place ▸ term_text term ▸ mark sign.Comma ▸ path_text path ▸ mark sign.Greater ▸ word keyword.In ▸ name_text relation
+    mark_at sign.Less place ▸ term_text term ▸ mark sign.Comma ▸ path_text path
+    ▸ mark sign.Greater ▸ word keyword.In ▸ name_text relation
 inclusion_text (inclusions.Member member set) = member_text member ▸ word keyword.In ▸ name_text set
 
 abbrev pub rule_text : Rule → Phrase
 rule_text r =
-    word_at keyword.Rule r.place ▸ premise_text r.premise ▸ maybe_text span_text r.span ▸ maybe_text guards_text r.guards ▸ mark sign.Gives ▸ inclusion_text r.inclusion ▸ mark sign.Semicolon
+    word_at keyword.Rule r.place ▸ premise_text r.premise ▸ maybe_text span_text r.span
+    ▸ maybe_text guards_text r.guards ▸ mark sign.Gives ▸ inclusion_text r.inclusion
+    ▸ mark sign.Semicolon
 
 -- ---- constraints
 
@@ -338,7 +354,8 @@ quantifier_text q =
 
 abbrev pub constraint_text : ConstraintTree → Phrase
 constraint_text c =
-    word_at keyword.Constraint c.place ▸ name_text c.name ▸ mark sign.Colon ▸ maybe_text quantifier_text c.quantifier ▸ formula_text c.formula ▸ mark sign.Semicolon
+    word_at keyword.Constraint c.place ▸ name_text c.name ▸ mark sign.Colon
+    ▸ maybe_text quantifier_text c.quantifier ▸ formula_text c.formula ▸ mark sign.Semicolon
 
 -- ---- a whole tree
 
@@ -358,4 +375,7 @@ order_text order = word keyword.Order ▸ endian_text order ▸ mark sign.Semico
 
 abbrev pub tree_text : TreeShape → Phrase
 tree_text t =
-    version_text t ▸ order_text t.order ▸ in_turn structure_text t.structures ▸ in_turn pool_text t.pools ▸ in_turn set_text t.sets ▸ in_turn relation_text t.relations ▸ in_turn fresh_text t.supplies ▸ in_turn rule_text t.rules ▸ in_turn constraint_text t.constraints
+    version_text t ▸ order_text t.order ▸ in_turn structure_text t.structures
+    ▸ in_turn pool_text t.pools ▸ in_turn set_text t.sets ▸ in_turn relation_text t.relations
+    ▸ in_turn fresh_text t.supplies ▸ in_turn rule_text t.rules
+    ▸ in_turn constraint_text t.constraints

@@ -35,7 +35,8 @@ abbrev pub StepsOn : List Lexeme → List Lexeme → List ℕ → ℕ → Result
 StepsOn old new text place (Ok (Some next)) = Steps old new text place next
 StepsOn old new text place (Ok None) =
     (new ≡ old)
-    × ((bytes rest : List ℕ) (found : List Lexeme) → Begins (is_second_version old) place bytes rest found → drop place text ≢ bytes ++ rest)
+    × ((bytes rest : List ℕ) (found : List Lexeme)
+    → Begins (is_second_version old) place bytes rest found → drop place text ≢ bytes ++ rest)
 StepsOn old new text place (Err _) = Unit {0}
 
 -- the tokens of a text, or those before the place of its first bytes that are none

@@ -28,7 +28,8 @@ fn behind_name(alloc: Global, mut given: Args) -> Result<Vec<String>, AllocError
 // The program's words. They are none where the system refuses them, as where one isn't text.
 fn words_of(alloc: Global, given: io::Result<Args>) -> Result<Vec<String>, AllocError>
     ensures given { IfOk given (λ all. IfOk result (λ words. words.items ≡ drop 1 (into_iter_items all))) }
-    ensures refused { IfErr given (λ e. error_kind e ≢ ErrorKind.OutOfMemory → IsOkAnd result (λ words. words.items ≡ [])) }
+    ensures refused { IfErr given
+        (λ e. error_kind e ≢ ErrorKind.OutOfMemory → IsOkAnd result (λ words. words.items ≡ [])) }
     ensures no_memory { IfErr given (λ e. error_kind e ≡ ErrorKind.OutOfMemory → IsErr result) }
 {
     match given {

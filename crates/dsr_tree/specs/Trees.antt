@@ -123,11 +123,13 @@ mutual
 -- the shape of a formula
 abbrev mutual
   pub formula_shape : Formula → FormulaTree
-  formula_shape (Formula' first room units place joins) = formula_tree (join_tree (unit_shape first) (units_shape units)) (joins_shape joins)
+  formula_shape (Formula' first room units place joins) =
+      formula_tree (join_tree (unit_shape first) (units_shape units)) (joins_shape joins)
 
   pub joins_shape : {n : _} → Row_of-Join n → JoinTrees
   joins_shape end_of-Join = no_joins
-  joins_shape (more_of-Join first room units rest) = more_joins (join_tree (unit_shape first) (units_shape units)) (joins_shape rest)
+  joins_shape (more_of-Join first room units rest) =
+      more_joins (join_tree (unit_shape first) (units_shape units)) (joins_shape rest)
 
   pub units_shape : {n : _} → Row_of-Unit n → UnitTrees
   units_shape end_of-Unit = no_units
@@ -168,7 +170,13 @@ pub data FieldTree : Type 0 where
 
 abbrev pub named_shape : NamedField → NamedFieldTree
 named_shape f =
-    record { fixed = f.fixed; width = f.width; name = f.name; length = option_map expr_shape f.length; content = f.content }
+    record {
+      fixed = f.fixed;
+      width = f.width;
+      name = f.name;
+      length = option_map expr_shape f.length;
+      content = f.content;
+    }
 
 -- the shape of a field
 abbrev pub field_shape : Field → FieldTree
@@ -202,7 +210,17 @@ pub record PoolTree : Type 0 where
 -- the shape of a pool
 abbrev pub pool_shape : Pool → PoolTree
 pool_shape p =
-    record { place = p.place; name = p.name; structure = p.structure; count = expr_shape p.count; slot = option_map expr_shape p.slot; start = expr_shape p.start; code = expr_shape p.code; step = expr_shape p.step; none = expr_shape p.none }
+    record {
+      place = p.place;
+      name = p.name;
+      structure = p.structure;
+      count = expr_shape p.count;
+      slot = option_map expr_shape p.slot;
+      start = expr_shape p.start;
+      code = expr_shape p.code;
+      step = expr_shape p.step;
+      none = expr_shape p.none;
+    }
 
 -- a constraint
 pub record ConstraintTree : Type 0 where
@@ -232,4 +250,15 @@ pub record TreeShape : Type 0 where
 -- the shape of a tree
 abbrev pub tree_shape : Tree → TreeShape
 tree_shape t =
-    record { place = t.place; version = t.version; order = t.order; structures = map structure_shape t.structures; pools = map pool_shape t.pools; sets = t.sets; relations = t.relations; supplies = t.supplies; rules = t.rules; constraints = map constraint_shape t.constraints }
+    record {
+      place = t.place;
+      version = t.version;
+      order = t.order;
+      structures = map structure_shape t.structures;
+      pools = map pool_shape t.pools;
+      sets = t.sets;
+      relations = t.relations;
+      supplies = t.supplies;
+      rules = t.rules;
+      constraints = map constraint_shape t.constraints;
+    }

@@ -6,23 +6,13 @@ use Rattle.dsr_ir.specs.declared.constraints.Constraint.{Constraint}
 use Rattle.dsr_ir.specs.declared.declarations.Spec.{Spec}
 use Rattle.dsr_ir.specs.declared.tuples.Binding.{Binding}
 use Rattle.dsr_ir.specs.declared.tuples.Fact.{Fact}
+use Rattle.dsr_meaning.proofs.Lists.{in_front, last_in}
 use Rattle.dsr_meaning.proofs.Ordered.{bindings_apart, bindings_one_way}
-use Rattle.dsr_meaning.specs.Consistency.{AreInOrder, AreViolations, BoundConstraint, Comes, IsBinding, IsViolated}
+use Rattle.dsr_meaning.specs.Consistency.{AreInOrder, AreViolations, BoundConstraint, bound_constraint, Comes, IsBinding, IsViolated}
 use Rattle.dsr_meaning.specs.Counting.{IsIn}
 use Rattle.dsr_meaning.specs.Orders.{BindingPrecedes}
 use Rattle.dsr_truth.proofs.Ordering.{bindings_follow}
-use Rattle.dsr_truth.specs.Walks.{AreFound, FindsLeastBinding, IsLaterBinding, IsLeastBinding, IsPassed, IsUnsatisfied, IsViolatedAt, bound}
-
--- ---- lists
-
-in_front : {A : Type 0} (x : A) (xs ys : List A) → IsIn x xs → IsIn x (xs ++ ys)
-in_front x [] ys here = absurd here
-in_front x (y ∷ xs) ys (inl same) = inl same
-in_front x (y ∷ xs) ys (inr later) = inr (in_front x xs ys later)
-
-last_in : {A : Type 0} (x : A) (xs : List A) → IsIn x (xs ++ x ∷ [])
-last_in x [] = inl refl
-last_in x (y ∷ xs) = inr (last_in x xs)
+use Rattle.dsr_truth.specs.Walks.{AreFound, FindsLeastBinding, IsLaterBinding, IsLeastBinding, IsPassed, IsUnsatisfied, IsViolatedAt}
 
 in_either : {A : Type 0} (x z : A) (xs : List A) → IsIn x (xs ++ z ∷ []) → IsIn x xs ⊎ (x ≡ z)
 in_either x z [] (inl same) = inr same
@@ -59,14 +49,14 @@ module _ (is_fact : Fact → Type 0) (spec : Spec) (k : ℕ) (c : Constraint)
       some_once : {x y : Constraint} → Some x ≡ Some y → x ≡ y
       some_once e = cc
 
-  pub is_violated : (b : Binding) → IsViolatedAt is_fact c b → IsViolated is_fact spec (bound (k, b))
+  pub is_violated : (b : Binding) → IsViolatedAt is_fact c b → IsViolated is_fact spec (bound_constraint (k, b))
   is_violated b at = record { constraint = c; declared = declared; is_binding = at.0; no_conjunction = at.1 }
 
   module _ (last : Option Binding) (b : Binding)
       (next : IsLeastBinding (IsLaterBinding is_fact c.quant last) b) where
     -- what was passed up to the next binding is that binding, or was passed before
     passed_before : (v : BoundConstraint) → IsViolated is_fact spec v → IsPassed k (Some b) v
-        → (v ≡ bound (k, b)) ⊎ IsPassed k last v
+        → (v ≡ bound_constraint (k, b)) ⊎ IsPassed k last v
     passed_before v violated (inl less) = inr (earlier last v less)
       where
         earlier : (o : Option Binding) (v : BoundConstraint) → v.constraint < k → IsPassed k o v
@@ -76,7 +66,7 @@ module _ (is_fact : Fact → Type 0) (spec : Spec) (k : ℕ) (c : Constraint)
         elim (bindings_apart b v.binding) [
           | inl after ↦ absurd (here.1 after)
           | inr other ↦ elim other [
-            | inl same ↦ inl (ap (λ n. record v { constraint = n }) here.0 ∙ ap (λ x. bound (k, x)) (sym same))
+            | inl same ↦ inl (ap (λ n. record v { constraint = n }) here.0 ∙ ap (λ x. bound_constraint (k, x)) (sym same))
             | inr before ↦ inr (was_passed last next before)
           ]
         ]
@@ -98,11 +88,11 @@ module _ (is_fact : Fact → Type 0) (spec : Spec) (k : ℕ) (c : Constraint)
         by_last (Some a) least v (inr here) =
             inr (here.0, λ after. here.1 (bindings_follow a b v.binding least.of_kind.1 after))
 
-    comes_before : (v : BoundConstraint) → IsPassed k last v → Comes v (bound (k, b))
+    comes_before : (v : BoundConstraint) → IsPassed k last v → Comes v (bound_constraint (k, b))
     comes_before v passed = by_last last next v passed
       where
         by_last : (o : Option Binding) → IsLeastBinding (IsLaterBinding is_fact c.quant o) b
-            → (v : BoundConstraint) → IsPassed k o v → Comes v (bound (k, b))
+            → (v : BoundConstraint) → IsPassed k o v → Comes v (bound_constraint (k, b))
         by_last None least v less = inl less
         by_last (Some a) least v (inl less) = inl less
         by_last (Some a) least v (inr here) =
@@ -126,7 +116,7 @@ module _ (is_fact : Fact → Type 0) (spec : Spec) (k : ℕ) (c : Constraint)
       all = λ v violated passed. elim (passed_before v violated passed) [
         | inl here ↦
             let itself = subst (IsViolated is_fact spec) here violated in
-            absurd (satisfied (violated_at (bound (k, b)) refl itself).1)
+            absurd (satisfied (violated_at (bound_constraint (k, b)) refl itself).1)
         | inr before ↦ found.all v violated before
       ];
       only = found.only;
@@ -135,18 +125,18 @@ module _ (is_fact : Fact → Type 0) (spec : Spec) (k : ℕ) (c : Constraint)
 
     -- it doesn't
     pub found_more : (vs : List BoundConstraint) → AreFound is_fact spec k last vs → IsUnsatisfied is_fact b c
-        → AreFound is_fact spec k (Some b) (vs ++ bound (k, b) ∷ [])
+        → AreFound is_fact spec k (Some b) (vs ++ bound_constraint (k, b) ∷ [])
     found_more vs found unsatisfied = record {
-      in_order = order_more vs (bound (k, b)) found.in_order (λ w here. comes_before w (found.passed w here));
+      in_order = order_more vs (bound_constraint (k, b)) found.in_order (λ w here. comes_before w (found.passed w here));
       all = λ v violated passed. elim (passed_before v violated passed) [
-        | inl here ↦ subst (λ x. IsIn x (vs ++ bound (k, b) ∷ [])) (sym here) (last_in (bound (k, b)) vs)
-        | inr before ↦ in_front v vs (bound (k, b) ∷ []) (found.all v violated before)
+        | inl here ↦ subst (λ x. IsIn x (vs ++ bound_constraint (k, b) ∷ [])) (sym here) (last_in (bound_constraint (k, b)) vs)
+        | inr before ↦ in_front v vs (bound_constraint (k, b) ∷ []) (found.all v violated before)
       ];
-      only = λ v here. elim (in_either v (bound (k, b)) vs here) [
+      only = λ v here. elim (in_either v (bound_constraint (k, b)) vs here) [
         | inl front ↦ found.only v front
         | inr last ↦ subst (IsViolated is_fact spec) (sym last) (is_violated b (next.of_kind.0, unsatisfied))
       ];
-      passed = λ v here. elim (in_either v (bound (k, b)) vs here) [
+      passed = λ v here. elim (in_either v (bound_constraint (k, b)) vs here) [
         | inl front ↦ still_passed v (found.passed v front)
         | inr last ↦ inr (
           ap (λ x. x.constraint) last,

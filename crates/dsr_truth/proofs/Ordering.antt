@@ -11,6 +11,7 @@ use Rattle.dsr_ir.specs.declared.updates.Symbol.TheVariants.{Set, Rel}
 use Rattle.dsr_given.specs.Shapes.{target_in}
 use Rattle.dsr_meaning.specs.Looking.{FindsNextFact, Follows, IsLater, IsOf}
 use Rattle.dsr_meaning.specs.Orders.{BindingPrecedes, Precedes}
+use Rattle.dsr_model.proofs.Found.{symbol_same}
 use Rattle.dsr_model.specs.Facts.{IsInModel, MayBeOf, facts_after}
 use Rattle.dsr_model.specs.Views.{ModelView}
 use Rattle.dsr_relations.specs.Tuples.{IsInPools}
@@ -58,9 +59,6 @@ bindings_follow (bindings.Pair a x) (bindings.Pair b y) (bindings.Pair c z) p q 
 
 abbrev member : ℕ → Element → Fact
 member set e = Member set e
-
-symbol_same : (s set : ℕ) → Set s ≡ Set set → s ≡ set
-symbol_same s set e = cc
 
 relation_same : (r rel : ℕ) → Rel r ≡ Rel rel → r ≡ rel
 relation_same r rel e = cc

@@ -8,11 +8,11 @@ use Rattle.dsr_ir.specs.declared.declarations.Spec.{Spec}
 use Rattle.dsr_ir.specs.declared.tuples.Binding.{Binding}
 use Rattle.dsr_ir.specs.declared.tuples.Fact.{Fact}
 use Rattle.dsr_meaning.proofs.Ordered.{bindings_apart, bindings_one_way}
-use Rattle.dsr_meaning.specs.Consistency.{BoundConstraint, IsFirstViolated, IsViolated, NoneIsViolated, NoneIsViolatedBefore}
+use Rattle.dsr_meaning.specs.Consistency.{BoundConstraint, IsFirstViolated, IsViolated, NoneIsViolated, NoneIsViolatedBefore, bound_constraint}
 use Rattle.dsr_meaning.specs.Orders.{BindingPrecedes}
 use Rattle.dsr_truth.proofs.Finding.{is_violated, violated_at}
 use Rattle.dsr_truth.proofs.Ordering.{bindings_follow}
-use Rattle.dsr_truth.specs.Walks.{ComesAfter, FindsLeastBinding, IsLaterBinding, IsLaterViolated, IsLeastBinding, IsUnsatisfied, IsViolatedAt, IsViolatedFrom, IsViolatedOf, bound}
+use Rattle.dsr_truth.specs.Walks.{ComesAfter, FindsLeastBinding, IsLaterBinding, IsLaterViolated, IsLeastBinding, IsUnsatisfied, IsViolatedAt, IsViolatedFrom, IsViolatedOf}
 
 -- ---- one constraint
 
@@ -63,7 +63,7 @@ not_declared is_fact spec k none b is =
 module _ (is_fact : Fact → Type 0) (spec : Spec) (k : ℕ) (c : Constraint)
     (declared : slice_get spec.constraints k ≡ Some c) where
   at : (b : Binding) → IsViolatedOf is_fact spec k b → IsViolatedAt is_fact c b
-  at b is = violated_at is_fact spec k c declared (bound (k, b)) refl is
+  at b is = violated_at is_fact spec k c declared (bound_constraint (k, b)) refl is
 
   of : (b : Binding) → IsViolatedAt is_fact c b → IsViolatedOf is_fact spec k b
   of b is = is_violated is_fact spec k c declared b is
@@ -137,7 +137,7 @@ module _ (is_fact : Fact → Type 0) (spec : Spec) (order : List ℕ) where
 
     pub order_finds : (b : Binding) → NonePassed is_fact spec order i
         → IsLeastBinding (IsViolatedOf is_fact spec number) b
-        → IsFirstViolated is_fact spec order (bound (number, b))
+        → IsFirstViolated is_fact spec order (bound_constraint (number, b))
     order_finds b passed least = record {
       violated = least.of_kind;
       at = i;
@@ -149,10 +149,10 @@ module _ (is_fact : Fact → Type 0) (spec : Spec) (order : List ℕ) where
     module _ (binding : Binding) (before : NoneIsViolatedBefore is_fact spec order i binding) where
       -- a violated binding of this constraint doesn't come before the one at which the search begins
       not_before : (x : Binding) → IsViolatedOf is_fact spec number x → BindingPrecedes x binding → ⊥
-      not_before x is less = before i (bound (number, x)) here (inr (refl, less)) is
+      not_before x is less = before i (bound_constraint (number, x)) here (inr (refl, less)) is
 
       pub from_finds : (b : Binding) → IsLeastBinding (IsViolatedFrom is_fact spec number binding) b
-          → IsFirstViolated is_fact spec order (bound (number, b))
+          → IsFirstViolated is_fact spec order (bound_constraint (number, b))
       from_finds b least = record {
         violated = least.of_kind.0;
         at = i;
@@ -180,9 +180,9 @@ module _ (is_fact : Fact → Type 0) (spec : Spec) (order : List ℕ) where
 
         pub from_rest : (answer : Option (ℕ × Binding))
             → MatchOption answer (NoneIsViolated is_fact spec rest)
-            (λ v. IsFirstViolated is_fact spec rest (bound v))
+            (λ v. IsFirstViolated is_fact spec rest (bound_constraint v))
             → MatchOption answer (NoneIsViolated is_fact spec order)
-            (λ v. IsFirstViolated is_fact spec order (bound v))
+            (λ v. IsFirstViolated is_fact spec order (bound_constraint v))
         from_rest None later = λ k w placed is. elim (cases_lt k (i + 1)) [
           | inl early ↦ none_up_to k w placed early is
           | inr late ↦ later (k - (i + 1)) w (in_rest k w placed late) is

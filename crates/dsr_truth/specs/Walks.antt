@@ -12,7 +12,7 @@ use Rattle.dsr_ir.specs.declared.tuples.Fact.{Fact}
 use Rattle.dsr_ir.specs.declared.tuples.Fact.TheVariants.{Member, Pair}
 use Rattle.dsr_ir.specs.declared.tuples.Target.TheVariants.{Elem}
 use Rattle.dsr_ir.specs.declared.updates.Symbol.TheVariants.{Set, Rel}
-use Rattle.dsr_meaning.specs.Consistency.{AreInOrder, BoundConstraint, ConjHolds, IsBinding, IsViolated}
+use Rattle.dsr_meaning.specs.Consistency.{AreInOrder, BoundConstraint, ConjHolds, IsBinding, IsViolated, bound_constraint}
 use Rattle.dsr_meaning.specs.Counting.{IsIn}
 use Rattle.dsr_meaning.specs.Orders.{BindingPrecedes}
 use Rattle.dsr_model.specs.Facts.{MayBeOf, facts_after}
@@ -90,12 +90,9 @@ bindings_after m (quants.Pairs rel) (Some _) = 0
 
 -- ---- lists of violated bindings
 
-abbrev pub bound : ℕ × Binding → BoundConstraint
-bound v = record { constraint = v.0; binding = v.1 }
-
 -- the binding of the constraint with this number is violated
 abbrev pub IsViolatedOf : (Fact → Type 0) → Spec → ℕ → Binding → Type 0
-IsViolatedOf is_fact spec number b = IsViolated is_fact spec (bound (number, b))
+IsViolatedOf is_fact spec number b = IsViolated is_fact spec (bound_constraint (number, b))
 
 -- and doesn't come before this one
 abbrev pub IsViolatedFrom : (Fact → Type 0) → Spec → ℕ → Binding → Binding → Type 0

@@ -1,8 +1,8 @@
 // The violated bindings of constraints.
 ghost use Rattle.std.specs.Prelude.{◌≡◌, ◌<◌, ◌≤◌, ◌+◌, ◌↔◌, None, Some, true, map, length, slice_get, slice_index, IfOk, IfSome, IsTrue, MatchOption};
-ghost use Rattle.dsr_meaning.specs.Consistency.{AreViolations, IsFirstViolated, NoneIsViolated, NoneIsViolatedBefore};
+ghost use Rattle.dsr_meaning.specs.Consistency.{AreViolations, IsFirstViolated, NoneIsViolated, NoneIsViolatedBefore, bound_constraint};
 ghost use Rattle.dsr_model.specs.Facts.{IsInModel};
-ghost use Rattle.dsr_truth.specs.Walks.{AreFound, FindsLeastBinding, IsLaterViolated, IsViolatedAt, IsViolatedFrom, IsViolatedOf, MayBind, bound};
+ghost use Rattle.dsr_truth.specs.Walks.{AreFound, FindsLeastBinding, IsLaterViolated, IsViolatedAt, IsViolatedFrom, IsViolatedOf, MayBind};
 
 use crate::literals::is_satisfied;
 use crate::walks::{is_binding, next_binding};
@@ -38,9 +38,10 @@ fn constraint_violations(
 ) -> Result<(), NoMemory>
     requires ordered { model.now.ordered ≡ true }
     requires declared { slice_get spec.now.constraints number ≡ Some constraint.now }
-    requires before { AreFound (IsInModel model.now) spec.now number None (map bound found.old.items) }
+    requires before { AreFound (IsInModel model.now) spec.now number None
+        (map bound_constraint found.old.items) }
     ensures { IfOk result (λ _. AreFound (IsInModel model.now) spec.now (number + 1) None
-        (map bound found.new.items)) }
+        (map bound_constraint found.new.items)) }
 {
     let mut last = None;
     let mut near = 0;
@@ -63,7 +64,7 @@ pub fn violations(
 ) -> Result<Vec<(u32, Binding)>, NoMemory>
     requires ordered { model.now.ordered ≡ true }
     requires few { length spec.now.constraints ≤ 128 }
-    ensures { IfOk result (λ vs. AreViolations (IsInModel model.now) spec.now (map bound vs.items)) }
+    ensures { IfOk result (λ vs. AreViolations (IsInModel model.now) spec.now (map bound_constraint vs.items)) }
 {
     let mut found = Vec::new(alloc);
     for (number, constraint) in spec.constraints.items().iter().enumerate() {
@@ -86,7 +87,7 @@ fn first_of(model: &Model, spec: &Spec, number: u32) -> Option<Binding>
 pub fn first_violated(model: &Model, spec: &Spec, order: &[u32]) -> Option<(u32, Binding)>
     requires ordered { model.now.ordered ≡ true }
     ensures { MatchOption result (NoneIsViolated (IsInModel model.now) spec.now order.now)
-        (λ v. IsFirstViolated (IsInModel model.now) spec.now order.now (bound v)) }
+        (λ v. IsFirstViolated (IsInModel model.now) spec.now order.now (bound_constraint v)) }
 {
     for number in order {
         if let Some(binding) = first_of(model, spec, *number) {
@@ -118,8 +119,8 @@ fn first_of_from(model: &Model, spec: &Spec, number: u32, binding: &Binding) -> 
     next_violated(model, constraint, Some(*binding))
 }
 
-/// As `first_violated`, where nothing is violated before a binding of the constraint at a place of the order: the
-/// search begins there.
+/// As `first_violated`, where nothing is violated before a binding of the constraint at a place of
+/// the order: the search begins there.
 pub fn first_from(
     model: &Model,
     spec: &Spec,
@@ -133,7 +134,7 @@ pub fn first_from(
         (λ constraint. MayBind model.now constraint.quant binding.now) }
     requires before { NoneIsViolatedBefore (IsInModel model.now) spec.now order.now at binding.now }
     ensures { MatchOption result (NoneIsViolated (IsInModel model.now) spec.now order.now)
-        (λ v. IsFirstViolated (IsInModel model.now) spec.now order.now (bound v)) }
+        (λ v. IsFirstViolated (IsInModel model.now) spec.now order.now (bound_constraint v)) }
 {
     let number = order[at];
     if let Some(found) = first_of_from(model, spec, number, binding) {

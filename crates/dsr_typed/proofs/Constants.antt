@@ -22,6 +22,7 @@ use Rattle.dsr_meaning.specs.Cells.{width_bits}
 use Rattle.dsr_meaning.specs.Instances.{declared_field}
 use Rattle.dsr_meaning.specs.Typed.{FitsValues}
 use Rattle.dsr_meaning.proofs.Empty.{both_empty}
+use Rattle.dsr_meaning.proofs.Firing.{some_same}
 use Rattle.dsr_text.specs.Names.{is_at}
 use Rattle.dsr_text.proofs.Absent.{when_absent}
 use Rattle.dsr_typing.specs.Known.{known_in, is_nil, relation_named, field_is}
@@ -35,9 +36,6 @@ use Rattle.dsr_typed.proofs.Items.{made_in, none_of, each_in}
 use Rattle.dsr_typed.proofs.RulePaths.{second_fails, path_here}
 use Rattle.dsr_typed.proofs.RuleScopes.{FieldHere, tested, place_here, Grounded, scope_in, premise_in}
 use Rattle.dsr_typed.proofs.TypedRules.{sound_rule}
-
-some_same : {A : Type 0} (o : Option A) (a b : A) → o ≡ Some a → o ≡ Some b → a ≡ b
-some_same o a b p q = let both : Some a ≡ Some b = sym p ∙ q in cc
 
 -- a pair gives facts of its relation, with the target that its path reads
 pair_gives : (scope : Scope) (term : Term) (n rel : ℕ) (p : TypedPath) → gives (symbols.Rel rel) (typed_pair scope term n p) ≡ nat_eq n rel

@@ -10,4 +10,8 @@ use Rattle.dsr_typing.specs.TypedRules.{typed_rules}
 
 abbrev pub meant : Structures → List Rule → List ConstraintTree → Spec
 meant base rules constraints =
-    record { base = base; rules = typed_rules (known_in base) rules; constraints = typed_constraints (known_in base) constraints }
+    record {
+      base = base;
+      rules = typed_rules (known_in base) rules;
+      constraints = typed_constraints (known_in base) constraints;
+    }

@@ -13,7 +13,8 @@ ghost use Rattle.dsr_typed.specs.Meant.{meant};
 /// Over typed tables and rules without faults, constraints without faults are typed, there are few, and
 /// they have different names.
 pub fn constraints_without_faults_are_typed()
-    ensures typed { (base : Structures) (rules : List Rule) (constraints : List ConstraintTree) → AreTyped base →
+    ensures typed { (base : Structures) (rules : List Rule) (constraints : List ConstraintTree) →
+        AreTyped base →
         rules_faults (known_in base) rules ≡ [] → constraints_faults (known_in base) rules constraints ≡ [] →
         All (IsTypedConstraint (meant base rules constraints)) (meant base rules constraints).constraints }
     ensures few { (base : Structures) (rules : List Rule) (constraints : List ConstraintTree) →

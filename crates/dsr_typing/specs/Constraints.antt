@@ -80,14 +80,17 @@ quantifier_faults known (Some q) =
 
 -- ---- sizes
 
--- the names of a size that stand for nothing: at b in `size(a.b)` where a is a variable or a relation, and otherwise at a
+-- the names of a size that stand for nothing: at b in `size(a.b)`
+-- where a is a variable or a relation, and otherwise at a
 abbrev pub size_names : Scope → VarTree → Option PlacedName → List Fault
 size_names scope (var_trees.Head place) None = []
 size_names scope (var_trees.Name a) None = unknown (scope.known.set a.name) a
 size_names scope (var_trees.Head place) (Some b) = unknown (scope.known.relation b.name) b
 size_names scope (var_trees.Name a) (Some b) =
     if counts_targets scope (var_trees.Name a) b || counts_sources scope (var_trees.Name a) b then []
-    else when true conditions.UnknownName (if is_some (named_variable scope.binder a.name) || is_some (scope.known.relation a.name) then b.place else a.place)
+    else when true conditions.UnknownName
+    (if is_some (named_variable scope.binder a.name) || is_some (scope.known.relation a.name)
+    then b.place else a.place)
 
 -- a relation has another source than a variable, or other targets
 abbrev pub has_other_source : Option Rel → Option ℕ → Bool
@@ -170,11 +173,13 @@ atom_place (atoms.Value var relation compare measure) = rules.var_place var
 abbrev pub atom_names : Scope → Atom → List Fault
 atom_names scope (atoms.Count size bound number) = size_names scope size.var size.part
 atom_names scope (atoms.Pair place first second relation) =
-    variable_faults scope first ++ (variable_faults scope second ++ unknown (scope.known.relation relation.name) relation)
+    variable_faults scope first
+    ++ (variable_faults scope second ++ unknown (scope.known.relation relation.name) relation)
 atom_names scope (atoms.Member var set) =
     variable_faults scope var ++ unknown (scope.known.set set.name) set
 atom_names scope (atoms.Value var relation compare measure) =
-    variable_faults scope var ++ (unknown (scope.known.relation relation.name) relation ++ measure_names scope measure)
+    variable_faults scope var
+    ++ (unknown (scope.known.relation relation.name) relation ++ measure_names scope measure)
 
 -- a relation has another source than the first variable, or other targets than the second
 abbrev pub pairs_others : Scope → VarTree → VarTree → Option Rel → Bool

@@ -39,7 +39,10 @@ has_field_name q f = not (is_gap f.kind) && bytes_eq f.name q
 -- the field that a structure itself declares under a name
 abbrev pub own_field : Structures → List ℕ → ℕ → Option FieldRef
 own_field base q i =
-    option_and_then (λ s. option_map (λ k. record { structure = i; field = k }) (position_from (has_field_name q) 0 s.fields)) (slice_get base.structures i)
+    option_and_then
+    (λ s. option_map (λ k. record { structure = i; field = k })
+    (position_from (has_field_name q) 0 s.fields))
+    (slice_get base.structures i)
 
 -- the first of several structures to declare a field of this name
 abbrev pub first_field : Structures → List ℕ → List ℕ → Option FieldRef

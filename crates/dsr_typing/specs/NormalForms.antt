@@ -21,11 +21,14 @@ abbrev pub joined : List (List Literal) → List (List Literal) → List (List L
 joined [] right = []
 joined (first ∷ left) right = map (λ d. first ++ d) right ++ joined left right
 
--- the conjunctions of a formula under an odd number of `not` or an even one, and under `given` or not; nothing is removed
+-- the conjunctions of a formula under an odd number of `not` or
+-- an even one, and under `given` or not; nothing is removed
 abbrev mutual
   pub distributed : (negated given : Bool) → FormulaShape → List (List Literal)
-  distributed negated given (AnyOf parts) = if negated then every_row negated given parts else any_row negated given parts
-  distributed negated given (EveryOf parts) = if negated then any_row negated given parts else every_row negated given parts
+  distributed negated given (AnyOf parts) = if negated then every_row negated given parts
+      else any_row negated given parts
+  distributed negated given (EveryOf parts) = if negated then any_row negated given parts
+      else every_row negated given parts
   distributed negated given (NotOf part) = distributed (not negated) given part
   distributed negated given (GivenOf part) = distributed negated true part
   distributed negated given (LeafOf atom) = (record { atom = atom; negated = negated; given = given } ∷ []) ∷ []
@@ -38,7 +41,8 @@ abbrev mutual
   -- one of each part, joined in every way
   pub every_row : (negated given : Bool) → FormulaShapes → List (List Literal)
   every_row negated given NoneOf = [] ∷ []
-  every_row negated given (MoreOf first rest) = joined (distributed negated given first) (every_row negated given rest)
+  every_row negated given (MoreOf first rest) =
+      joined (distributed negated given first) (every_row negated given rest)
 
 abbrev pub conj_of : List Literal → Conj
 conj_of literals = record { literals = literals }

@@ -114,11 +114,19 @@ path_faults scope p =
 abbrev pub guard_faults : Scope → Guard → List Fault
 guard_faults scope (guards.Tested place test path) =
     path_faults scope path
-    ++ when (is_other_head scope path.var || field_is scope.known.base is_number (path_field scope path.var path.field)) conditions.PoolMismatch place
+    ++ when
+    (is_other_head scope path.var
+    || field_is scope.known.base is_number (path_field scope path.var path.field))
+    conditions.PoolMismatch place
 guard_faults scope (guards.Compared path compare number) =
     path_faults scope path
-    ++ (when (is_other_head scope path.var || field_is scope.known.base is_reference (path_field scope path.var path.field)) conditions.PoolMismatch (var_place path.var)
-    ++ when (field_is scope.known.base (is_too_narrow number.number) (path_field scope path.var path.field)) conditions.Width number.place)
+    ++ (when
+    (is_other_head scope path.var
+    || field_is scope.known.base is_reference (path_field scope path.var path.field))
+    conditions.PoolMismatch (var_place path.var)
+    ++ when
+    (field_is scope.known.base (is_too_narrow number.number) (path_field scope path.var path.field))
+    conditions.Width number.place)
 
 -- ---- inclusions
 
@@ -160,7 +168,8 @@ abbrev pub relates_others : Scope → Term → Path → Option Rel → Bool
 relates_others scope term path None = false
 relates_others scope term path (Some r) =
     disagree (Some r.source) (term_pool scope term)
-    || field_is scope.known.base (λ f. is_other_target (kind_pool f.kind) r.target) (path_field scope path.var path.field)
+    || field_is scope.known.base (λ f. is_other_target (kind_pool f.kind) r.target)
+    (path_field scope path.var path.field)
 
 abbrev pub pair_mismatches : Scope → Term → Path → Option Rel → Bool
 pair_mismatches scope term path rel =
@@ -199,7 +208,8 @@ inclusion_place (inclusions.Member member set) = var_place member.var
 -- the names of an inclusion that stand for nothing
 abbrev pub inclusion_names : Scope → Inclusion → List Fault
 inclusion_names scope (inclusions.Pair place term path relation) =
-    unknown (scope.known.relation relation.name) relation ++ (term_names scope term ++ path_names scope path.var path.field)
+    unknown (scope.known.relation relation.name) relation
+    ++ (term_names scope term ++ path_names scope path.var path.field)
 inclusion_names scope (inclusions.Member member set) =
     unknown (plain_set scope.known set.name) set ++ member_names scope member.var member.part
 
@@ -220,7 +230,8 @@ abbrev pub inclusion_faults : Scope → Inclusion → List Fault
 inclusion_faults scope inc =
     inclusion_names scope inc
     ++ (inclusion_indexes scope inc
-    ++ when (is_nil (inclusion_names scope inc) && inclusion_mismatches scope inc) conditions.PoolMismatch (inclusion_place inc))
+    ++ when (is_nil (inclusion_names scope inc) && inclusion_mismatches scope inc)
+    conditions.PoolMismatch (inclusion_place inc))
 
 -- ---- rules
 
@@ -233,12 +244,15 @@ abbrev pub span_index_faults : Scope → Index → List Fault
 span_index_faults scope (indexes.Pool place pool) =
     when (is_some scope.name) conditions.BadIndex scope.place ++ unknown (scope.known.pool pool.name) pool
 span_index_faults scope (indexes.Array name) =
-    field_faults scope name ++ when (field_is scope.known.base is_scalar (field_of scope name.name)) conditions.BadIndex scope.place
+    field_faults scope name
+    ++ when (field_is scope.known.base is_scalar (field_of scope name.name))
+    conditions.BadIndex scope.place
 
 abbrev pub span_faults : Scope → Option Span → List Fault
 span_faults scope None = []
 span_faults scope (Some span) =
-    when (is_this scope.name span.name.name) conditions.NameTwice span.name.place ++ span_index_faults scope span.index
+    when (is_this scope.name span.name.name) conditions.NameTwice span.name.place
+    ++ span_index_faults scope span.index
 
 -- 128 rules are allowed, and 4 guards in each
 abbrev pub rule_faults : Known → ℕ → Rule → List Fault

@@ -29,7 +29,11 @@ specification_faults t = first_of (declaration_faults t) (faults_over (tables t)
 -- what a tree without faults means
 abbrev pub specification_over : Structures → TreeShape → Spec
 specification_over base t =
-    record { base = base; rules = typed_rules (known_in base) t.rules; constraints = typed_constraints (known_in base) t.constraints }
+    record {
+      base = base;
+      rules = typed_rules (known_in base) t.rules;
+      constraints = typed_constraints (known_in base) t.constraints;
+    }
 
 abbrev pub specification : TreeShape → Spec
 specification t = specification_over (tables t) t

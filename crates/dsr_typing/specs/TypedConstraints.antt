@@ -116,7 +116,8 @@ typed_atom scope (atom_trees.Pair place first second relation) =
 typed_atom scope (atom_trees.Member var set) =
     atoms.Member (variable_in scope var) (number_of (scope.known.set set.name))
 typed_atom scope (atom_trees.Value var relation compare measure) =
-    atoms.Value (variable_in scope var) (number_of (scope.known.relation relation.name)) (typed_compare compare) (typed_measure scope measure)
+    atoms.Value (variable_in scope var) (number_of (scope.known.relation relation.name))
+    (typed_compare compare) (typed_measure scope measure)
 
 -- ---- formulas; parentheses leave no trace
 

@@ -15,7 +15,8 @@ use dsr_tree::{Binder, Constraint, Formula, Keyword, PlacedNumber, Quantifier, S
 impl<'a> Reader<'a> {
     // Reads the tree of a whole text; what stands behind it is left.
     pub fn tree(&mut self) -> Result<Tree, Stop>
-        ensures ok { IfOk result (λ t. Reads grammar.spec (texts.tree_text (shapes.tree_shape t)) self.old self.new) }
+        ensures ok { IfOk result (λ t. Reads grammar.spec
+            (texts.tree_text (shapes.tree_shape t)) self.old self.new) }
         ensures err { IfErr result (λ e. Halts (grammar.spec ∷ []) self.old e) }
     {
         let (place, version) = self.version()?;
@@ -74,7 +75,8 @@ impl<'a> Reader<'a> {
     }
 
     fn constraints(&mut self) -> Result<Vec<Constraint>, Stop>
-        ensures ok { IfOk result (λ constraints. Reads (Many grammar.constraint) (in_turn said_constraint constraints.items) self.old self.new) }
+        ensures ok { IfOk result (λ constraints. Reads (Many grammar.constraint)
+            (in_turn said_constraint constraints.items) self.old self.new) }
         ensures err { IfErr result (λ e. Halts (Many grammar.constraint ∷ []) self.old e) }
     {
         let mut constraints = Vec::new(self.alloc);
@@ -85,7 +87,8 @@ impl<'a> Reader<'a> {
     }
 
     fn constraint(&mut self) -> Result<Constraint, Stop>
-        ensures ok { IfOk result (λ c. Reads grammar.constraint (texts.constraint_text (shapes.constraint_shape c)) self.old self.new) }
+        ensures ok { IfOk result (λ c. Reads grammar.constraint
+            (texts.constraint_text (shapes.constraint_shape c)) self.old self.new) }
         ensures err { IfErr result (λ e. Halts (grammar.constraint ∷ []) self.old e) }
     {
         let place = self.word(Keyword::Constraint)?;
@@ -102,7 +105,8 @@ impl<'a> Reader<'a> {
 
     // Reads what stands behind the colon of a constraint.
     fn constraint_end(&mut self) -> Result<(Option<Quantifier>, Formula), Stop>
-        ensures ok { IfOk result (λ c. Reads ends.constraint_end (ends.constraint_end_text c.0 c.1) self.old self.new) }
+        ensures ok { IfOk result (λ c. Reads ends.constraint_end
+            (ends.constraint_end_text c.0 c.1) self.old self.new) }
         ensures err { IfErr result (λ e. Halts (ends.constraint_end ∷ []) self.old e) }
     {
         let quantifier = self.quantifier()?;
@@ -113,7 +117,8 @@ impl<'a> Reader<'a> {
 
     // Reads the quantifier of a constraint, where there is one.
     fn quantifier(&mut self) -> Result<Option<Quantifier>, Stop>
-        ensures ok { IfOk result (λ q. Reads (grammar.maybe grammar.quantifier) (texts.maybe_text texts.quantifier_text q) self.old self.new) }
+        ensures ok { IfOk result (λ q. Reads (grammar.maybe grammar.quantifier)
+            (texts.maybe_text texts.quantifier_text q) self.old self.new) }
         ensures err { IfErr result (λ e. Halts (grammar.maybe grammar.quantifier ∷ []) self.old e) }
     {
         let Some(place) = self.take_word(Keyword::Forall) else {

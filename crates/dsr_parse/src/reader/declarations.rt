@@ -25,7 +25,8 @@ pub struct PoolEnd {
 
 impl<'a> Reader<'a> {
     pub fn pools(&mut self) -> Result<Vec<Pool>, Stop>
-        ensures ok { IfOk result (λ pools. Reads (Many grammar.pool) (in_turn said_pool pools.items) self.old self.new) }
+        ensures ok { IfOk result (λ pools. Reads (Many grammar.pool)
+            (in_turn said_pool pools.items) self.old self.new) }
         ensures err { IfErr result (λ e. Halts (Many grammar.pool ∷ []) self.old e) }
     {
         let mut pools = Vec::new(self.alloc);
@@ -36,7 +37,8 @@ impl<'a> Reader<'a> {
     }
 
     fn pool(&mut self) -> Result<Pool, Stop>
-        ensures ok { IfOk result (λ p. Reads grammar.pool (texts.pool_text (shapes.pool_shape p)) self.old self.new) }
+        ensures ok { IfOk result (λ p. Reads grammar.pool
+            (texts.pool_text (shapes.pool_shape p)) self.old self.new) }
         ensures err { IfErr result (λ e. Halts (grammar.pool ∷ []) self.old e) }
     {
         let place = self.word(Keyword::Pool)?;
@@ -80,8 +82,12 @@ impl<'a> Reader<'a> {
 
     // Reads the length of a slot, where it is said.
     fn slot(&mut self) -> Result<Option<Expr>, Stop>
-        ensures ok { IfOk result (λ slot. Reads (grammar.maybe (grammar.expr_behind (a_word keyword.Slot))) (texts.maybe_text said_slot slot) self.old self.new) }
-        ensures err { IfErr result (λ e. Halts (grammar.maybe (grammar.expr_behind (a_word keyword.Slot)) ∷ []) self.old e) }
+        ensures ok { IfOk result (λ slot. Reads
+            (grammar.maybe (grammar.expr_behind (a_word keyword.Slot)))
+            (texts.maybe_text said_slot slot) self.old self.new) }
+        ensures err { IfErr result
+            (λ e. Halts
+            (grammar.maybe (grammar.expr_behind (a_word keyword.Slot)) ∷ []) self.old e) }
     {
         if !self.is_word(Keyword::Slot) {
             return Ok(None);
@@ -90,7 +96,8 @@ impl<'a> Reader<'a> {
     }
 
     pub fn sets(&mut self) -> Result<Vec<Set>, Stop>
-        ensures ok { IfOk result (λ sets. Reads (Many grammar.set) (in_turn texts.set_text sets.items) self.old self.new) }
+        ensures ok { IfOk result (λ sets. Reads (Many grammar.set)
+            (in_turn texts.set_text sets.items) self.old self.new) }
         ensures err { IfErr result (λ e. Halts (Many grammar.set ∷ []) self.old e) }
     {
         let mut sets = Vec::new(self.alloc);
@@ -120,7 +127,8 @@ impl<'a> Reader<'a> {
 
     // Reads how a set is read, where that is said.
     fn view(&mut self) -> Result<Option<View>, Stop>
-        ensures ok { IfOk result (λ view. Reads (grammar.maybe grammar.view) (texts.maybe_text texts.view_text view) self.old self.new) }
+        ensures ok { IfOk result (λ view. Reads (grammar.maybe grammar.view)
+            (texts.maybe_text texts.view_text view) self.old self.new) }
         ensures err { IfErr result (λ e. Halts (grammar.maybe grammar.view ∷ []) self.old e) }
     {
         if let Some(place) = self.take_word(Keyword::As) {
@@ -135,7 +143,8 @@ impl<'a> Reader<'a> {
     }
 
     pub fn relations(&mut self) -> Result<Vec<Relation>, Stop>
-        ensures ok { IfOk result (λ relations. Reads (Many grammar.relation) (in_turn texts.relation_text relations.items) self.old self.new) }
+        ensures ok { IfOk result (λ relations. Reads (Many grammar.relation)
+            (in_turn texts.relation_text relations.items) self.old self.new) }
         ensures err { IfErr result (λ e. Halts (Many grammar.relation ∷ []) self.old e) }
     {
         let mut relations = Vec::new(self.alloc);
@@ -175,7 +184,8 @@ impl<'a> Reader<'a> {
     }
 
     pub fn supplies(&mut self) -> Result<Vec<Fresh>, Stop>
-        ensures ok { IfOk result (λ supplies. Reads (Many grammar.fresh) (in_turn texts.fresh_text supplies.items) self.old self.new) }
+        ensures ok { IfOk result (λ supplies. Reads (Many grammar.fresh)
+            (in_turn texts.fresh_text supplies.items) self.old self.new) }
         ensures err { IfErr result (λ e. Halts (Many grammar.fresh ∷ []) self.old e) }
     {
         let mut supplies = Vec::new(self.alloc);
@@ -205,7 +215,8 @@ impl<'a> Reader<'a> {
 
     // Reads the names behind the first one.
     fn more_names(&mut self) -> Result<Vec<PlacedName>, Stop>
-        ensures ok { IfOk result (λ names. Reads (Many grammar.more_name) (in_turn texts.more_name_text names.items) self.old self.new) }
+        ensures ok { IfOk result (λ names. Reads (Many grammar.more_name)
+            (in_turn texts.more_name_text names.items) self.old self.new) }
         ensures err { IfErr result (λ e. Halts (Many grammar.more_name ∷ []) self.old e) }
     {
         let mut names = Vec::new(self.alloc);

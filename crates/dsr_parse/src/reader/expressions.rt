@@ -15,7 +15,8 @@ impl<'a> Reader<'a> {
     #[cycle(expression)]
     pub fn expr(&mut self, depth: u64) -> Result<Expr, Stop>
         requires { depth ≤ 32 }
-        ensures ok { IfOk result (λ e. Reads (grammar.expression depth) (texts.expr_text (shapes.expr_shape e)) self.old self.new) }
+        ensures ok { IfOk result (λ e. Reads (grammar.expression depth)
+            (texts.expr_text (shapes.expr_shape e)) self.old self.new) }
         ensures err { IfErr result (λ e. Halts (grammar.expression depth ∷ []) self.old e) }
     {
         let first = self.term2(depth)?;
@@ -27,7 +28,8 @@ impl<'a> Reader<'a> {
     #[cycle(expression)]
     fn more_terms(&mut self, depth: u64) -> Result<Vec<MoreTerm>, Stop>
         requires { depth ≤ 32 }
-        ensures ok { IfOk result (λ terms. Reads (Many (grammar.more_term depth)) (in_turn said_term terms.items) self.old self.new) }
+        ensures ok { IfOk result (λ terms. Reads (Many (grammar.more_term depth))
+            (in_turn said_term terms.items) self.old self.new) }
         ensures err { IfErr result (λ e. Halts (Many (grammar.more_term depth) ∷ []) self.old e) }
     {
         let mut terms = Vec::new(self.alloc);
@@ -41,7 +43,8 @@ impl<'a> Reader<'a> {
     #[cycle(expression)]
     fn term2(&mut self, depth: u64) -> Result<Term2, Stop>
         requires { depth ≤ 32 }
-        ensures ok { IfOk result (λ t. Reads (grammar.term2 depth) (texts.term2_text (shapes.term_shape t)) self.old self.new) }
+        ensures ok { IfOk result (λ t. Reads (grammar.term2 depth)
+            (texts.term2_text (shapes.term_shape t)) self.old self.new) }
         ensures err { IfErr result (λ e. Halts (grammar.term2 depth ∷ []) self.old e) }
     {
         let first = self.factor(depth)?;
@@ -53,7 +56,8 @@ impl<'a> Reader<'a> {
     #[cycle(expression)]
     fn more_factors(&mut self, depth: u64) -> Result<Vec<MoreFactor>, Stop>
         requires { depth ≤ 32 }
-        ensures ok { IfOk result (λ factors. Reads (Many (grammar.more_factor depth)) (in_turn said_factor factors.items) self.old self.new) }
+        ensures ok { IfOk result (λ factors. Reads (Many (grammar.more_factor depth))
+            (in_turn said_factor factors.items) self.old self.new) }
         ensures err { IfErr result (λ e. Halts (Many (grammar.more_factor depth) ∷ []) self.old e) }
     {
         let mut factors = Vec::new(self.alloc);
@@ -67,7 +71,8 @@ impl<'a> Reader<'a> {
     #[cycle(expression)]
     fn factor(&mut self, depth: u64) -> Result<Factor, Stop>
         requires { depth ≤ 32 }
-        ensures ok { IfOk result (λ f. Reads (grammar.factor depth) (texts.factor_text (shapes.factor_shape f)) self.old self.new) }
+        ensures ok { IfOk result (λ f. Reads (grammar.factor depth)
+            (texts.factor_text (shapes.factor_shape f)) self.old self.new) }
         ensures err { IfErr result (λ e. Halts (grammar.factor depth ∷ []) self.old e) }
     {
         if self.is_number() {
@@ -102,7 +107,8 @@ impl<'a> Reader<'a> {
 
     // Reads the sign before a factor, where one is next.
     fn product_sign(&mut self) -> Result<Option<ProductSign>, Stop>
-        ensures ok { IfOk result (λ found. Found grammar.product_sign texts.product_text self.old self.new found) }
+        ensures ok { IfOk result (λ found.
+            Found grammar.product_sign texts.product_text self.old self.new found) }
         ensures err { IfErr result (λ e. Halts (grammar.product_sign ∷ []) self.old e) }
         ensures next { IfErr result (λ e. Next grammar.product_sign self.old.rest) }
     {
@@ -119,7 +125,8 @@ impl<'a> Reader<'a> {
 
     // Reads a whole expression behind a keyword.
     pub fn expr_behind(&mut self, keyword: Keyword) -> Result<Expr, Stop>
-        ensures ok { IfOk result (λ e. Reads (grammar.expr_behind (a_word keyword)) (texts.behind_text keyword (shapes.expr_shape e)) self.old self.new) }
+        ensures ok { IfOk result (λ e. Reads (grammar.expr_behind (a_word keyword))
+            (texts.behind_text keyword (shapes.expr_shape e)) self.old self.new) }
         ensures err { IfErr result (λ e. Halts (grammar.expr_behind (a_word keyword) ∷ []) self.old e) }
     {
         self.starting_word(keyword)?;
@@ -128,7 +135,8 @@ impl<'a> Reader<'a> {
 
     // Reads the length of an array or the count of a pool.
     pub fn brackets(&mut self) -> Result<Expr, Stop>
-        ensures ok { IfOk result (λ e. Reads grammar.brackets (texts.brackets_text (shapes.expr_shape e)) self.old self.new) }
+        ensures ok { IfOk result (λ e. Reads grammar.brackets
+            (texts.brackets_text (shapes.expr_shape e)) self.old self.new) }
         ensures err { IfErr result (λ e. Halts (grammar.brackets ∷ []) self.old e) }
     {
         self.starting_sign(Sign::OpenBracket)?;

@@ -18,7 +18,8 @@ impl<'a> Reader<'a> {
     #[cycle(formulas)]
     pub fn formula(&mut self, depth: u64) -> Result<Formula, Stop>
         requires { depth ≤ 32 }
-        ensures ok { IfOk result (λ f. Reads (grammar.formula depth) (texts.formula_text (shapes.formula_shape f)) self.old self.new) }
+        ensures ok { IfOk result (λ f. Reads (grammar.formula depth)
+            (texts.formula_text (shapes.formula_shape f)) self.old self.new) }
         ensures err { IfErr result (λ e. Halts (grammar.formula depth ∷ []) self.old e) }
     {
         let first = self.join(depth)?;
@@ -30,7 +31,8 @@ impl<'a> Reader<'a> {
     #[cycle(formulas)]
     fn more_joins(&mut self, depth: u64) -> Result<Vec<Join>, Stop>
         requires { depth ≤ 32 }
-        ensures ok { IfOk result (λ joins. Reads (Many (grammar.more_join depth)) (in_turn said_join joins.items) self.old self.new) }
+        ensures ok { IfOk result (λ joins. Reads (Many (grammar.more_join depth))
+            (in_turn said_join joins.items) self.old self.new) }
         ensures err { IfErr result (λ e. Halts (Many (grammar.more_join depth) ∷ []) self.old e) }
     {
         let mut joins = Vec::new(self.alloc);
@@ -43,7 +45,8 @@ impl<'a> Reader<'a> {
     #[cycle(formulas)]
     fn join(&mut self, depth: u64) -> Result<Join, Stop>
         requires { depth ≤ 32 }
-        ensures ok { IfOk result (λ j. Reads (grammar.join depth) (texts.join_text (shapes.join_shape j)) self.old self.new) }
+        ensures ok { IfOk result (λ j. Reads (grammar.join depth)
+            (texts.join_text (shapes.join_shape j)) self.old self.new) }
         ensures err { IfErr result (λ e. Halts (grammar.join depth ∷ []) self.old e) }
     {
         let first = self.unit(depth)?;
@@ -55,7 +58,8 @@ impl<'a> Reader<'a> {
     #[cycle(formulas)]
     fn more_units(&mut self, depth: u64) -> Result<Vec<Unit>, Stop>
         requires { depth ≤ 32 }
-        ensures ok { IfOk result (λ units. Reads (Many (grammar.more_unit depth)) (in_turn said_unit units.items) self.old self.new) }
+        ensures ok { IfOk result (λ units. Reads (Many (grammar.more_unit depth))
+            (in_turn said_unit units.items) self.old self.new) }
         ensures err { IfErr result (λ e. Halts (Many (grammar.more_unit depth) ∷ []) self.old e) }
     {
         let mut units = Vec::new(self.alloc);
@@ -68,7 +72,8 @@ impl<'a> Reader<'a> {
     #[cycle(formulas)]
     fn unit(&mut self, depth: u64) -> Result<Unit, Stop>
         requires { depth ≤ 32 }
-        ensures ok { IfOk result (λ u. Reads (grammar.unit depth) (texts.unit_text (shapes.unit_shape u)) self.old self.new) }
+        ensures ok { IfOk result (λ u. Reads (grammar.unit depth)
+            (texts.unit_text (shapes.unit_shape u)) self.old self.new) }
         ensures err { IfErr result (λ e. Halts (grammar.unit depth ∷ []) self.old e) }
     {
         if self.is_word(Keyword::Not) {
@@ -86,7 +91,8 @@ impl<'a> Reader<'a> {
     #[cycle(formulas)]
     fn not_unit(&mut self, depth: u64) -> Result<Unit, Stop>
         requires { depth ≤ 32 }
-        ensures ok { IfOk result (λ u. Reads (ends.not_unit depth) (texts.unit_text (shapes.unit_shape u)) self.old self.new) }
+        ensures ok { IfOk result (λ u. Reads (ends.not_unit depth)
+            (texts.unit_text (shapes.unit_shape u)) self.old self.new) }
         ensures err { IfErr result (λ e. Halts (ends.not_unit depth ∷ []) self.old e) }
     {
         let place = self.opening_word(Keyword::Not, depth)?;
@@ -99,7 +105,8 @@ impl<'a> Reader<'a> {
     #[cycle(formulas)]
     fn given_unit(&mut self, depth: u64) -> Result<Unit, Stop>
         requires { depth ≤ 32 }
-        ensures ok { IfOk result (λ u. Reads (ends.given_unit depth) (texts.unit_text (shapes.unit_shape u)) self.old self.new) }
+        ensures ok { IfOk result (λ u. Reads (ends.given_unit depth)
+            (texts.unit_text (shapes.unit_shape u)) self.old self.new) }
         ensures err { IfErr result (λ e. Halts (ends.given_unit depth ∷ []) self.old e) }
     {
         let place = self.opening_word(Keyword::Given, depth)?;
@@ -112,7 +119,8 @@ impl<'a> Reader<'a> {
     #[cycle(formulas)]
     fn group(&mut self, depth: u64) -> Result<Unit, Stop>
         requires { depth ≤ 32 }
-        ensures ok { IfOk result (λ u. Reads (ends.group depth) (texts.unit_text (shapes.unit_shape u)) self.old self.new) }
+        ensures ok { IfOk result (λ u. Reads (ends.group depth)
+            (texts.unit_text (shapes.unit_shape u)) self.old self.new) }
         ensures err { IfErr result (λ e. Halts (ends.group depth ∷ []) self.old e) }
     {
         let place = self.opening_sign(Sign::OpenParenthesis, depth)?;
@@ -226,7 +234,8 @@ impl<'a> Reader<'a> {
 
     // Reads the name behind the variable of a size, where there is one.
     fn size_part(&mut self) -> Result<Option<PlacedName>, Stop>
-        ensures ok { IfOk result (λ part. Reads (grammar.maybe grammar.size_part) (texts.maybe_text texts.size_part_text part) self.old self.new) }
+        ensures ok { IfOk result (λ part. Reads (grammar.maybe grammar.size_part)
+            (texts.maybe_text texts.size_part_text part) self.old self.new) }
         ensures err { IfErr result (λ e. Halts (grammar.maybe grammar.size_part ∷ []) self.old e) }
     {
         if self.take_sign(Sign::Dot).is_none() {
@@ -237,7 +246,8 @@ impl<'a> Reader<'a> {
 
     // Reads the variable with which an atom begins.
     fn literal_var(&mut self) -> Result<Var, Stop>
-        ensures ok { IfOk result (λ v. Reads (grammar.var_by grammar.literal) (texts.var_text v) self.old self.new) }
+        ensures ok { IfOk result (λ v. Reads (grammar.var_by grammar.literal)
+            (texts.var_text v) self.old self.new) }
         ensures err { IfErr result (λ e. Halts (grammar.var_by grammar.literal ∷ []) self.old e) }
     {
         if self.is_word(Keyword::Head) {

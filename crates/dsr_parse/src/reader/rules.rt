@@ -16,7 +16,8 @@ use dsr_tree::{
 
 impl<'a> Reader<'a> {
     pub fn rules(&mut self) -> Result<Vec<Rule>, Stop>
-        ensures ok { IfOk result (λ rules. Reads (Many grammar.rule) (in_turn texts.rule_text rules.items) self.old self.new) }
+        ensures ok { IfOk result (λ rules. Reads (Many grammar.rule)
+            (in_turn texts.rule_text rules.items) self.old self.new) }
         ensures err { IfErr result (λ e. Halts (Many grammar.rule ∷ []) self.old e) }
     {
         let mut rules = Vec::new(self.alloc);
@@ -70,7 +71,8 @@ impl<'a> Reader<'a> {
 
     // Reads the index of a rule, where there is one.
     fn span(&mut self) -> Result<Option<Span>, Stop>
-        ensures ok { IfOk result (λ span. Reads (grammar.maybe grammar.span) (texts.maybe_text texts.span_text span) self.old self.new) }
+        ensures ok { IfOk result (λ span. Reads (grammar.maybe grammar.span)
+            (texts.maybe_text texts.span_text span) self.old self.new) }
         ensures err { IfErr result (λ e. Halts (grammar.maybe grammar.span ∷ []) self.old e) }
     {
         if self.take_sign(Sign::Comma).is_none() {
@@ -84,7 +86,8 @@ impl<'a> Reader<'a> {
 
     // Reads what an index runs over.
     fn index_source(&mut self) -> Result<Index, Stop>
-        ensures ok { IfOk result (λ i. Reads grammar.index_source (texts.index_source_text i) self.old self.new) }
+        ensures ok { IfOk result (λ i. Reads grammar.index_source
+            (texts.index_source_text i) self.old self.new) }
         ensures err { IfErr result (λ e. Halts (grammar.index_source ∷ []) self.old e) }
     {
         if let Some(place) = self.take_word(Keyword::Pool) {
@@ -96,7 +99,8 @@ impl<'a> Reader<'a> {
 
     // Reads the guards of a rule, where there are any.
     fn guards(&mut self) -> Result<Option<Guards>, Stop>
-        ensures ok { IfOk result (λ guards. Reads (grammar.maybe grammar.guards) (texts.maybe_text texts.guards_text guards) self.old self.new) }
+        ensures ok { IfOk result (λ guards. Reads (grammar.maybe grammar.guards)
+            (texts.maybe_text texts.guards_text guards) self.old self.new) }
         ensures err { IfErr result (λ e. Halts (grammar.maybe grammar.guards ∷ []) self.old e) }
     {
         if self.take_word(Keyword::When).is_none() {
@@ -112,7 +116,8 @@ impl<'a> Reader<'a> {
 
     // Reads the guards behind the first one.
     fn more_guards(&mut self) -> Result<Vec<Guard>, Stop>
-        ensures ok { IfOk result (λ guards. Reads (Many grammar.more_guard) (in_turn texts.more_guard_text guards.items) self.old self.new) }
+        ensures ok { IfOk result (λ guards. Reads (Many grammar.more_guard)
+            (in_turn texts.more_guard_text guards.items) self.old self.new) }
         ensures err { IfErr result (λ e. Halts (Many grammar.more_guard ∷ []) self.old e) }
     {
         let mut guards = Vec::new(self.alloc);
@@ -172,7 +177,8 @@ impl<'a> Reader<'a> {
 
     // Reads an index in brackets, where there is one.
     fn index(&mut self) -> Result<Option<PlacedName>, Stop>
-        ensures ok { IfOk result (λ index. Reads grammar.index (texts.maybe_text texts.index_text index) self.old self.new) }
+        ensures ok { IfOk result (λ index. Reads grammar.index
+            (texts.maybe_text texts.index_text index) self.old self.new) }
         ensures err { IfErr result (λ e. Halts (grammar.index ∷ []) self.old e) }
     {
         if self.take_sign(Sign::OpenBracket).is_none() {
@@ -196,7 +202,8 @@ impl<'a> Reader<'a> {
 
     // Reads the inclusion of a pair.
     fn pair_inclusion(&mut self) -> Result<Inclusion, Stop>
-        ensures ok { IfOk result (λ i. Reads grammar.pair_inclusion (texts.inclusion_text i) self.old self.new) }
+        ensures ok { IfOk result (λ i. Reads grammar.pair_inclusion
+            (texts.inclusion_text i) self.old self.new) }
         ensures err { IfErr result (λ e. Halts (grammar.pair_inclusion ∷ []) self.old e) }
     {
         let place = self.sign(Sign::Less)?;
@@ -225,7 +232,8 @@ impl<'a> Reader<'a> {
 
     // Reads the inclusion of a member.
     fn member_inclusion(&mut self) -> Result<Inclusion, Stop>
-        ensures ok { IfOk result (λ i. Reads grammar.member_inclusion (texts.inclusion_text i) self.old self.new) }
+        ensures ok { IfOk result (λ i. Reads grammar.member_inclusion
+            (texts.inclusion_text i) self.old self.new) }
         ensures err { IfErr result (λ e. Halts (grammar.member_inclusion ∷ []) self.old e) }
     {
         let member = self.member()?;
@@ -257,7 +265,8 @@ impl<'a> Reader<'a> {
 
     // Reads what stands behind the variable of a member, where something does.
     fn member_part(&mut self) -> Result<Option<MemberPart>, Stop>
-        ensures ok { IfOk result (λ part. Reads (grammar.maybe grammar.member_part) (texts.maybe_text texts.member_part_text part) self.old self.new) }
+        ensures ok { IfOk result (λ part. Reads (grammar.maybe grammar.member_part)
+            (texts.maybe_text texts.member_part_text part) self.old self.new) }
         ensures err { IfErr result (λ e. Halts (grammar.maybe grammar.member_part ∷ []) self.old e) }
     {
         if self.take_sign(Sign::Dot).is_some() {

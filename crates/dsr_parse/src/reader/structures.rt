@@ -15,7 +15,8 @@ use dsr_tree::{Content, Expr, Field, Keyword, NamedField, PlacedName, Sign, Stru
 
 impl<'a> Reader<'a> {
     pub fn structures(&mut self) -> Result<Vec<Structure>, Stop>
-        ensures ok { IfOk result (λ structures. Reads (Many grammar.structure) (in_turn said_structure structures.items) self.old self.new) }
+        ensures ok { IfOk result (λ structures. Reads (Many grammar.structure)
+            (in_turn said_structure structures.items) self.old self.new) }
         ensures err { IfErr result (λ e. Halts (Many grammar.structure ∷ []) self.old e) }
     {
         let mut structures = Vec::new(self.alloc);
@@ -26,7 +27,8 @@ impl<'a> Reader<'a> {
     }
 
     fn structure(&mut self) -> Result<Structure, Stop>
-        ensures ok { IfOk result (λ s. Reads grammar.structure (texts.structure_text (shapes.structure_shape s)) self.old self.new) }
+        ensures ok { IfOk result (λ s. Reads grammar.structure
+            (texts.structure_text (shapes.structure_shape s)) self.old self.new) }
         ensures err { IfErr result (λ e. Halts (grammar.structure ∷ []) self.old e) }
     {
         let place = self.word(Keyword::Structure)?;
@@ -43,7 +45,8 @@ impl<'a> Reader<'a> {
 
     // Reads the fields of a structure in their braces.
     fn braced_fields(&mut self) -> Result<Vec<Field>, Stop>
-        ensures ok { IfOk result (λ fields. Reads ends.braced_fields (ends.braced_text (in_turn said_field fields.items)) self.old self.new) }
+        ensures ok { IfOk result (λ fields. Reads ends.braced_fields
+            (ends.braced_text (in_turn said_field fields.items)) self.old self.new) }
         ensures err { IfErr result (λ e. Halts (ends.braced_fields ∷ []) self.old e) }
     {
         self.sign(Sign::OpenBrace)?;
@@ -53,7 +56,8 @@ impl<'a> Reader<'a> {
     }
 
     fn parent(&mut self) -> Result<Option<PlacedName>, Stop>
-        ensures ok { IfOk result (λ parent. Reads (grammar.maybe grammar.parent) (texts.maybe_text texts.parent_text parent) self.old self.new) }
+        ensures ok { IfOk result (λ parent. Reads (grammar.maybe grammar.parent)
+            (texts.maybe_text texts.parent_text parent) self.old self.new) }
         ensures err { IfErr result (λ e. Halts (grammar.maybe grammar.parent ∷ []) self.old e) }
     {
         if self.take_word(Keyword::Extends).is_none() {
@@ -63,7 +67,8 @@ impl<'a> Reader<'a> {
     }
 
     fn fields(&mut self) -> Result<Vec<Field>, Stop>
-        ensures ok { IfOk result (λ fields. Reads (Many grammar.field) (in_turn said_field fields.items) self.old self.new) }
+        ensures ok { IfOk result (λ fields. Reads (Many grammar.field)
+            (in_turn said_field fields.items) self.old self.new) }
         ensures err { IfErr result (λ e. Halts (Many grammar.field ∷ []) self.old e) }
     {
         let mut fields = Vec::new(self.alloc);
@@ -90,7 +95,8 @@ impl<'a> Reader<'a> {
     }
 
     fn field(&mut self) -> Result<Field, Stop>
-        ensures ok { IfOk result (λ f. Reads grammar.field (texts.field_text (shapes.field_shape f)) self.old self.new) }
+        ensures ok { IfOk result (λ f. Reads grammar.field
+            (texts.field_text (shapes.field_shape f)) self.old self.new) }
         ensures err { IfErr result (λ e. Halts (grammar.field ∷ []) self.old e) }
     {
         if self.is_word(Keyword::Skip) {
@@ -102,7 +108,8 @@ impl<'a> Reader<'a> {
 
     // Reads bytes that are skipped.
     fn skip(&mut self) -> Result<Field, Stop>
-        ensures ok { IfOk result (λ f. Reads grammar.skip (texts.field_text (shapes.field_shape f)) self.old self.new) }
+        ensures ok { IfOk result (λ f. Reads grammar.skip
+            (texts.field_text (shapes.field_shape f)) self.old self.new) }
         ensures err { IfErr result (λ e. Halts (grammar.skip ∷ []) self.old e) }
     {
         let place = self.starting_word(Keyword::Skip)?;
@@ -112,7 +119,8 @@ impl<'a> Reader<'a> {
     }
 
     fn named_field(&mut self) -> Result<NamedField, Stop>
-        ensures ok { IfOk result (λ f. Reads grammar.named_field (texts.named_field_text (shapes.named_shape f)) self.old self.new) }
+        ensures ok { IfOk result (λ f. Reads grammar.named_field
+            (texts.named_field_text (shapes.named_shape f)) self.old self.new) }
         ensures err { IfErr result (λ e. Halts (grammar.named_field ∷ []) self.old e) }
     {
         let fixed = self.fixed();
@@ -132,7 +140,8 @@ impl<'a> Reader<'a> {
 
     // Reads `fixed` where it is next.
     fn fixed(&mut self) -> Option<u64>
-        ensures { Reads (grammar.maybe (grammar.word keyword.Fixed)) (texts.maybe_text texts.fixed_text result) self.old self.new }
+        ensures { Reads (grammar.maybe (grammar.word keyword.Fixed))
+            (texts.maybe_text texts.fixed_text result) self.old self.new }
     {
         self.take_word(Keyword::Fixed)
     }
@@ -160,7 +169,8 @@ impl<'a> Reader<'a> {
 
     // Reads the length of an array, where there is one.
     fn length(&mut self) -> Result<Option<Expr>, Stop>
-        ensures ok { IfOk result (λ length. Reads (grammar.maybe grammar.brackets) (texts.maybe_text said_length length) self.old self.new) }
+        ensures ok { IfOk result (λ length. Reads (grammar.maybe grammar.brackets)
+            (texts.maybe_text said_length length) self.old self.new) }
         ensures err { IfErr result (λ e. Halts (grammar.maybe grammar.brackets ∷ []) self.old e) }
     {
         if !self.is_sign(Sign::OpenBracket) {
@@ -171,7 +181,8 @@ impl<'a> Reader<'a> {
 
     // Reads what a field holds, where that is said.
     fn content(&mut self) -> Result<Option<Content>, Stop>
-        ensures ok { IfOk result (λ content. Reads (grammar.maybe grammar.content) (texts.maybe_text texts.content_text content) self.old self.new) }
+        ensures ok { IfOk result (λ content. Reads (grammar.maybe grammar.content)
+            (texts.maybe_text texts.content_text content) self.old self.new) }
         ensures err { IfErr result (λ e. Halts (grammar.maybe grammar.content ∷ []) self.old e) }
     {
         if let Some(place) = self.take_sign(Sign::Arrow) {

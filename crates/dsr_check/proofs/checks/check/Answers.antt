@@ -6,7 +6,7 @@ use Rattle.dsr_meaning.specs.Models.{IsFact}
 use Rattle.dsr_meaning.specs.Refusals.{IsLayoutOf, refusals}
 use Rattle.dsr_script.specs.Moves.{shown}
 use Rattle.dsr_answers.specs.Texts.{verdict_answer}
-use Rattle.dsr_truth.specs.Walks.{bound}
+use Rattle.dsr_meaning.specs.Consistency.{bound_constraint}
 use Rattle.dsr_check.proofs.Answered.{checked_answer, refused_answer}
 use Rattle.dsr_check.proofs.checks.check.Goals as goal
 
@@ -22,11 +22,11 @@ returns-in-Err c =
 
 pub returns : goal.returns
 returns c =
-    let vs = map bound c.in_ok-found.found.items in
+    let vs = map bound_constraint c.in_ok-found.found.items in
     checked_answer c.args.spec.now c.args.image.items c.in-Ok.layout vs c.verdict.result
     (subst (λ bytes. IsLayoutOf c.args.spec.now bytes c.in-Ok.layout)
     c.deref.ensures.value c.in-Ok.ensures.layout)
     (subst (λ bytes. AreViolations (IsFact c.args.spec.now c.in-Ok.layout bytes) c.args.spec.now vs)
     c.new-image.ensures c.in_ok-found.ensures)
-    (subst (λ ws. IfOk c.verdict.result (λ told. shown told ≡ verdict_answer c.args.spec.now (map bound ws)))
+    (subst (λ ws. IfOk c.verdict.result (λ told. shown told ≡ verdict_answer c.args.spec.now (map bound_constraint ws)))
     c.deref-2.ensures.value c.verdict.ensures)

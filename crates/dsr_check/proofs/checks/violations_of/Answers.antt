@@ -3,7 +3,7 @@ use Rattle.dsr_meaning.proofs.Placing.{spec_placeable}
 use Rattle.dsr_meaning.specs.Models.{IsFact}
 use Rattle.dsr_model.specs.Facts.{IsInModel}
 use Rattle.dsr_model.specs.Views.{set_shape}
-use Rattle.dsr_truth.specs.Walks.{bound}
+use Rattle.dsr_meaning.specs.Consistency.{bound_constraint}
 use Rattle.dsr_check.proofs.Bridged.{same_facts}
 use Rattle.dsr_check.proofs.SameFacts.{found_same}
 use Rattle.dsr_check.proofs.checks.violations_of.Goals as goal
@@ -22,4 +22,4 @@ returns c =
     found_same (IsInModel c.rebuild.new.model) (IsFact c.args.spec.now c.args.layout.now c.args.image.now)
     (same_facts c.args.spec.now c.args.layout.now c.args.image.now c.rebuild.new.model
     c.rebuild.ensures.model c.rebuild.ensures.prepared)
-    c.args.spec.now (λ vs. map bound vs.items) c.violations.result c.violations.ensures
+    c.args.spec.now (λ vs. map bound_constraint vs.items) c.violations.result c.violations.ensures

@@ -1,10 +1,10 @@
 use Rattle.std.proofs.Common.{[], ◌∷◌, ◌∙◌, Some, ap, map, subst, sym}
 use Rattle.std.proofs.lemmas.List.{map-append}
-use Rattle.dsr_meaning.specs.Consistency.{ConjHolds}
+use Rattle.dsr_meaning.specs.Consistency.{ConjHolds, bound_constraint}
 use Rattle.dsr_model.specs.Facts.{IsInModel}
 use Rattle.dsr_truth.proofs.Finding.{found_end, found_more, found_same}
 use Rattle.dsr_truth.proofs.Satisfying.{some_or_none}
-use Rattle.dsr_truth.specs.Walks.{AreFound, bound}
+use Rattle.dsr_truth.specs.Walks.{AreFound}
 use Rattle.dsr_truth.proofs.violated.constraint_violations.Goals as goal
 use Rattle.dsr_truth.proofs.violated.constraint_violations.Goals.{then-not-is_satisfied+in_ok-push, else-not-is_satisfied}
 
@@ -20,16 +20,16 @@ loop-binding-preserved c =
       found = elim c.if-not-is_satisfied.branch [
         | then-not-is_satisfied+in_ok-push w ↦
             let pushed = ap (λ v. v.items) w.found-is ∙ w.in_ok-push.ensures.items in
-            let more = ap (map bound) pushed ∙ map-append bound items ((number, binding) ∷ []) in
+            let more = ap (map bound_constraint) pushed ∙ map-append bound_constraint items ((number, binding) ∷ []) in
             subst (AreFound is_fact spec number (Some binding)) (sym more)
             (found_more is_fact spec number constraint c.requires.declared c.loop-binding.last binding
-            c.in-Some.ensures.next (map bound items) c.loop-binding.invariant.found w.if-not-is_satisfied.ensures)
+            c.in-Some.ensures.next (map bound_constraint items) c.loop-binding.invariant.found w.if-not-is_satisfied.ensures)
         | else-not-is_satisfied w ↦
             let satisfied =
             some_or_none (ConjHolds is_fact binding) constraint.conjs w.if-not-is_satisfied.ensures in
-            subst (AreFound is_fact spec number (Some binding)) (sym (ap (λ v. map bound v.items) w.found-is))
+            subst (AreFound is_fact spec number (Some binding)) (sym (ap (λ v. map bound_constraint v.items) w.found-is))
             (found_same is_fact spec number constraint c.requires.declared c.loop-binding.last binding
-            c.in-Some.ensures.next (map bound items) c.loop-binding.invariant.found satisfied)
+            c.in-Some.ensures.next (map bound_constraint items) c.loop-binding.invariant.found satisfied)
       ];
       kind = c.in-Some.ensures.kind;
     }
@@ -37,5 +37,5 @@ loop-binding-preserved c =
 pub returns : goal.returns
 returns c =
     found_end (IsInModel c.args.model.now) c.args.spec.now c.args.number c.args.constraint.now
-    c.requires.declared c.loop-binding.last (map bound c.loop-binding.found.items)
+    c.requires.declared c.loop-binding.last (map bound_constraint c.loop-binding.found.items)
     c.in_default.ensures.next c.loop-binding.invariant.found

@@ -4,3 +4,8 @@ pub mod Facts
 pub mod Guards
 pub mod Options
 pub mod Templates
+pub mod Values
+pub mod Changes
+pub mod Avoided
+pub mod Touching
+pub mod Effects

@@ -1,5 +1,5 @@
 -- Sets are marked on the way down.
-use Rattle.std.proofs.Common.{◌≡◌, ◌<◌, ◌≤◌, ◌+◌, ◌↔◌, ◌⊎◌, ◌∙◌, inl, inr, ℕ, zero, suc, Bool, true, false, cond, List, [], ◌∷◌, length, get_or, set, replicate, Option, None, Some, IfSome, Decides, MatchOption, refl, sym, ap, subst, arith}
+use Rattle.std.proofs.Common.{◌≡◌, ◌<◌, ◌≤◌, ◌+◌, ◌↔◌, ◌⊎◌, ◌∙◌, inl, inr, ℕ, Bool, true, false, cond, List, length, get_or, set, replicate, Option, None, Some, IfSome, Decides, MatchOption, refl, sym, ap, subst, arith}
 use Rattle.std.specs.Prelude.{sum_by}
 use Rattle.std.proofs.lemmas.Bool.{cases_lt, false≢true}
 use Rattle.std.proofs.lemmas.List.{length-set}
@@ -16,36 +16,10 @@ use Rattle.dsr_updating.specs.Known.{IsKnown}
 use Rattle.dsr_updating.specs.Known.IsKnown.{quantified, source, target, base}
 use Rattle.dsr_facts.specs.Marks.{Begins, IsBelow, IsClosed, IsMarked, IsNoneBelow, LeadsTo}
 use Rattle.dsr_facts.specs.Marks.LeadsTo.{here, on}
+use Rattle.dsr_facts.proofs.Marking.{marked_from, marked_here, marked_still, none_marked}
 use Rattle.dsr_facts.proofs.Givers.{members_declared, one_below, targets_declared}
 
 -- ---- marks
-
-marked_here : (marks : List Bool) (n : ℕ) → n < length marks → IsMarked (set marks n true) n
-marked_here [] n less = absurd (omega (arith, less))
-marked_here (m ∷ marks) zero less = refl
-marked_here (m ∷ marks) (suc n) less = marked_here marks n (omega (arith, less))
-
-marked_still : (marks : List Bool) (n other : ℕ) → IsMarked marks other → IsMarked (set marks n true) other
-marked_still [] n other h = h
-marked_still (m ∷ marks) zero zero h = refl
-marked_still (m ∷ marks) zero (suc other) h = h
-marked_still (m ∷ marks) (suc n) zero h = h
-marked_still (m ∷ marks) (suc n) (suc other) h = marked_still marks n other h
-
-marked_from : (marks : List Bool) (n other : ℕ) → IsMarked (set marks n true) other → IsMarked marks other ⊎ (other ≡ n)
-marked_from [] n other h = inl h
-marked_from (m ∷ marks) zero zero h = inr refl
-marked_from (m ∷ marks) zero (suc other) h = inl h
-marked_from (m ∷ marks) (suc n) zero h = inl h
-marked_from (m ∷ marks) (suc n) (suc other) h = elim (marked_from marks n other h) [
-  | inl old ↦ inl old
-  | inr same ↦ inr (ap suc same)
-]
-
-none_marked : (n other : ℕ) → IsMarked (replicate n false) other → ⊥
-none_marked zero other h = false≢true h
-none_marked (suc n) zero h = false≢true h
-none_marked (suc n) (suc other) h = none_marked n other h
 
 -- how many aren't marked
 abbrev pub count_open : List Bool → ℕ

@@ -30,7 +30,7 @@ field_decides a b =
     Decides-like _ (λ h. λ i. record { structure = h.0 i; field = h.1 i }) (λ e. (ap (λ x. x.structure) e, ap (λ x. x.field) e))
     (Decides-and _ _ (Decides-eqb a.structure b.structure) (Decides-eqb a.field b.field))
 
-path_decides : (a b : Path) → Decides (path.ghosts.eq a b) (a ≡ b)
+pub path_decides : (a b : Path) → Decides (path.ghosts.eq a b) (a ≡ b)
 path_decides a b =
     Decides-like _ (λ h. λ i. record { field = h.0 i; indexed = h.1 i }) (λ e. (ap (λ x. x.field) e, ap (λ x. x.indexed) e))
     (Decides-and _ _ (field_decides a.field b.field) (booleans_Decides a.indexed b.indexed))

@@ -7,4 +7,4 @@ mod gathering;
 mod memberships;
 
 pub use gathering::{Facts, facts_before};
-pub use memberships::{MOST_SETS, known, known_sets};
+pub use memberships::{MOST_SETS, has_guards, known, known_sets};

@@ -51,8 +51,8 @@ fn gives_target(inc: Inc, other: Inc, set: u32) -> bool
     }
 }
 
-// Whether the rule asks all that the other one asks.
-fn has_guards(rule: &Rule, other: &Rule) -> bool
+/// Whether the rule asks all that the other one asks.
+pub fn has_guards(rule: &Rule, other: &Rule) -> bool
     ensures { Decides result ((guard : Guard) → IsIn guard other.now.guards
         → IsIn guard rule.now.guards) }
 {

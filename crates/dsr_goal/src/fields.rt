@@ -6,7 +6,7 @@ ghost use Rattle.dsr_updating.specs.Templates as templates;
 
 use dsr_ir::{Field, FieldRef, Kind, Path, Pick, Structures, Write};
 
-// The field that is declared at a place.
+/// The field that is declared at a place.
 pub fn declared_field(base: &Structures, field: FieldRef) -> Option<&Field>
     ensures { option_map (λ f. f.now) result ≡ meaning.declared_field base.now field }
 {

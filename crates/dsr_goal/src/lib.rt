@@ -16,5 +16,6 @@ mod removing;
 mod supplies;
 mod values;
 
+pub use fields::declared_field;
 pub use known::Known;
 pub use raw_templates::raw;

@@ -1,0 +1,4 @@
+pub mod Descending
+pub mod Fields
+pub mod Ranges
+pub mod Records

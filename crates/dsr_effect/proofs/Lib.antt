@@ -1,0 +1,16 @@
+pub mod Descending
+pub mod Guards
+pub mod RangeTests
+pub mod NumberTests
+pub mod Alone
+pub mod Handing
+pub mod Avoiding
+pub mod ChangedRows
+pub mod FlowLists
+pub mod ListItems
+pub mod RowNumbers
+pub mod Tables
+pub mod Asking
+pub mod Touched
+pub mod Tagged
+pub mod Apart

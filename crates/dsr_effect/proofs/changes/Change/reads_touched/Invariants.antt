@@ -1,0 +1,11 @@
+use Rattle.std.proofs.Common.{◌≡◌, ◌++◌, drop, map}
+use Rattle.dsr_meaning.specs.Lists.{any_of}
+use Rattle.dsr_updating.specs.Changes.{is_touched, paths_of, target_paths}
+use Rattle.dsr_effect.specs.Told.{change_of}
+use Rattle.dsr_effect.proofs.changes.Change.reads_touched.Given as goal
+
+-- the paths that are left tell the same
+abbrev pub invariant-loop-guard : goal.invariant-loop-guard
+invariant-loop-guard l =
+    any_of (λ p. is_touched (change_of l.self) p.field) (map (λ g. g.path) (drop l.guard-index l.guard-items) ++ target_paths l.rule)
+    ≡ any_of (λ p. is_touched (change_of l.self) p.field) (paths_of l.rule)

@@ -1,0 +1,22 @@
+-- What `changed_rows` leaves to show.
+use Rattle.std.proofs.Common.{◌≡◌, ◌+◌, ◌++◌, length, take, drop, ap, ◌∙◌, arith}
+use Rattle.std.proofs.lemmas.Grind.{common_steps}
+use Rattle.dsr_effect.specs.Told.{change_of}
+use Rattle.dsr_effect.proofs.ChangedRows.{changed_more}
+use Rattle.dsr_effect.proofs.ListItems.{next_in, take_next}
+use Rattle.dsr_effect.proofs.rows.changed_rows.Goals as goal
+
+pub add_changes-requires-clause-among : goal.add_changes-requires-clause-among
+add_changes-requires-clause-among c = next_in c.items-rule-items.result.now c.args.change.now.spec.now.rules c.items-rule-items.ensures c.loop-rule.rule-index c.loop-rule-test.true c.rule-item.result c.rule-item.is
+
+pub loop-rule-preserved : goal.loop-rule-preserved
+loop-rule-preserved c =
+    let rules = c.args.change.now.spec.now.rules in
+    let i = c.loop-rule.rule-index in
+    let new = c.add_changes.new.rows in
+    let same : take c.loop-rule.rows.len (new ++ drop (length new) c.loop-rule.rows.items) ≡ new = grind (arith, common_steps) in
+    let next = take_next c.items-rule-items.result.now rules c.items-rule-items.ensures i c.loop-rule-test.true c.rule-item.result c.rule-item.is in
+    rw same (
+      c.add_changes.ensures.places ∙ ap length c.deref_mut.ensures.value ∙ c.loop-rule.invariant.0,
+      changed_more (change_of c.args.change.now) (take i rules) (take (i + 1) rules) c.rule-item.result c.loop-rule.rows.items new next c.loop-rule.invariant.1 (rw c.deref_mut.ensures.value at c.add_changes.ensures.exactly),
+    )

@@ -1,0 +1,217 @@
+// The table of an effect, a row for each symbol's gains and one for its losses.
+ghost use Rattle.std.specs.Prelude.{◌≡◌, ◌<◌, ◌+◌, ◌⊎◌, ◌↔◌, ◌++◌, ℕ, [], ◌∷◌, IfOk, IsTrue, Some, length};
+ghost use Rattle.dsr_effect.specs.Rows.{has_row_tag};
+ghost use Rattle.dsr_effect.specs.Table as table;
+ghost use Rattle.dsr_effect.specs.Table.{AreFlows, AreRuleFlows, IsChangedBy, IsPassing, row_number};
+ghost use Rattle.dsr_effect.specs.Told.{IsTold, change_of};
+ghost use Rattle.dsr_effect.specs.declared.flows.Flow.{Flow as FlowOf};
+ghost use Rattle.dsr_ir.specs.Rules.{symbol_of};
+ghost use Rattle.dsr_ir.specs.declared.updates.Symbol.{Symbol as SymbolOf};
+ghost use Rattle.dsr_meaning.specs.Counting.{IsIn};
+ghost use Rattle.dsr_meaning.specs.Typed.{AreTyped};
+ghost use Rattle.dsr_updating.specs.Effects as said;
+ghost use Rattle.dsr_updating.specs.Effects.{InTable, IsDeclared, MayChange, changes};
+ghost use Rattle.dsr_updating.specs.declared.effects.Tag.{Tag as TagOf};
+ghost use Rattle.dsr_updating.specs.declared.effects.Way.{Way as WayOf};
+ghost use Rattle.dsr_updating.specs.declared.effects.Way.TheVariants.{Gain, Loss};
+
+use crate::changes::Change;
+use crate::flows::{Flow, settle};
+use crate::tags::{NO_TAGS, joined};
+use crate::touching::is_own;
+use dsr_ir::{NoMemory, Rule, Seq, SetDecl, Structures, Symbol};
+use dsr_updating::{Effect, Tags, Way};
+use std::alloc::Global;
+
+// How many symbols there are.
+fn symbol_count(base: &Structures) -> usize
+    requires typed { AreTyped base.now }
+    ensures { result ≡ table.symbol_count base.now }
+{
+    base.sets.items().len() + base.rels.items().len()
+}
+
+// The place of a symbol among sets and relations.
+fn symbol_number(base: &Structures, symbol: Symbol) -> usize
+    requires typed { AreTyped base.now }
+    ensures { result ≡ said.symbol_number base.now symbol }
+{
+    match symbol {
+        Symbol::Set(set) => set as usize,
+        Symbol::Rel(rel) => base.sets.items().len() + rel as usize,
+    }
+}
+
+// The row of what a symbol gains, and behind all these that of what it loses.
+fn row_of(base: &Structures, way: Way, symbol: Symbol) -> usize
+    requires typed { AreTyped base.now }
+    ensures { result ≡ row_number base.now way symbol }
+{
+    match way {
+        Way::Gain => symbol_number(base, symbol),
+        Way::Loss => symbol_count(base) + symbol_number(base, symbol),
+    }
+}
+
+// Adds what the rule may gain, or lose, at the written and at the fresh record.
+fn add_change(change: &Change, rows: &mut [Tags], rule: &Rule, way: Way)
+    requires told { IsTold change.now }
+    requires among { IsIn rule.now change.now.spec.now.rules }
+    requires places { length rows.now ≡ table.row_count change.now.spec.now.base }
+    ensures places { length rows.new ≡ length rows.old }
+    ensures exactly { (row : ℕ) (tag : TagOf) → IsTrue (has_row_tag rows.new row tag)
+        ↔ (IsTrue (has_row_tag rows.old row tag)
+        ⊎ (row ≡ row_number change.now.spec.now.base way (symbol_of rule.now.inc))
+        × MayChange (change_of change.now) rule.now way tag) }
+{
+    let row = row_of(&change.spec.base, way, rule.inc.symbol());
+    rows[row] = joined(rows[row], change.may_change(rule, way));
+}
+
+// Adds what the rule may gain and lose.
+fn add_changes(change: &Change, rows: &mut [Tags], rule: &Rule)
+    requires told { IsTold change.now }
+    requires among { IsIn rule.now change.now.spec.now.rules }
+    requires places { length rows.now ≡ table.row_count change.now.spec.now.base }
+    ensures places { length rows.new ≡ length rows.old }
+    ensures exactly { (row : ℕ) (tag : TagOf) → IsTrue (has_row_tag rows.new row tag)
+        ↔ (IsTrue (has_row_tag rows.old row tag)
+        ⊎ IsChangedBy (change_of change.now) (rule.now ∷ []) row tag) }
+{
+    add_change(change, rows, rule, Way::Gain);
+    add_change(change, rows, rule, Way::Loss);
+}
+
+// What rules may gain and lose at the written and at the fresh record.
+fn changed_rows(alloc: Global, change: &Change) -> Result<Vec<Tags>, NoMemory>
+    requires told { IsTold change.now }
+    ensures places { IfOk result (λ rows. length rows.items
+        ≡ table.row_count change.now.spec.now.base) }
+    ensures exactly { IfOk result (λ rows. (row : ℕ) (tag : TagOf)
+        → IsTrue (has_row_tag rows.items row tag)
+        ↔ IsChangedBy (change_of change.now) change.now.spec.now.rules row tag) }
+{
+    let mut rows = vec![in alloc; NO_TAGS; 2 * symbol_count(&change.spec.base)]?;
+    for rule in change.spec.rules.items() {
+        add_changes(change, &mut rows, rule);
+    }
+    Ok(rows)
+}
+
+// What the rule's premise hands on to what the rule gives.
+fn push_passed(
+    change: &Change,
+    flows: &mut Vec<Flow>,
+    rule: &Rule,
+    premise: u32,
+) -> Result<(), NoMemory>
+    requires told { IsTold change.now }
+    requires among { IsIn rule.now change.now.spec.now.rules }
+    requires premise { rule.now.premise ≡ Some premise }
+    ensures { IfOk result (λ _. (gain : FlowOf) × (loss : FlowOf)
+        × IsPassing (change_of change.now) rule.now premise Gain gain
+        × IsPassing (change_of change.now) rule.now premise Loss loss
+        × (flows.new.items ≡ flows.old.items ++ gain ∷ loss ∷ [])) }
+{
+    let base = &change.spec.base;
+    let symbol = rule.inc.symbol();
+    let keeps = is_own(&rule.inc);
+    flows.push(Flow {
+        from: row_of(base, Way::Gain, Symbol::Set(premise)),
+        to: row_of(base, Way::Gain, symbol),
+        keeps,
+        without_written: change.is_blocked_at_w(rule, true),
+        without_fresh: change.is_blocked_at_f(rule),
+    })?;
+    flows.push(Flow {
+        from: row_of(base, Way::Loss, Symbol::Set(premise)),
+        to: row_of(base, Way::Loss, symbol),
+        keeps,
+        without_written: false,
+        without_fresh: false,
+    })?;
+    Ok(())
+}
+
+// What the premises of all rules hand on.
+fn rule_flows(alloc: Global, change: &Change) -> Result<Vec<Flow>, NoMemory>
+    requires told { IsTold change.now }
+    ensures { IfOk result (λ flows. AreRuleFlows (change_of change.now)
+        change.now.spec.now.rules flows.items) }
+{
+    let mut flows = Vec::new(alloc);
+    for rule in change.spec.rules.items() {
+        if let Some(premise) = rule.premise {
+            push_passed(change, &mut flows, rule, premise)?;
+        }
+    }
+    Ok(flows)
+}
+
+// What a set hands on to its complement, the other way round.
+fn swapped(structures: &Structures, set: u32, base: u32, from: Way, to: Way) -> Flow
+    requires typed { AreTyped structures.now }
+    ensures { result ≡ table.swapped_flow structures.now set base from to }
+{
+    Flow {
+        from: row_of(structures, from, Symbol::Set(base)),
+        to: row_of(structures, to, Symbol::Set(set)),
+        keeps: true,
+        without_written: false,
+        without_fresh: false,
+    }
+}
+
+// Adds what the set's base hands on to it, if it is a complement.
+fn push_complement(
+    structures: &Structures,
+    flows: &mut Vec<Flow>,
+    set: u32,
+    declared: &SetDecl,
+) -> Result<(), NoMemory>
+    requires typed { AreTyped structures.now }
+    ensures { IfOk result (λ _. flows.new.items
+        ≡ flows.old.items ++ table.complement_flows structures.now set declared.now) }
+{
+    let Some(base) = declared.except else {
+        return Ok(());
+    };
+    flows.push(swapped(structures, set, base, Way::Gain, Way::Loss))?;
+    flows.push(swapped(structures, set, base, Way::Loss, Way::Gain))?;
+    Ok(())
+}
+
+// All that is handed on.
+fn flows_of(alloc: Global, change: &Change) -> Result<Vec<Flow>, NoMemory>
+    requires told { IsTold change.now }
+    ensures { IfOk result (λ flows. AreFlows (change_of change.now) flows.items) }
+{
+    let mut flows = rule_flows(alloc, change)?;
+    let structures = &change.spec.base;
+    for (set, declared) in structures.sets.items().iter().enumerate() {
+        push_complement(structures, &mut flows, set as u32, declared)?;
+    }
+    Ok(flows)
+}
+
+/// The least table.
+pub fn effect_of(alloc: Global, change: &Change) -> Result<Effect, NoMemory>
+    requires told { IsTold change.now }
+    ensures gains { IfOk result (λ e. length e.gains
+        ≡ table.symbol_count change.now.spec.now.base) }
+    ensures losses { IfOk result (λ e. length e.losses
+        ≡ table.symbol_count change.now.spec.now.base) }
+    ensures exactly { IfOk result (λ e. (way : WayOf) (symbol : SymbolOf) (tag : TagOf)
+        → IsDeclared change.now.spec.now.base symbol
+        → IsTrue (changes change.now.spec.now.base e way symbol tag)
+        ↔ InTable (change_of change.now) way symbol tag) }
+{
+    let flows = flows_of(alloc, change)?;
+    let mut rows = changed_rows(alloc, change)?;
+    settle(&flows, &mut rows);
+    let losses = rows.split_off(symbol_count(&change.spec.base))?;
+    Ok(Effect {
+        gains: Seq::new(rows),
+        losses: Seq::new(losses),
+    })
+}

@@ -1,0 +1,163 @@
+// What instances of a rule at the written and at the fresh record may gain or lose.
+ghost use Rattle.std.specs.Prelude.{◌≡◌, ◌↔◌, Decides, IsTrue};
+ghost use Rattle.dsr_effect.specs.Told.{ChangesAtF, ChangesAtW, IsTold, MayChangeAtF, MayChangeAtW, change_of};
+ghost use Rattle.dsr_meaning.specs.Counting.{IsIn};
+ghost use Rattle.dsr_updating.specs.Effects as said;
+ghost use Rattle.dsr_updating.specs.Effects.{MayChange, has_tag};
+ghost use Rattle.dsr_updating.specs.Givers as givers;
+ghost use Rattle.dsr_updating.specs.Touching.{IsKeptApartBy, IsTouchedAtF, IsTouchedAtW};
+ghost use Rattle.dsr_updating.specs.declared.effects.Tag.{Tag as TagOf};
+
+use crate::avoided::is_marked;
+use crate::changes::Change;
+use crate::tags::{NO_TAGS, joined, only};
+use dsr_ir::{FieldRef, Inc, Pick, Place, Rule};
+use dsr_layout::premise_pool;
+use dsr_updating::{Tag, Tags, Way};
+
+/// Whether the record itself is the member or the source.
+pub fn is_own(inc: &Inc) -> bool
+    ensures { result ≡ givers.is_own inc.now }
+{
+    matches!(inc, Inc::Own(_) | Inc::OwnPair(_, _))
+}
+
+/// Of which record a fact of an instance at the fresh record is.
+fn tag_at_f(inc: &Inc) -> Tag
+    ensures { result ≡ said.tag_at_f inc.now }
+{
+    if is_own(inc) { Tag::Fresh } else { Tag::Any }
+}
+
+impl<'a> Change<'a> {
+    // Whether the record that is written is known to be no member of the premise.
+    fn is_kept_apart(&self, rule: &Rule) -> bool
+        requires told { IsTold self.now }
+        requires among { IsIn rule.now self.now.spec.now.rules }
+        ensures { Decides result (IsKeptApartBy (change_of self.now) self.now.update.now.place
+            rule.now.premise) }
+    {
+        match (self.update.place, rule.premise) {
+            (Place::Of(_), Some(set)) => is_marked(&self.apart, set),
+            _ => false,
+        }
+    }
+
+    fn is_touched_at_w(&self, rule: &Rule) -> bool
+        requires told { IsTold self.now }
+        requires among { IsIn rule.now self.now.spec.now.rules }
+        ensures { Decides result (IsTouchedAtW (change_of self.now) rule.now) }
+    {
+        self.pool == Some(premise_pool(self.spec, rule))
+            && self.reads_touched(rule)
+            && !self.is_kept_apart(rule)
+    }
+
+    fn is_touched_at_f(&self, rule: &Rule) -> bool
+        requires told { IsTold self.now }
+        requires among { IsIn rule.now self.now.spec.now.rules }
+        ensures { Decides result (IsTouchedAtF (change_of self.now) rule.now) }
+    {
+        self.update.fresh == Some(premise_pool(self.spec, rule))
+            && match rule.premise {
+                Some(set) => !is_marked(&self.avoided, set),
+                None => false,
+            }
+    }
+
+    // Whether the field gets the code of the fresh record.
+    fn gets_fresh(&self, field: FieldRef) -> bool
+        ensures { result ≡ said.gets_fresh (change_of self.now) field }
+    {
+        match self.write_to(field) {
+            Some(write) => matches!(write.pick, Pick::Fresh),
+            None => false,
+        }
+    }
+
+    // Of which record a fact of an instance at the written record is.
+    fn tag_at_w(&self, rule: &Rule, way: Way) -> Tag
+        requires told { IsTold self.now }
+        ensures { result ≡ said.tag_at_w (change_of self.now) rule.now way rule.now.inc }
+    {
+        match rule.inc {
+            Inc::Own(_) | Inc::OwnPair(_, _) => Tag::Written,
+            Inc::Slot(_, _) | Inc::SlotPair(_, _, _) => {
+                if self.is_at_entry(rule) {
+                    Tag::Entry
+                } else {
+                    Tag::Any
+                }
+            }
+            Inc::Target(_, path) => {
+                if way == Way::Gain && self.gets_fresh(path.field) {
+                    Tag::Fresh
+                } else {
+                    Tag::Any
+                }
+            }
+        }
+    }
+
+    fn changes_at_w(&self, rule: &Rule, way: Way) -> bool
+        requires told { IsTold self.now }
+        requires among { IsIn rule.now self.now.spec.now.rules }
+        ensures { Decides result (ChangesAtW (change_of self.now) rule.now way) }
+    {
+        let touched = self.is_touched_at_w(rule);
+        match way {
+            Way::Gain => touched && !self.is_blocked_at_w(rule, false),
+            Way::Loss => touched && !self.stays_at_w(rule),
+        }
+    }
+
+    fn changes_at_f(&self, rule: &Rule, way: Way) -> bool
+        requires told { IsTold self.now }
+        requires among { IsIn rule.now self.now.spec.now.rules }
+        ensures { Decides result (ChangesAtF (change_of self.now) rule.now way) }
+    {
+        let touched = self.is_touched_at_f(rule);
+        match way {
+            Way::Gain => touched && !self.is_blocked_at_f(rule),
+            Way::Loss => touched && !self.stays_at_f(rule),
+        }
+    }
+
+    // What the rule may gain or lose at the written record.
+    fn tags_at_w(&self, rule: &Rule, way: Way) -> Tags
+        requires told { IsTold self.now }
+        requires among { IsIn rule.now self.now.spec.now.rules }
+        ensures { (tag : TagOf) → IsTrue (has_tag tag result)
+            ↔ MayChangeAtW (change_of self.now) rule.now way tag }
+    {
+        if self.changes_at_w(rule, way) {
+            only(self.tag_at_w(rule, way))
+        } else {
+            NO_TAGS
+        }
+    }
+
+    // What the rule may gain or lose at the fresh record.
+    fn tags_at_f(&self, rule: &Rule, way: Way) -> Tags
+        requires told { IsTold self.now }
+        requires among { IsIn rule.now self.now.spec.now.rules }
+        ensures { (tag : TagOf) → IsTrue (has_tag tag result)
+            ↔ MayChangeAtF (change_of self.now) rule.now way tag }
+    {
+        if self.changes_at_f(rule, way) {
+            only(tag_at_f(&rule.inc))
+        } else {
+            NO_TAGS
+        }
+    }
+
+    /// What instances of the rule at the written and at the fresh record may gain or lose.
+    pub fn may_change(&self, rule: &Rule, way: Way) -> Tags
+        requires told { IsTold self.now }
+        requires among { IsIn rule.now self.now.spec.now.rules }
+        ensures { (tag : TagOf) → IsTrue (has_tag tag result)
+            ↔ MayChange (change_of self.now) rule.now way tag }
+    {
+        joined(self.tags_at_w(rule, way), self.tags_at_f(rule, way))
+    }
+}

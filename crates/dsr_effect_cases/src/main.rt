@@ -1,0 +1,63 @@
+//! Reads specifications from the standard input and prints, for each literal of each constraint,
+//! what the updates that are tried for it may change.
+//!
+//! A line `=== NAME` begins a case. The lines below it, up to the next such line, are its text.
+//! Fields stand as the numbers of their structure and their place there.
+#![tactic(auto)]
+
+ghost use Rattle.dsr_meaning.specs.Typed.{IsTyped};
+
+mod effects;
+
+use anyhow::bail;
+use dsr_ir::Spec;
+use dsr_lines::Lines;
+use dsr_parse::parse;
+use dsr_spec::spec;
+use effects::add_literals;
+use std::alloc::Global;
+use std::io;
+
+fn add_constraint(lines: &mut Lines, alloc: Global, spec: &Spec, number: u32) -> anyhow::Result<()>
+    requires typed { IsTyped spec.now }
+{
+    let Some(constraint) = spec.constraints.items().get(number as usize) else {
+        return Ok(());
+    };
+    lines.word("  constraint ");
+    lines.name(&constraint.name);
+    lines.word("\n");
+    add_literals(lines, alloc, spec, number)
+}
+
+fn add_case(lines: &mut Lines, alloc: Global, part: &str) -> anyhow::Result<()> {
+    let Some((name, text)) = part.split_once('\n') else {
+        bail!("a heading without its line feed: {part}");
+    };
+    let Ok(tree) = parse(alloc, text.as_bytes()) else {
+        bail!("{name} isn't a text of the grammar");
+    };
+    let Ok(spec) = spec(alloc, &tree) else {
+        bail!("{name} is no specification");
+    };
+    lines.word(name);
+    lines.word("\n");
+    for number in 0..spec.constraints.items().len() {
+        let Ok(number) = u32::try_from(number) else {
+            bail!("more constraints than there are numbers");
+        };
+        add_constraint(lines, alloc, &spec, number)?;
+    }
+    Ok(())
+}
+
+fn main(rt: HostRuntime) -> anyhow::Result<()> {
+    let alloc = rt.alloc();
+    let input = io::read_to_string(alloc, rt.stdin())?;
+    let mut lines = Lines::new(alloc);
+    for part in input.split("=== ").skip(1) {
+        add_case(&mut lines, alloc, part)?;
+    }
+    rt.print(lines.whole()?)?;
+    Ok(())
+}

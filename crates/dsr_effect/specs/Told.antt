@@ -1,5 +1,5 @@
 -- An update as the code keeps it, and what is found for it once.
-use Rattle.std.specs.Prelude.{◌≡◌, ◌<◌, ◌↔◌, ◌&&◌, ℕ, Bool, false, not, IsTrue, IsSome, IsSomeAnd, MatchOption, length, Option, Some, option_map, slice_index_or}
+use Rattle.std.specs.Prelude.{◌≡◌, ◌<◌, ◌↔◌, ◌&&◌, ℕ, Bool, false, not, Decides, IsTrue, IsSome, IsSomeAnd, MatchOption, length, Option, Some, option_map, slice_index_or}
 use Rattle.dsr_effect.specs.declared.changes.Change.{Change as OwnChange}
 use Rattle.dsr_ir.specs.declared.rules.Guard.{Guard}
 use Rattle.dsr_ir.specs.declared.rules.Path.{Path}
@@ -7,6 +7,7 @@ use Rattle.dsr_ir.specs.declared.rules.Rule.{Rule}
 use Rattle.dsr_ir.specs.declared.rules.Span.TheVariants.{Single}
 use Rattle.dsr_ir.specs.declared.updates.Write.{Write}
 use Rattle.dsr_effect.specs.ValueSets.{Has}
+use Rattle.dsr_effect.specs.declared.touching.Touch.{Touch}
 use Rattle.dsr_effect.specs.declared.values.Values.{Values}
 use Rattle.dsr_meaning.specs.Counting.{IsIn}
 use Rattle.dsr_meaning.specs.Typed.{IsTyped}
@@ -64,6 +65,11 @@ pub record AsksAllButTarget (rule other : Rule) : Type 0 where
   pub premise : rule.premise ≡ other.premise
   pub single : rule.span ≡ Single
   pub guards : (guard : Guard) → IsIn guard other.guards → IsIn guard rule.guards
+
+-- it tells whether the rule is touched
+pub record IsTouchOf (c : Change) (rule : Rule) (touch : Touch) : Type 0 where
+  pub at_w : Decides touch.at_w (IsTouchedAtW c rule)
+  pub at_f : Decides touch.at_f (IsTouchedAtF c rule)
 
 -- the rule's instances at W, and at F, may gain or lose something
 abbrev pub ChangesAtW : Change → Rule → Way → Type 0

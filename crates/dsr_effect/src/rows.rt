@@ -3,7 +3,7 @@ ghost use Rattle.std.specs.Prelude.{◌≡◌, ◌<◌, ◌+◌, ◌⊎◌, ◌�
 ghost use Rattle.dsr_effect.specs.Rows.{has_row_tag};
 ghost use Rattle.dsr_effect.specs.Table as table;
 ghost use Rattle.dsr_effect.specs.Table.{AreFlows, AreRuleFlows, IsChangedBy, IsPassing, row_number};
-ghost use Rattle.dsr_effect.specs.Told.{IsTold, change_of};
+ghost use Rattle.dsr_effect.specs.Told.{IsTold, IsTouchOf, change_of};
 ghost use Rattle.dsr_effect.specs.declared.flows.Flow.{Flow as FlowOf};
 ghost use Rattle.dsr_ir.specs.Rules.{symbol_of};
 ghost use Rattle.dsr_ir.specs.declared.updates.Symbol.{Symbol as SymbolOf};
@@ -18,7 +18,7 @@ ghost use Rattle.dsr_updating.specs.declared.effects.Way.TheVariants.{Gain, Loss
 use crate::changes::Change;
 use crate::flows::{Flow, settle};
 use crate::tags::{NO_TAGS, joined};
-use crate::touching::is_own;
+use crate::touching::{Touch, is_own};
 use dsr_ir::{NoMemory, Rule, Seq, SetDecl, Structures, Symbol};
 use dsr_updating::{Effect, Tags, Way};
 use std::alloc::Global;
@@ -54,8 +54,9 @@ fn row_of(base: &Structures, way: Way, symbol: Symbol) -> usize
 }
 
 // Adds what the rule may gain, or lose, at the written and at the fresh record.
-fn add_change(change: &Change, rows: &mut [Tags], rule: &Rule, way: Way)
+fn add_change(change: &Change, rows: &mut [Tags], rule: &Rule, touch: Touch, way: Way)
     requires told { IsTold change.now }
+    requires touch { IsTouchOf (change_of change.now) rule.now touch }
     requires among { IsIn rule.now change.now.spec.now.rules }
     requires places { length rows.now ≡ table.row_count change.now.spec.now.base }
     ensures places { length rows.new ≡ length rows.old }
@@ -65,7 +66,7 @@ fn add_change(change: &Change, rows: &mut [Tags], rule: &Rule, way: Way)
         × MayChange (change_of change.now) rule.now way tag) }
 {
     let row = row_of(&change.spec.base, way, rule.inc.symbol());
-    rows[row] = joined(rows[row], change.may_change(rule, way));
+    rows[row] = joined(rows[row], change.may_change(rule, touch, way));
 }
 
 // Adds what the rule may gain and lose.
@@ -78,8 +79,9 @@ fn add_changes(change: &Change, rows: &mut [Tags], rule: &Rule)
         ↔ (IsTrue (has_row_tag rows.old row tag)
         ⊎ IsChangedBy (change_of change.now) (rule.now ∷ []) row tag) }
 {
-    add_change(change, rows, rule, Way::Gain);
-    add_change(change, rows, rule, Way::Loss);
+    let touch = change.touch(rule);
+    add_change(change, rows, rule, touch, Way::Gain);
+    add_change(change, rows, rule, touch, Way::Loss);
 }
 
 // What rules may gain and lose at the written and at the fresh record.

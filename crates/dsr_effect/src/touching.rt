@@ -1,6 +1,6 @@
 // What instances of a rule at the written and at the fresh record may gain or lose.
 ghost use Rattle.std.specs.Prelude.{◌≡◌, ◌↔◌, Decides, IsTrue};
-ghost use Rattle.dsr_effect.specs.Told.{ChangesAtF, ChangesAtW, IsTold, MayChangeAtF, MayChangeAtW, change_of};
+ghost use Rattle.dsr_effect.specs.Told.{ChangesAtF, ChangesAtW, IsTold, IsTouchOf, MayChangeAtF, MayChangeAtW, change_of};
 ghost use Rattle.dsr_meaning.specs.Counting.{IsIn};
 ghost use Rattle.dsr_updating.specs.Effects as said;
 ghost use Rattle.dsr_updating.specs.Effects.{MayChange, has_tag};
@@ -22,7 +22,14 @@ pub fn is_own(inc: &Inc) -> bool
     matches!(inc, Inc::Own(_) | Inc::OwnPair(_, _))
 }
 
-/// Of which record a fact of an instance at the fresh record is.
+/// Whether instances of a rule at the written and at the fresh record are touched.
+#[derive(Clone, Copy)]
+pub struct Touch {
+    at_w: bool,
+    at_f: bool,
+}
+
+// Of which record a fact of an instance at the fresh record is.
 fn tag_at_f(inc: &Inc) -> Tag
     ensures { result ≡ said.tag_at_f inc.now }
 {
@@ -99,24 +106,34 @@ impl<'a> Change<'a> {
         }
     }
 
-    fn changes_at_w(&self, rule: &Rule, way: Way) -> bool
+    /// Whether the rule is touched, for gains and losses alike.
+    pub fn touch(&self, rule: &Rule) -> Touch
         requires told { IsTold self.now }
         requires among { IsIn rule.now self.now.spec.now.rules }
+        ensures { IsTouchOf (change_of self.now) rule.now result }
+    {
+        Touch {
+            at_w: self.is_touched_at_w(rule),
+            at_f: self.is_touched_at_f(rule),
+        }
+    }
+
+    fn changes_at_w(&self, rule: &Rule, touched: bool, way: Way) -> bool
+        requires told { IsTold self.now }
+        requires touched { Decides touched (IsTouchedAtW (change_of self.now) rule.now) }
         ensures { Decides result (ChangesAtW (change_of self.now) rule.now way) }
     {
-        let touched = self.is_touched_at_w(rule);
         match way {
             Way::Gain => touched && !self.is_blocked_at_w(rule, false),
             Way::Loss => touched && !self.stays_at_w(rule),
         }
     }
 
-    fn changes_at_f(&self, rule: &Rule, way: Way) -> bool
+    fn changes_at_f(&self, rule: &Rule, touched: bool, way: Way) -> bool
         requires told { IsTold self.now }
-        requires among { IsIn rule.now self.now.spec.now.rules }
+        requires touched { Decides touched (IsTouchedAtF (change_of self.now) rule.now) }
         ensures { Decides result (ChangesAtF (change_of self.now) rule.now way) }
     {
-        let touched = self.is_touched_at_f(rule);
         match way {
             Way::Gain => touched && !self.is_blocked_at_f(rule),
             Way::Loss => touched && !self.stays_at_f(rule),
@@ -124,13 +141,13 @@ impl<'a> Change<'a> {
     }
 
     // What the rule may gain or lose at the written record.
-    fn tags_at_w(&self, rule: &Rule, way: Way) -> Tags
+    fn tags_at_w(&self, rule: &Rule, touched: bool, way: Way) -> Tags
         requires told { IsTold self.now }
-        requires among { IsIn rule.now self.now.spec.now.rules }
+        requires touched { Decides touched (IsTouchedAtW (change_of self.now) rule.now) }
         ensures { (tag : TagOf) → IsTrue (has_tag tag result)
             ↔ MayChangeAtW (change_of self.now) rule.now way tag }
     {
-        if self.changes_at_w(rule, way) {
+        if self.changes_at_w(rule, touched, way) {
             only(self.tag_at_w(rule, way))
         } else {
             NO_TAGS
@@ -138,13 +155,13 @@ impl<'a> Change<'a> {
     }
 
     // What the rule may gain or lose at the fresh record.
-    fn tags_at_f(&self, rule: &Rule, way: Way) -> Tags
+    fn tags_at_f(&self, rule: &Rule, touched: bool, way: Way) -> Tags
         requires told { IsTold self.now }
-        requires among { IsIn rule.now self.now.spec.now.rules }
+        requires touched { Decides touched (IsTouchedAtF (change_of self.now) rule.now) }
         ensures { (tag : TagOf) → IsTrue (has_tag tag result)
             ↔ MayChangeAtF (change_of self.now) rule.now way tag }
     {
-        if self.changes_at_f(rule, way) {
+        if self.changes_at_f(rule, touched, way) {
             only(tag_at_f(&rule.inc))
         } else {
             NO_TAGS
@@ -152,12 +169,15 @@ impl<'a> Change<'a> {
     }
 
     /// What instances of the rule at the written and at the fresh record may gain or lose.
-    pub fn may_change(&self, rule: &Rule, way: Way) -> Tags
+    pub fn may_change(&self, rule: &Rule, touch: Touch, way: Way) -> Tags
         requires told { IsTold self.now }
-        requires among { IsIn rule.now self.now.spec.now.rules }
+        requires touch { IsTouchOf (change_of self.now) rule.now touch }
         ensures { (tag : TagOf) → IsTrue (has_tag tag result)
             ↔ MayChange (change_of self.now) rule.now way tag }
     {
-        joined(self.tags_at_w(rule, way), self.tags_at_f(rule, way))
+        joined(
+            self.tags_at_w(rule, touch.at_w, way),
+            self.tags_at_f(rule, touch.at_f, way),
+        )
     }
 }

@@ -1,14 +1,15 @@
-//! Which cells of an image share no bit: laws on layouts and cells. Each is the contract of a
-//! function that does nothing when it runs.
+//! Which cells of an image share no bit, and on what a layout depends: laws on layouts and cells.
+//! Each is the contract of a function that does nothing when it runs.
 #![tactic(auto)]
 
-ghost use Rattle.std.specs.Prelude.{◌≡◌, ◌≢◌, ◌⊎◌, ℕ, List, Some};
+ghost use Rattle.std.specs.Prelude.{◌≡◌, ◌≢◌, ◌⊎◌, ℕ, List, Some, length};
 ghost use Rattle.dsr_apart.specs.Entries.{IsEntry};
 ghost use Rattle.dsr_ir.specs.declared.declarations.FieldRef.{FieldRef};
 ghost use Rattle.dsr_ir.specs.declared.declarations.Structures.{Structures};
 ghost use Rattle.dsr_ir.specs.declared.layouts.Cell.{Cell};
 ghost use Rattle.dsr_ir.specs.declared.layouts.Layout.{Layout};
 ghost use Rattle.dsr_ir.specs.declared.tuples.Element.{Element};
+ghost use Rattle.dsr_meaning.specs.FixedFields.{fixed_value};
 ghost use Rattle.dsr_meaning.specs.Layouts.{layout_of};
 ghost use Rattle.dsr_meaning.specs.Legal.{IsLegalLayout};
 ghost use Rattle.dsr_meaning.specs.Typed.{AreTyped, Descends};
@@ -42,4 +43,11 @@ pub fn fields_are_apart()
         → (e : Element) (a b : FieldRef) (i j : ℕ) (c d : Cell) → a ≢ b
         → Descends base.structures a.structure b.structure ⊎ Descends base.structures b.structure a.structure
         → IsEntry layout e a i c → IsEntry layout e b j d → AreCellsApart c d }
+{}
+
+/// A layout depends on nothing of an image but its length and the values of its fixed fields.
+pub fn layouts_depend_on_fixed_values()
+    ensures { (base : Structures) (old new : List ℕ) → length new ≡ length old
+        → ((field : ℕ) → fixed_value base new field ≡ fixed_value base old field)
+        → layout_of base new ≡ layout_of base old }
 {}

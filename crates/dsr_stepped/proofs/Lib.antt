@@ -1,0 +1,4 @@
+pub mod Set
+pub mod Removed
+pub mod Stopped
+pub mod Targets

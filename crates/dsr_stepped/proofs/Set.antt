@@ -13,7 +13,7 @@ use Rattle.dsr_stepping.specs.Steps.AreWritten.{done, made, skipped}
 use Rattle.dsr_stepping.specs.declared.steps.Step.{Step}
 
 module _ (spec : Spec) (layout : Layout) (step : Step) where
-  nothing_written : (old new : List ℕ) → AreWritten spec layout step [] old new → new ≡ old
+  pub nothing_written : (old new : List ℕ) → AreWritten spec layout step [] old new → new ≡ old
   nothing_written old new done = refl
 
   -- what a write without a test wants is that the value is the number
@@ -38,10 +38,9 @@ module _ (spec : Spec) (layout : Layout) (step : Step) where
       ap (λ bytes. cell_value bytes cell) (nothing_written _ new rest)
       ∙ (ap (cell_value _) (sym same_cell) ∙ (puts.got ∙ same_number))
 
-  pub set_by_step : (update : Update) (write : Write) (cell : Cell) (number : ℕ) (old new : List ℕ) → step.fresh ≡ None
-      → update.writes ≡ write ∷ [] → write.wants ≡ None → written_cell layout step write ≡ Some cell
+  pub set_by_step : (update : Update) (write : Write) (cell : Cell) (number : ℕ) (old new : List ℕ) → update.writes ≡ write ∷ [] → write.wants ≡ None → written_cell layout step write ≡ Some cell
       → written_number spec layout step write ≡ Some number → IsStepped spec layout step update old new
       → cell_value new cell ≡ number
-  set_by_step update write cell number old new fresh writes none cell_is number_is stepped =
+  set_by_step update write cell number old new writes none cell_is number_is stepped =
       one_write write cell number stepped.between new none cell_is number_is
       (subst (λ ws. AreWritten spec layout step ws stepped.between new) writes stepped.written)

@@ -20,9 +20,10 @@ use Rattle.dsr_meaning.specs.Counting.{IsIn}
 use Rattle.dsr_meaning.specs.Instances.{Gives, GuardHolds, Meets, declared_field, referred_pool}
 use Rattle.dsr_meaning.specs.Legal.{IsLegalLayout}
 use Rattle.dsr_stepping.specs.Steps.{AreWritten, IsStepped}
-use Rattle.dsr_stepping.specs.Steps.AreWritten.{done, made, skipped}
+use Rattle.dsr_stepping.specs.Steps.AreWritten.{made, skipped}
 use Rattle.dsr_stepping.specs.declared.steps.Step.{Step}
 use Rattle.dsr_stepped.proofs.Removed.{picked_fails}
+use Rattle.dsr_stepped.proofs.Set.{nothing_written}
 use Rattle.dsr_updating.specs.Guards.{guard_write, pick_false}
 
 -- the write by which a guard is made false
@@ -55,24 +56,21 @@ of_all P (y ∷ xs) x all (inl same) = subst P (sym same) (All-head P y xs all)
 of_all P (y ∷ xs) x all (inr later) = of_all P xs x (All-tail P y xs all) later
 
 module _ (spec : Spec) (layout : Layout) (legal : IsLegalLayout layout) (step : Step) (guard : Guard) (f : Field) (pick : Pick) (picks : pick_false f guard.test ≡ Some pick) where
-  nothing_written : (old new : List ℕ) → AreWritten spec layout step [] old new → new ≡ old
-  nothing_written old new done = refl
-
   -- the test doesn't hold of what the write leaves
   left_fails : (old new : List ℕ) (value : ℕ) → AreWritten spec layout step (false_write guard pick ∷ []) old new → value_at layout new step.elem step.index guard.path ≡ Some value → Meets layout (referred_pool spec guard.path.field) guard.test value → ⊥
   left_fails old new value (skipped w c n at is wanted rest) read meets =
       let now : value_at layout new step.elem step.index guard.path ≡ Some (cell_value new c) = ap (option_map (cell_value new)) at in
-      let same : value ≡ cell_value old c = same_Some _ _ (sym read ∙ now) ∙ ap (λ bytes. cell_value bytes c) (nothing_written old new rest) in
+      let same : value ≡ cell_value old c = same_Some _ _ (sym read ∙ now) ∙ ap (λ bytes. cell_value bytes c) (nothing_written spec layout step old new rest) in
       wanted (subst (Meets layout (referred_pool spec guard.path.field) guard.test) same meets)
   left_fails old new value (made w c n at is unwanted puts rest) read meets =
       let now : value_at layout new step.elem step.index guard.path ≡ Some (cell_value new c) = ap (option_map (cell_value new)) at in
-      let same : value ≡ n = same_Some _ _ (sym read ∙ now) ∙ (ap (λ bytes. cell_value bytes c) (nothing_written _ new rest) ∙ puts.got) in
+      let same : value ≡ n = same_Some _ _ (sym read ∙ now) ∙ (ap (λ bytes. cell_value bytes c) (nothing_written spec layout step _ new rest) ∙ puts.got) in
       picked_fails spec layout legal step guard.path.field f guard.test pick n picks is (subst (Meets layout (referred_pool spec guard.path.field) guard.test) same meets)
 
 pub stopped : (spec : Spec) (layout : Layout) (step : Step) (update : Update) (write : Write) (guard : Guard) (rule : Rule) (i : Instance) (old new : List ℕ) (fact : Fact)
-    → IsLegalLayout layout → step.fresh ≡ None → update.writes ≡ write ∷ [] → guard_write spec.base false guard ≡ Some write → IsIn guard rule.guards
+    → IsLegalLayout layout → update.writes ≡ write ∷ [] → guard_write spec.base false guard ≡ Some write → IsIn guard rule.guards
     → i.elem ≡ step.elem → i.index ≡ step.index → IsStepped spec layout step update old new → Gives spec layout new i rule fact → ⊥
-stopped spec layout step update write guard rule i old new fact legal fresh writes by among elem index stepped gives =
+stopped spec layout step update write guard rule i old new fact legal writes by among elem index stepped gives =
     let false_one = false_written spec.base guard write by in
     let holds = of_all (GuardHolds spec layout new i) rule.guards guard gives.guards among in
     left_fails spec layout legal step guard false_one.field false_one.pick false_one.picks stepped.between new holds.value

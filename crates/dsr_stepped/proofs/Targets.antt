@@ -98,9 +98,9 @@ module _ (spec : Spec) (layout : Layout) (legal : IsLegalLayout layout) (step : 
   gives_none (SlotPair rel p q) fact e included = has_no_target included.0 (subst (λ r. HasTarget spec layout new i r included.0) (same_Some q path e) included.1)
 
 pub stopped_at_none : (spec : Spec) (layout : Layout) (step : Step) (update : Update) (write : Write) (path : Path) (rule : Rule) (i : Instance) (old new : List ℕ) (fact : Fact)
-    → IsLegalLayout layout → step.fresh ≡ None → update.writes ≡ write ∷ [] → reference_write spec.base NoneCode path ≡ Some write → target_of rule.inc ≡ Some path
+    → IsLegalLayout layout → update.writes ≡ write ∷ [] → reference_write spec.base NoneCode path ≡ Some write → target_of rule.inc ≡ Some path
     → i.elem ≡ step.elem → i.index ≡ step.index → IsStepped spec layout step update old new → Gives spec layout new i rule fact → ⊥
-stopped_at_none spec layout step update write path rule i old new fact legal fresh writes by target elem index stepped gives =
+stopped_at_none spec layout step update write path rule i old new fact legal writes by target elem index stepped gives =
     let none = none_written spec path write by in
     gives_none spec layout legal step path none.field none.pool none.refers stepped.between new
     (subst (λ ws. AreWritten spec layout step ws stepped.between new) (writes ∙ ap (λ w. w ∷ []) none.is) stepped.written)

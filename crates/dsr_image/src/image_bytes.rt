@@ -4,7 +4,7 @@ use dsr_ir::{Cell, NoMemory};
 /// The bytes of an image. Contracts see the list of the bytes, and for each of them whether it is
 /// claimed: whether there is room to write it.
 pub trait ImageBytes {
-    ghost use Rattle.std.specs.Prelude.{◌≡◌, ◌≤◌, ◌<◌, ◌+◌, ◌^◌, ℕ, List, Bool, length, slice_index, OnOk};
+    ghost use Rattle.std.specs.Prelude.{◌≡◌, ◌≤◌, ◌<◌, ◌+◌, ◌^◌, ℕ, List, Bool, length, slice_index, OnOk, OnErr};
     ghost use Rattle.dsr_meaning.specs.Cells.{IsCellOf, cell_value};
     ghost use Rattle.dsr_meaning.specs.Writes.{AreBytes, BesideStay, Puts};
     ghost use Rattle.dsr_image.specs.Images.{AreClaimed, IsCellClaimed, StayClaimed};
@@ -29,11 +29,13 @@ pub trait ImageBytes {
         ensures value { result ≡ cell_value (bytes self.now) cell.now }
         ensures fits { result < 2 ^ cell.now.width };
 
-    /// Makes room to write so many bytes from a place on, or answers `NoMemory`.
+    /// Makes room to write so many bytes from a place on, or answers `NoMemory`, which it doesn't
+    /// where all of them are claimed already.
     fn claim(&mut self, at: u64, count: u64) -> Result<(), NoMemory>
         requires { at + count ≤ length (bytes self.old) }
         ensures bytes { bytes self.new ≡ bytes self.old }
         ensures claimed { OnOk result (AreClaimed (claimed self.new) at count) }
+        ensures needed { OnErr result (AreClaimed (claimed self.old) at count → ⊥) }
         ensures kept { StayClaimed (claimed self.old) (claimed self.new) };
 
     /// Writes a value into a cell whose bytes are claimed.

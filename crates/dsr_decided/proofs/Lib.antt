@@ -1,6 +1,7 @@
 pub mod Active
 pub mod Bounded
 pub mod Derived
+pub mod Functional
 pub mod Instances
 pub mod Listed
 pub mod Models

@@ -7,7 +7,7 @@ use Rattle.dsr_ir.specs.declared.tuples.Binding.{Binding}
 use Rattle.dsr_ir.specs.declared.tuples.Fact.{Fact}
 use Rattle.dsr_meaning.specs.Models.{IsFact}
 use Rattle.dsr_meaning.specs.Refusals.{greatest_size}
-use Rattle.dsr_meaning.specs.Truth.{HasSize, HasVariable}
+use Rattle.dsr_meaning.specs.Truth.{HasSize}
 use Rattle.dsr_meaning.specs.Typed.{CountsRecords}
 
 -- the number is the size, and no other one is

@@ -1,20 +1,24 @@
 // Laws on models, each the contract of a function.
-ghost use Rattle.std.specs.Prelude.{◌↔◌, ℕ, List};
+ghost use Rattle.std.specs.Prelude.{◌≡◌, ◌↔◌, ℕ, IsTrue, List};
 ghost use Rattle.dsr_ir.specs.declared.constraints.Literal.{Literal};
 ghost use Rattle.dsr_ir.specs.declared.constraints.Measure.{Measure};
 ghost use Rattle.dsr_ir.specs.declared.declarations.Spec.{Spec};
 ghost use Rattle.dsr_ir.specs.declared.layouts.Layout.{Layout};
 ghost use Rattle.dsr_ir.specs.declared.tuples.Binding.{Binding};
+ghost use Rattle.dsr_ir.specs.declared.tuples.Element.{Element};
 ghost use Rattle.dsr_ir.specs.declared.tuples.Fact.{Fact};
 ghost use Rattle.dsr_ir.specs.declared.tuples.Instance.{Instance};
+ghost use Rattle.dsr_ir.specs.declared.tuples.Target.{Target};
 ghost use Rattle.dsr_layout.specs.Laws.{OfEachLayout};
 ghost use Rattle.dsr_meaning.specs.Consistency.{AreViolations, BoundConstraint, IsConsistent};
-ghost use Rattle.dsr_meaning.specs.Models.{IsActive, IsDerivedBy, IsFact};
+ghost use Rattle.dsr_meaning.specs.Legal.{IsLegalLayout};
+ghost use Rattle.dsr_meaning.specs.Models.{IsActive, IsDerivedBy, IsFact, IsPair};
 ghost use Rattle.dsr_meaning.specs.Truth.{HasVariable, LiteralHolds};
 ghost use Rattle.dsr_meaning.specs.Typed.{IsTyped};
 ghost use Rattle.dsr_decided.specs.Deciding.{IsDecided};
 ghost use Rattle.dsr_decided.specs.Reading.{ReadTheSame};
 ghost use Rattle.dsr_decided.specs.Sizes.{IsOnlySize, SizesAreBounded};
+ghost use Rattle.dsr_updating.specs.Givers.{is_functional};
 
 /// Whether a fact is in the model is decided, and whether an instance is active.
 pub fn facts_are_decided()
@@ -61,4 +65,11 @@ pub fn models_depend_on_what_is_read()
     ensures instances { (spec : Spec) (layout : Layout) (a b : List ℕ) →
         ReadTheSame spec layout a b → (i : Instance) (fact : Fact) →
         IsDerivedBy spec layout a i fact ↔ IsDerivedBy spec layout b i fact }
+{}
+
+/// Under a functional relation each record has one target at most, in every image.
+pub fn functional_relations_have_one_target()
+    ensures { (spec : Spec) (layout : Layout) (bytes : List ℕ) (rel : ℕ) (x : Element)
+        (t u : Target) → IsLegalLayout layout → IsTrue (is_functional spec rel) →
+        IsPair spec layout bytes rel x t → IsPair spec layout bytes rel x u → t ≡ u }
 {}

@@ -1,5 +1,5 @@
 -- The rules that give facts of a symbol.
-use Rattle.std.specs.Prelude.{◌≡◌, ℕ, Bool, true, false, List, [], ◌∷◌, Some, slice_get, if◌then◌else◌}
+use Rattle.std.specs.Prelude.{◌≡◌, ℕ, Bool, true, false, not, List, [], ◌∷◌, Some, is_some, slice_get, if◌then◌else◌}
 use Rattle.dsr_ir.specs.Rules.{gives}
 use Rattle.dsr_ir.specs.declared.declarations.Spec.{Spec}
 use Rattle.dsr_ir.specs.declared.rules.Inc.{Inc}
@@ -8,6 +8,7 @@ use Rattle.dsr_ir.specs.declared.rules.Rule.{Rule}
 use Rattle.dsr_ir.specs.declared.rules.Span.{Span}
 use Rattle.dsr_ir.specs.declared.rules.Span.TheVariants.{Single}
 use Rattle.dsr_ir.specs.declared.updates.Symbol.{Symbol}
+use Rattle.dsr_ir.specs.declared.updates.Symbol.TheVariants.{Rel}
 use Rattle.dsr_meaning.specs.Lists.{each_at}
 
 -- the rule with this number gives facts of the symbol
@@ -55,3 +56,18 @@ abbrev pub is_slot : Inc → Bool
 is_slot (Slot set pool) = true
 is_slot (SlotPair rel pool path) = true
 is_slot _ = false
+
+-- the rule gives each record one pair at most: with a field of the record itself, or each slot of a pool with a field of the head
+abbrev pub gives_once : Rule → Bool
+gives_once rule = once rule.inc where
+  once : Inc → Bool
+  once (OwnPair rel path) = is_single rule.span
+  once (SlotPair rel pool path) = not (is_some rule.premise)
+  once _ = false
+
+-- the relation is functional: one rule alone gives its pairs, and gives each record one at most
+abbrev pub is_functional : Spec → ℕ → Bool
+is_functional spec rel = by_one (givers spec (Rel rel)) where
+  by_one : List (ℕ × Rule) → Bool
+  by_one (giver ∷ []) = gives_once giver.1
+  by_one _ = false

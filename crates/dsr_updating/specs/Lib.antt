@@ -4,6 +4,7 @@ pub mod Facts
 pub mod Guards
 pub mod Options
 pub mod Templates
+pub mod Together
 pub mod Values
 pub mod Changes
 pub mod Avoided

@@ -17,8 +17,7 @@ use Rattle.dsr_meaning.specs.Legal.{HasEntry}
 use Rattle.dsr_meaning.specs.Refusals.{IsLayoutOf}
 use Rattle.dsr_meaning.specs.Truth.{element_of}
 use Rattle.dsr_meaning.specs.Typed.{IsTyped}
-use Rattle.dsr_meaning.specs.Writes.{Puts}
-use Rattle.dsr_stepping.specs.Puts.{ArePut}
+use Rattle.dsr_stepping.specs.Puts.{ArePut, IsPut}
 use Rattle.dsr_stepping.specs.Resets.{reset_puts}
 use Rattle.dsr_stepping.specs.declared.steps.Step.{Step}
 
@@ -70,7 +69,7 @@ pub data AreWritten (spec : Spec) (layout : Layout) (step : Step) : List Write �
   made :
       {rest : List Write} {old middle new : List ℕ} → (write : Write) (cell : Cell) (number : ℕ)
       → written_cell layout step write ≡ Some cell → written_number spec layout step write ≡ Some number
-      → (IsWanted spec layout write number (cell_value old cell) → ⊥) → Puts cell number old middle
+      → (IsWanted spec layout write number (cell_value old cell) → ⊥) → IsPut cell number old middle
       → AreWritten spec layout step rest middle new → AreWritten spec layout step (write ∷ rest) old new
 
 -- ---- a whole step

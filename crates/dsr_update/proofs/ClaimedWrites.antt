@@ -25,6 +25,9 @@ if_stays : (old new : ℕ → Bool) (o : Option Cell) → StayClaimed old new �
 if_stays old new None stay claimed = tt
 if_stays old new (Some cell) stay claimed = cell_stays old new cell stay claimed
 
+pub writes_stay : (layout : Layout) (step : Step) (writes : List Write) (old new : ℕ → Bool) → StayClaimed old new → All (IsWriteClaimed old layout step) writes → All (IsWriteClaimed new layout step) writes
+writes_stay layout step writes old new stay claimed k w below = if_stays old new (written_cell layout step (get_or writes k w)) stay (claimed k w below)
+
 -- ---- the loop over writes
 
 -- the bytes are as before, the cells of the first writes are claimed, and so is what was

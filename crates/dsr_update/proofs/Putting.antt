@@ -1,8 +1,7 @@
 -- Values are put one after the other: what is left to be put leads to all that is to be put.
 use Rattle.std.proofs.Common.{◌≡◌, ◌∙◌, ℕ, Bool, List, [], ◌∷◌, ◌++◌, length, refl, subst, sym}
 use Rattle.dsr_ir.specs.declared.layouts.Cell.{Cell}
-use Rattle.dsr_meaning.specs.Writes.{Puts}
-use Rattle.dsr_stepping.specs.Puts.{ArePut}
+use Rattle.dsr_stepping.specs.Puts.{ArePut, IsPut}
 use Rattle.dsr_stepping.specs.Puts.ArePut.{done, put}
 
 -- two lists of values in a row
@@ -27,10 +26,10 @@ put_none {first = first} same = record {
 -- one value more
 pub put_one :
     {all rest later : List (Cell × ℕ)} {first now next : List ℕ} {claimed claims claims' : ℕ → Bool} (cell : Cell) (value : ℕ) → IsPutting all rest first now claimed claims
-    → rest ≡ (cell, value) ∷ later → Puts cell value now next → claims' ≡ claims → IsPutting all later first next claimed claims'
+    → rest ≡ (cell, value) ∷ later → IsPut cell value now next → claims' ≡ claims → IsPutting all later first next claimed claims'
 put_one {now = now} cell value so_far is puts kept = record {
   goes_on = λ end more. so_far.goes_on end (subst (λ r. ArePut r now end) (sym is) (put cell value puts more));
-  long = puts.length ∙ so_far.long;
+  long = puts.puts.length ∙ so_far.long;
   kept = kept ∙ so_far.kept;
 }
 

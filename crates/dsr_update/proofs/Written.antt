@@ -6,7 +6,7 @@ use Rattle.dsr_ir.specs.declared.layouts.Cell.{Cell}
 use Rattle.dsr_ir.specs.declared.layouts.Layout.{Layout}
 use Rattle.dsr_ir.specs.declared.updates.Write.{Write}
 use Rattle.dsr_meaning.specs.Cells.{IsByteWidth, IsFieldCell, cell_value}
-use Rattle.dsr_meaning.specs.Writes.{Puts}
+use Rattle.dsr_stepping.specs.Puts.{IsPut}
 use Rattle.dsr_stepping.specs.Steps.{AreWritten, IsWanted, done, made, skipped, written_cell, written_number}
 use Rattle.dsr_stepping.specs.declared.steps.Step.{Step}
 
@@ -34,7 +34,7 @@ small_number place picked cell number place_is form picked_is fits =
     subst (λ p. IfSome p (λ n. n < 2 ^ 64)) (sym picked_is) small
 
 -- one write that is made
-pub written_one : (spec : Spec) (layout : Layout) (step : Step) (write : Write) (cell : Cell) (number value : ℕ) (old new : List ℕ) → written_cell layout step write ≡ Some cell → written_number spec layout step write ≡ Some number → value ≡ cell_value old cell → (IsWanted spec layout write number value → ⊥) → Puts cell number old new → AreWritten spec layout step (write ∷ []) old new
+pub written_one : (spec : Spec) (layout : Layout) (step : Step) (write : Write) (cell : Cell) (number value : ℕ) (old new : List ℕ) → written_cell layout step write ≡ Some cell → written_number spec layout step write ≡ Some number → value ≡ cell_value old cell → (IsWanted spec layout write number value → ⊥) → IsPut cell number old new → AreWritten spec layout step (write ∷ []) old new
 written_one spec layout step write cell number value old new cell_is number_is read unwanted puts =
     made write cell number cell_is number_is (λ wanted. unwanted (subst (IsWanted spec layout write number) (sym read) wanted)) puts done
 

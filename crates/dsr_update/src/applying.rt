@@ -1,5 +1,6 @@
 // A whole step.
 ghost use Rattle.std.specs.Prelude.{◌≡◌, OnOk, OnErr, IsSomeAnd, length, slice_get};
+ghost use Rattle.dsr_image.specs.Images.{StayClaimed};
 ghost use Rattle.dsr_stepping.specs.Steps.{CanStep, IsStepped};
 ghost use Rattle.dsr_update.specs.Claims.{IsStepClaimed};
 
@@ -33,7 +34,8 @@ pub fn make<I: ImageBytes>(
 }
 
 /// Makes the step by the update of the template that it names, once all bytes that it writes are
-/// claimed. Where there is no memory for that, the bytes are as before.
+/// claimed. Where there is no memory for that, the bytes are as before; it is never so where all of
+/// them were claimed, as those of an image that is held whole are.
 pub fn apply<I: ImageBytes>(
     spec: &Spec,
     template: &Template,
@@ -48,6 +50,9 @@ pub fn apply<I: ImageBytes>(
         (λ update. IsStepped spec.now layout.now step.now update (I.ImageBytes.bytes image.old)
         (I.ImageBytes.bytes image.new))) }
     ensures same { OnErr result (I.ImageBytes.bytes image.new ≡ I.ImageBytes.bytes image.old) }
+    ensures needed { OnErr result (IsSomeAnd (slice_get template.now.updates step.now.update)
+        (λ update. IsStepClaimed (I.ImageBytes.claimed image.old) layout.now step.now update → ⊥)) }
+    ensures kept { StayClaimed (I.ImageBytes.claimed image.old) (I.ImageBytes.claimed image.new) }
 {
     let Some(update) = template.updates.items().get(step.update as usize) else {
         return Ok(());

@@ -1,6 +1,7 @@
 // Claims of all that a step writes, before anything is written.
-ghost use Rattle.std.specs.Prelude.{◌≡◌, ◌≤◌, ◌+◌, ◌*◌, All, OnOk, length};
+ghost use Rattle.std.specs.Prelude.{◌≡◌, ◌≤◌, ◌+◌, ◌*◌, All, OnErr, OnOk, length};
 ghost use Rattle.dsr_image.specs.Images.{IsCellClaimed, StayClaimed};
+ghost use Rattle.dsr_meaning.specs.Cells.{IsFieldCell};
 ghost use Rattle.dsr_meaning.specs.Legal.{IsLegalLayout};
 ghost use Rattle.dsr_stepping.specs.Steps.{CanStep, CanWrite, IsSlot};
 ghost use Rattle.dsr_update.specs.Claims.{IsSlotClaimed, IsStepClaimed, IsWriteClaimed};
@@ -13,10 +14,12 @@ use dsr_stepping::Step;
 
 // Claims the bytes in which the cell has a bit.
 fn claim_cell<I: ImageBytes>(image: &mut I, cell: &Cell) -> Result<(), NoMemory>
+    requires form { IsFieldCell cell.now }
     requires within { cell.now.bit + cell.now.width ≤ 8 * length (I.ImageBytes.bytes image.old) }
     requires small { length (I.ImageBytes.bytes image.old) ≤ 67108864 }
     ensures bytes { I.ImageBytes.bytes image.new ≡ I.ImageBytes.bytes image.old }
     ensures claimed { OnOk result (IsCellClaimed (I.ImageBytes.claimed image.new) cell.now) }
+    ensures needed { OnErr result (IsCellClaimed (I.ImageBytes.claimed image.old) cell.now → ⊥) }
     ensures kept { StayClaimed (I.ImageBytes.claimed image.old) (I.ImageBytes.claimed image.new) }
 {
     let first = cell.bit / 8;
@@ -37,6 +40,8 @@ fn claim_writes<I: ImageBytes>(
     ensures bytes { I.ImageBytes.bytes image.new ≡ I.ImageBytes.bytes image.old }
     ensures claimed { OnOk result
         (All (IsWriteClaimed (I.ImageBytes.claimed image.new) layout.now step.now) writes.now) }
+    ensures needed { OnErr result
+        (All (IsWriteClaimed (I.ImageBytes.claimed image.old) layout.now step.now) writes.now → ⊥) }
     ensures kept { StayClaimed (I.ImageBytes.claimed image.old) (I.ImageBytes.claimed image.new) }
 {
     for write in writes {
@@ -52,6 +57,8 @@ fn claim_slot<I: ImageBytes>(layout: &Layout, elem: Element, image: &mut I) -> R
     requires long { length (I.ImageBytes.bytes image.old) ≡ layout.now.length }
     ensures bytes { I.ImageBytes.bytes image.new ≡ I.ImageBytes.bytes image.old }
     ensures claimed { OnOk result (IsSlotClaimed (I.ImageBytes.claimed image.new) layout.now elem) }
+    ensures needed { OnErr result
+        (IsSlotClaimed (I.ImageBytes.claimed image.old) layout.now elem → ⊥) }
     ensures kept { StayClaimed (I.ImageBytes.claimed image.old) (I.ImageBytes.claimed image.new) }
 {
     let Some(numbers) = pool_numbers(layout, elem.pool) else {
@@ -61,7 +68,7 @@ fn claim_slot<I: ImageBytes>(layout: &Layout, elem: Element, image: &mut I) -> R
     image.claim(start, numbers.slot)
 }
 
-/// Claims all that a step writes.
+/// Claims all that a step writes; answers `NoMemory` only where not all of it was claimed before.
 pub fn claim<I: ImageBytes>(
     spec: &Spec,
     layout: &Layout,
@@ -74,6 +81,9 @@ pub fn claim<I: ImageBytes>(
     ensures bytes { I.ImageBytes.bytes image.new ≡ I.ImageBytes.bytes image.old }
     ensures claimed { OnOk result
         (IsStepClaimed (I.ImageBytes.claimed image.new) layout.now step.now update.now) }
+    ensures needed { OnErr result
+        (IsStepClaimed (I.ImageBytes.claimed image.old) layout.now step.now update.now → ⊥) }
+    ensures kept { StayClaimed (I.ImageBytes.claimed image.old) (I.ImageBytes.claimed image.new) }
 {
     if let Some(fresh) = step.fresh {
         claim_slot(layout, fresh, image)?;

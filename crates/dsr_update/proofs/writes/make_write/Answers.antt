@@ -11,7 +11,7 @@ picked_number-requires g c = record {
 
 pub returns-then-not-is_wanted-clause-written : goal.returns-then-not-is_wanted-clause-written
 returns-then-not-is_wanted-clause-written g c =
-    written_one c.args.spec.now c.args.layout.now c.args.step.now c.args.write.now c.written_cell-cell.result c.in-Some.number c.get.result _ _ c.written_cell-cell.ensures.cell (sym c.picked_number.ensures ∙ c.in-Some.is) c.get.ensures.value (not_from_Decides c.is_wanted.result c.is_wanted.ensures c.if-not-is_wanted.true) c.put.ensures.put
+    written_one c.args.spec.now c.args.layout.now c.args.step.now c.args.write.now c.written_cell-cell.result c.in-Some.number c.get.result _ _ c.written_cell-cell.ensures.cell (sym c.picked_number.ensures ∙ c.in-Some.is) c.get.ensures.value (not_from_Decides c.is_wanted.result c.is_wanted.ensures c.if-not-is_wanted.true) (record { puts = c.put.ensures.put; beside = c.put.ensures.beside })
 
 pub returns-else-not-is_wanted-clause-written : goal.returns-else-not-is_wanted-clause-written
 returns-else-not-is_wanted-clause-written g c =

@@ -1,4 +1,14 @@
+pub mod Items
+pub mod GuardWrites
+pub mod ReferenceWrites
 pub mod Set
 pub mod Removed
 pub mod Stopped
 pub mod Targets
+pub mod Passed
+pub mod Related
+pub mod Beside
+pub mod AllTrue
+pub mod Together
+pub mod Written
+pub mod Added

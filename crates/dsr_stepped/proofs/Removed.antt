@@ -24,7 +24,8 @@ use Rattle.dsr_stepping.specs.Steps.{none_of, picked_number}
 use Rattle.dsr_stepping.specs.declared.steps.Step.{Step}
 use Rattle.dsr_updating.specs.Guards.{fitting, least_other, number_false, pick_false}
 
-other_than : (k : ℕ) → least_other k ≡ k → ⊥
+-- the least other number is another one
+pub other_than : (k : ℕ) → least_other k ≡ k → ⊥
 other_than k e =
     elim (nat_eq k 0) as (λ b. nat_eq k 0 ≡ b → (if b then 1 else 0) ≡ k → ⊥) [
       | true ↦ λ is one. grind (arith, nat_tests, is, one)
@@ -52,11 +53,11 @@ fitting_same f m n e =
       | false ↦ λ q. absurd cc
     ] e
 
-none_same : (o : Option ℕ) (f : Field) (n : ℕ) → option_and_then (fitting f) o ≡ Some n → o ≡ Some n
+pub none_same : (o : Option ℕ) (f : Field) (n : ℕ) → option_and_then (fitting f) o ≡ Some n → o ≡ Some n
 none_same None f n e = absurd cc
 none_same (Some m) f n e = ap Some (fitting_same f m n e)
 
-picked_same : (o : Option ℕ) (pick : Pick) → option_map Num o ≡ Some pick → (n : ℕ) × (o ≡ Some n) × (pick ≡ Num n)
+pub picked_same : (o : Option ℕ) (pick : Pick) → option_map Num o ≡ Some pick → (n : ℕ) × (o ≡ Some n) × (pick ≡ Num n)
 picked_same None pick e = absurd cc
 picked_same (Some n) pick e = (n, refl, sym (same_Some (Num n) pick e))
 

@@ -36,7 +36,7 @@ module _ (spec : Spec) (layout : Layout) (step : Step) where
       let same_cell : c ≡ cell = same_Some c cell (sym at ∙ cell_is) in
       let same_number : n ≡ number = same_Some n number (sym is ∙ number_is) in
       ap (λ bytes. cell_value bytes cell) (nothing_written _ new rest)
-      ∙ (ap (cell_value _) (sym same_cell) ∙ (puts.got ∙ same_number))
+      ∙ (ap (cell_value _) (sym same_cell) ∙ (puts.puts.got ∙ same_number))
 
   pub set_by_step : (update : Update) (write : Write) (cell : Cell) (number : ℕ) (old new : List ℕ) → update.writes ≡ write ∷ [] → write.wants ≡ None → written_cell layout step write ≡ Some cell
       → written_number spec layout step write ≡ Some number → IsStepped spec layout step update old new

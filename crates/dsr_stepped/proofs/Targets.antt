@@ -1,7 +1,6 @@
 -- An instance whose target was written none gives nothing.
-use Rattle.std.proofs.Common.{◌≡◌, ◌∙◌, ℕ, Bool, true, false, List, [], ◌∷◌, IsSomeAnd, Option, None, Some, refl, sym, ap, subst}
-use Rattle.std.specs.Prelude.{option_map, if◌then◌else◌}
-use Rattle.std.specs.Option.{option_and_then}
+use Rattle.std.proofs.Common.{◌≡◌, ◌∙◌, ℕ, List, [], ◌∷◌, IsSomeAnd, Some, refl, sym, ap, subst}
+use Rattle.std.specs.Prelude.{option_map}
 use Rattle.std.proofs.lemmas.Option.{same_Some}
 use Rattle.dsr_ir.specs.Layouts.{pool_numbers}
 use Rattle.dsr_ir.specs.Rules.{target_of}
@@ -22,44 +21,16 @@ use Rattle.dsr_ir.specs.declared.updates.Pick.TheVariants.{NoneCode}
 use Rattle.dsr_ir.specs.declared.updates.Update.{Update}
 use Rattle.dsr_ir.specs.declared.updates.Write.{Write}
 use Rattle.dsr_meaning.specs.Cells.{cell_value, value_at}
-use Rattle.dsr_meaning.specs.Instances.{Gives, HasTarget, Includes, LeadsTo, declared_field, kind_pool, referred_pool}
+use Rattle.dsr_meaning.specs.Instances.{Gives, HasTarget, Includes, LeadsTo, referred_pool}
 use Rattle.dsr_meaning.specs.Legal.{IsLegalLayout}
 use Rattle.dsr_meaning.specs.References.{IsCodeOf}
 use Rattle.dsr_stepping.specs.Steps.{AreWritten, IsStepped, written_cell, written_number}
 use Rattle.dsr_stepping.specs.Steps.AreWritten.{made, skipped}
 use Rattle.dsr_stepping.specs.declared.steps.Step.{Step}
+use Rattle.dsr_stepped.proofs.ReferenceWrites.{plain_write, reference_written}
 use Rattle.dsr_stepped.proofs.Removed.{none_is_none, none_number}
 use Rattle.dsr_stepped.proofs.Set.{one_write}
-use Rattle.dsr_updating.specs.Options.{open_pool, reference_write}
-
--- the write of none
-abbrev none_write : Path → Write
-none_write path = record { path = path; pick = NoneCode; wants = None }
-
--- it is the write, and the field refers to a pool
-record IsNoneWrite (spec : Spec) (path : Path) (write : Write) : Type 0 where
-  field : Field
-  pool : ℕ
-  refers : referred_pool spec path.field ≡ Some pool
-  is : write ≡ none_write path
-
-of_pool : (spec : Spec) (path : Path) (write : Write) (f : Field) (b : Bool) → declared_field spec.base path.field ≡ Some f → option_map (λ pool. none_write path) (if b then None else kind_pool f.kind) ≡ Some write → IsNoneWrite spec path write
-of_pool spec path write f true at q = absurd cc
-of_pool spec path write f false at q = by_kind (kind_pool f.kind) refl q where
-  by_kind : (o : Option ℕ) → kind_pool f.kind ≡ o → option_map (λ pool. none_write path) o ≡ Some write → IsNoneWrite spec path write
-  by_kind None e r = absurd cc
-  by_kind (Some pool) e r = record {
-    field = f;
-    pool = pool;
-    refers = ap (option_and_then (λ g. kind_pool g.kind)) at ∙ e;
-    is = sym (same_Some (none_write path) write r);
-  }
-
-none_written : (spec : Spec) (path : Path) (write : Write) → reference_write spec.base NoneCode path ≡ Some write → IsNoneWrite spec path write
-none_written spec path write e = by_field (declared_field spec.base path.field) refl e where
-  by_field : (o : Option Field) → declared_field spec.base path.field ≡ o → option_and_then (λ f. option_map (λ pool. none_write path) (open_pool f)) o ≡ Some write → IsNoneWrite spec path write
-  by_field None at q = absurd cc
-  by_field (Some f) at q = of_pool spec path write f f.fixed at q
+use Rattle.dsr_updating.specs.Options.{reference_write}
 
 -- what the written cell is
 record IsWrittenCell (spec : Spec) (layout : Layout) (step : Step) (write : Write) : Type 0 where
@@ -72,12 +43,12 @@ written_there : (spec : Spec) (layout : Layout) (step : Step) (write : Write) (o
 written_there spec layout step write old new (skipped w c n at is wanted rest) = record { cell = c; number = n; cell_is = at; number_is = is }
 written_there spec layout step write old new (made w c n at is unwanted puts rest) = record { cell = c; number = n; cell_is = at; number_is = is }
 
-module _ (spec : Spec) (layout : Layout) (legal : IsLegalLayout layout) (step : Step) (path : Path) (f : Field) (pool : ℕ) (refers : referred_pool spec path.field ≡ Some pool) (old new : List ℕ) (written : AreWritten spec layout step (none_write path ∷ []) old new) (i : Instance) (elem : i.elem ≡ step.elem) (index : i.index ≡ step.index) where
+module _ (spec : Spec) (layout : Layout) (legal : IsLegalLayout layout) (step : Step) (path : Path) (f : Field) (pool : ℕ) (refers : referred_pool spec path.field ≡ Some pool) (old new : List ℕ) (written : AreWritten spec layout step (plain_write NoneCode path ∷ []) old new) (i : Instance) (elem : i.elem ≡ step.elem) (index : i.index ≡ step.index) where
   -- the path doesn't lead anywhere
   leads_nowhere : (e : Element) → LeadsTo spec layout new i path e → ⊥
   leads_nowhere e leads =
-      let there = written_there spec layout step (none_write path) old new written in
-      let now = one_write spec layout step (none_write path) there.cell there.number old new refl there.cell_is there.number_is written in
+      let there = written_there spec layout step (plain_write NoneCode path) old new written in
+      let now = one_write spec layout step (plain_write NoneCode path) there.cell there.number old new refl there.cell_is there.number_is written in
       let read : value_at layout new step.elem step.index path ≡ Some leads.value =
       subst (λ x. value_at layout new x step.index path ≡ Some leads.value) elem
       (subst (λ k. value_at layout new i.elem k path ≡ Some leads.value) index leads.read) in
@@ -101,7 +72,7 @@ pub stopped_at_none : (spec : Spec) (layout : Layout) (step : Step) (update : Up
     → IsLegalLayout layout → update.writes ≡ write ∷ [] → reference_write spec.base NoneCode path ≡ Some write → target_of rule.inc ≡ Some path
     → i.elem ≡ step.elem → i.index ≡ step.index → IsStepped spec layout step update old new → Gives spec layout new i rule fact → ⊥
 stopped_at_none spec layout step update write path rule i old new fact legal writes by target elem index stepped gives =
-    let none = none_written spec path write by in
+    let none = reference_written spec NoneCode path write by in
     gives_none spec layout legal step path none.field none.pool none.refers stepped.between new
     (subst (λ ws. AreWritten spec layout step ws stepped.between new) (writes ∙ ap (λ w. w ∷ []) none.is) stepped.written)
     i elem index rule.inc fact target gives.included

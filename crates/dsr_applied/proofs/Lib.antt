@@ -1,0 +1,15 @@
+pub mod Given
+pub mod Placed
+pub mod Items
+pub mod Constraints
+pub mod Tried
+pub mod Typed
+pub mod Giving
+pub mod Model
+pub mod Violated
+pub mod Putting
+pub mod Choosing
+pub mod Stepping
+pub mod Applied
+pub mod Changes
+pub mod Shown

@@ -1,0 +1,4 @@
+pub mod Owners
+pub mod Sides
+pub mod Candidates
+pub mod Lists

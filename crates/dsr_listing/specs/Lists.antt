@@ -1,0 +1,77 @@
+-- The templates that are listed for a literal.
+use Rattle.std.specs.Prelude.{◌≡◌, ℕ, List, [], ◌∷◌, ◌++◌, map, take, Some, MatchOption, None, Option}
+use Rattle.std.specs.List.{flat_map}
+use Rattle.dsr_ir.specs.declared.constraints.Atom.{Atom}
+use Rattle.dsr_ir.specs.declared.constraints.Literal.{Literal}
+use Rattle.dsr_ir.specs.declared.updates.Template.{Template}
+use Rattle.dsr_ir.specs.declared.updates.Update.{Update}
+use Rattle.dsr_ir.specs.declared.updates.Write.{Write}
+use Rattle.dsr_updating.specs.Templates.{AreOnce, AreRawOf, literal_at}
+use Rattle.dsr_listing.specs.Candidates.{AreCompensations}
+use Rattle.dsr_listing.specs.Owners.{Owner}
+use Rattle.dsr_listing.specs.Sides.{IsKept}
+
+-- the update with more writes behind its own
+abbrev pub with_writes : List Write → Update → Update
+with_writes more u =
+    record { rule = u.rule; place = u.place; at = u.at; writes = u.writes ++ more; fresh = u.fresh }
+
+abbrev pub compensated_by : Template → List Write → Template
+compensated_by template more =
+    record { goal = template.goal; updates = map (with_writes more) template.updates }
+
+-- each of the list with each later one, the earlier varying slowest
+abbrev pub two_of : List Write → List (List Write)
+two_of [] = []
+two_of (write ∷ rest) = map (λ later. write ∷ later ∷ []) rest ++ two_of rest
+
+-- a template with the writes that may compensate it
+abbrev pub Compensable : Type 0
+Compensable = Template × List Write
+
+abbrev pub with_one : Compensable → List Template
+with_one c = map (λ write. compensated_by c.0 (write ∷ [])) c.1
+
+abbrev pub with_two : Compensable → List Template
+with_two c = map (compensated_by c.0) (two_of c.1)
+
+-- all templates as they are, then each with each one of its compensations, and then with each two
+abbrev pub all_of : List Compensable → List Template
+all_of templates = map (λ c. c.0) templates ++ (flat_map with_one templates ++ flat_map with_two templates)
+
+-- the templates with their compensations
+pub data AreCompensable (owner : Owner) : List Template → List Compensable → Type 0 where
+  done : AreCompensable owner [] []
+  more :
+      {rest : List Template} {pairs : List Compensable} → (template : Template) (writes : List Write)
+      → AreCompensations owner template writes → AreCompensable owner rest pairs
+      → AreCompensable owner (template ∷ rest) ((template, writes) ∷ pairs)
+
+-- those that are kept, in order
+pub data AreKept (owner : Owner) (atom : Atom) : List Template → List Template → Type 0 where
+  done : AreKept owner atom [] []
+  kept :
+      {all rest : List Template} → (template : Template) → IsKept owner atom template
+      → AreKept owner atom all rest → AreKept owner atom (template ∷ all) (template ∷ rest)
+  left_out :
+      {all rest : List Template} → (template : Template) → (IsKept owner atom template → ⊥)
+      → AreKept owner atom all rest → AreKept owner atom (template ∷ all) rest
+
+-- The templates that are listed for the literal with these numbers: those that are tried for it, without and with
+-- compensations, of equal ones the first, without those that are left out, and of these the first 64.
+pub record AreListed (owner : Owner) (conj literal : ℕ) (atom : Atom) (templates : List Template) : Type 0 where
+  pub tried : List Template
+  pub are_tried : AreRawOf owner.spec owner.constraint conj literal tried
+  pub compensable : List Compensable
+  pub are_compensable : AreCompensable owner tried compensable
+  pub once : List Template
+  pub are_once : AreOnce [] (all_of compensable) once
+  pub kept : List Template
+  pub are_kept : AreKept owner atom once kept
+  pub templates_are : templates ≡ take 64 kept
+
+-- none where there is no such literal
+abbrev pub AreListedOf : Owner → ℕ → ℕ → List Template → Type 0
+AreListedOf owner conj literal templates =
+    MatchOption (literal_at owner.constraint conj literal) (templates ≡ [])
+    (λ l. AreListed owner conj literal l.atom templates)

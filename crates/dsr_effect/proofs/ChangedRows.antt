@@ -2,11 +2,17 @@
 use Rattle.std.proofs.Common.{◌≡◌, ◌<◌, ◌⊎◌, ◌↔◌, ◌||◌, ◌++◌, ℕ, zero, suc, Bool, true, false, List, [], ◌∷◌, length, replicate, get_or, set, IsTrue, inl, inr, refl, sym, ap, subst, ◌∙◌, arith}
 use Rattle.dsr_effect.specs.Rows.{has_row_tag, joined, no_tags}
 use Rattle.dsr_effect.specs.Table.{IsChangedBy, row_number}
+use Rattle.std.proofs.Math.Bool.{or-true}
+use Rattle.std.proofs.lemmas.Bool.{false≢true}
+use Rattle.dsr_effect.specs.Told.{IsTouchOf}
+use Rattle.dsr_effect.specs.declared.touching.Touch.{Touch}
 use Rattle.dsr_ir.specs.Rules.{symbol_of}
 use Rattle.dsr_ir.specs.declared.rules.Rule.{Rule}
 use Rattle.dsr_meaning.proofs.Lists.{in_front, in_front_or_last}
 use Rattle.dsr_updating.specs.Changes.{Change}
 use Rattle.dsr_updating.specs.Effects.{MayChange, has_tag}
+use Rattle.dsr_updating.specs.Effects.MayChange.{gain_at_f, gain_at_w, loss_at_f, loss_at_w}
+use Rattle.dsr_updating.specs.Touching.{IsTouchedAtF, IsTouchedAtW}
 use Rattle.dsr_updating.specs.declared.effects.Tag.{Tag}
 use Rattle.dsr_updating.specs.declared.effects.Tag.TheVariants.{Written, Entry, Fresh, Any}
 use Rattle.dsr_updating.specs.declared.effects.Tags.{Tags}
@@ -101,6 +107,32 @@ module _ (c : Change) (rule : Rule) (before middle after : List Tags) (gain : Is
       | inl b ↦ (loss row tag).1 (inl ((gain row tag).1 (inl b)))
       | inr f ↦ elim f.among as (λ _. IsTrue (has_row_tag after row tag)) [ inl same ↦ changed f.rule f.way same f.row_is f.changes | inr never ↦ absurd never ]
     ]
+
+-- a rule that isn't touched changes nothing
+module _ (c : Change) (rule : Rule) (touch : Touch) (is : IsTouchOf c rule touch) (off : (touch.at_w || touch.at_f) ≡ false) where
+  not_at_w : IsTouchedAtW c rule → ⊥
+  not_at_w touched = false≢true (sym off ∙ ap (λ b. b || touch.at_f) (is.at_w.1 touched))
+
+  not_at_f : IsTouchedAtF c rule → ⊥
+  not_at_f touched = false≢true (sym off ∙ (ap (λ b. touch.at_w || b) (is.at_f.1 touched) ∙ or-true touch.at_w))
+
+  untouched : (way : Way) (tag : Tag) → MayChange c rule way tag → ⊥
+  untouched way tag (gain_at_w touched rest) = not_at_w touched
+  untouched way tag (loss_at_w touched rest) = not_at_w touched
+  untouched way tag (gain_at_f touched rest) = not_at_f touched
+  untouched way tag (loss_at_f touched rest) = not_at_f touched
+
+  pub none_added : (rows : List Tags) → AreAdded c rule rows rows
+  none_added rows row tag = (
+    λ h. inl h,
+    λ h. elim h as (λ _. IsTrue (has_row_tag rows row tag)) [
+      | inl b ↦ b
+      | inr f ↦ elim f.among as (λ _. IsTrue (has_row_tag rows row tag)) [
+        | inl same ↦ absurd (untouched f.way tag (subst (λ r. MayChange c r f.way tag) same f.changes))
+        | inr never ↦ absurd never
+      ]
+    ],
+  )
 
 -- one rule more
 pub changed_more : (c : Change) (rules more : List Rule) (rule : Rule) (before after : List Tags) → more ≡ rules ++ rule ∷ [] → AreChanged c rules before → AreAdded c rule before after → AreChanged c more after

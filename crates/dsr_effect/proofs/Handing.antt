@@ -1,6 +1,6 @@
 -- Flows hand on tags until no row grows.
 use Rattle.std.proofs.Common.{◌≡◌, ◌<◌, ◌≤◌, ◌+◌, ◌&&◌, ◌||◌, ◌⊎◌, ◌↔◌, not, cond, ℕ, zero, suc, Bool, true, false, List, [], ◌∷◌, length, take, take_all, get_or, set, inl, inr, All, IsTrue, MatchBool, refl, sym, ap, subst, ◌∙◌, arith, if◌then◌else◌}
-use Rattle.std.proofs.Math.Bool.{beq}
+use Rattle.std.proofs.Math.Bool.{beq, or-false}
 use Rattle.std.proofs.lemmas.List.{set-get_or}
 use Rattle.std.proofs.lemmas.List.Elements.{All-head, All-tail, All-more}
 use Rattle.std.proofs.lemmas.List.Sums.{sum_by-set}
@@ -239,6 +239,31 @@ pub hand_on_progress : (rows : List Tags) (k : ℕ) (more new : Tags) (grew : Bo
 hand_on_progress rows k more new grew less is e =
     subst (λ b. MatchBool b (missing (set rows k new) < missing rows) (set rows k new ≡ rows)) (sym e)
     (subst (λ t. MatchBool (not (are_same t (row_at rows k))) (missing (set rows k t) < missing rows) (set rows k t ≡ rows)) (sym is) (progress_of rows k more less _ refl))
+
+-- ---- along a flow from a row without tags
+
+no_tag_is : (tags : Tags) → is_some tags ≡ false → tags ≡ no_tags
+no_tag_is tags none = rw (off Written, off Entry, off Fresh, off Any) refl where
+  off : (tag : Tag) → has_tag tag tags ≡ false
+  off tag = elim (has_tag tag tags) as (λ b. has_tag tag tags ≡ b → b ≡ false) [
+    | true ↦ λ h. sym (has_some tags tag h) ∙ none
+    | false ↦ λ h. refl
+  ] refl
+
+nothing_passed : (flow : Flow) → passed_tags flow no_tags ≡ no_tags
+nothing_passed flow = elim flow.keeps as (λ k. (if k then no_tags else if false then only Any else no_tags) ≡ no_tags) [ true ↦ refl | false ↦ refl ]
+
+nothing_joined : (tags : Tags) → joined tags no_tags ≡ tags
+nothing_joined tags = rw (or-false tags.written, or-false tags.entry, or-false tags.fresh, or-false tags.any) refl
+
+-- nothing changes
+pub nothing_handed : (flow : Flow) (rows : List Tags) → is_some (row_at rows flow.from) ≡ false → rows ≡ handed_on flow rows
+nothing_handed flow rows none =
+    sym (
+    ap (λ tags. set rows flow.to (joined (row_at rows flow.to) (passed_tags flow tags))) (no_tag_is (row_at rows flow.from) none)
+    ∙ ap (λ tags. set rows flow.to (joined (row_at rows flow.to) tags)) (nothing_passed flow)
+    ∙ ap (set rows flow.to) (nothing_joined (row_at rows flow.to))
+    ∙ set-get_or rows flow.to no_tags)
 
 -- ---- along all flows
 

@@ -14,3 +14,4 @@ pub mod Asking
 pub mod Touched
 pub mod Tagged
 pub mod Apart
+pub mod ReadParts

@@ -5,7 +5,7 @@ ghost use Rattle.dsr_effect.specs.Told.{IsTold, change_of};
 ghost use Rattle.dsr_meaning.specs.Lists.{any_of};
 ghost use Rattle.dsr_updating.specs.Changes as said;
 
-use crate::fields::are_related;
+use crate::fields::{MOST_STRUCTURES, is_foreign};
 use dsr_facts::MOST_SETS;
 use dsr_ir::{FieldRef, Goal, Path, Pool, Quant, Rule, Spec, Update, Write};
 
@@ -17,6 +17,8 @@ pub struct Change<'a> {
     pub exclusive: &'a [(u32, u32)],
     pub goal: Goal,
     pub update: &'a Update,
+    /// For each declared structure whether its fields may share bytes with one that is written.
+    pub foreign: [bool; MOST_STRUCTURES],
     /// The pool of the record that is written, 0 for the head.
     pub pool: Option<u32>,
     /// For each set whether the record that is written is known to be no member.
@@ -29,14 +31,11 @@ pub struct Change<'a> {
 
 impl<'a> Change<'a> {
     /// The first write of the field.
-    pub fn write_to(&self, field: FieldRef) -> Option<Write>
-        ensures { result ≡ said.write_to self.now.update.now.writes field }
+    pub fn write_to(&self, field: FieldRef) -> Option<&Write>
+        ensures { option_map (λ w. w.now) result ≡ said.write_to self.now.update.now.writes field }
     {
         let writes = self.update.writes.items();
-        writes
-            .iter()
-            .find(|write| write.path.field == field)
-            .copied()
+        writes.iter().find(|write| write.path.field == field)
     }
 
     /// Whether the field is written.
@@ -46,41 +45,25 @@ impl<'a> Change<'a> {
         self.write_to(field).is_some()
     }
 
-    // Whether the field may share bytes with one that is written.
-    fn is_foreign(&self, field: FieldRef) -> bool
+    /// Whether the field may share bytes with one that is written.
+    pub fn is_foreign(&self, field: FieldRef) -> bool
         requires told { IsTold self.now }
         ensures { result ≡ said.is_foreign (change_of self.now) field }
     {
-        for write in self.update.writes.items() {
-            if !are_related(&self.spec.base, field.structure, write.path.field.structure) {
-                return true;
-            }
+        let structures = &self.spec.base;
+        if (field.structure as usize) < structures.structures.items().len() {
+            self.foreign[field.structure as usize]
+        } else {
+            is_foreign(structures, self.update.writes.items(), field.structure)
         }
-        false
     }
 
-    /// Whether the field's value in the record that is written may be another one afterwards.
-    pub fn is_touched(&self, field: FieldRef) -> bool
+    // Whether the field's value in the record that is written may be another one afterwards.
+    fn is_touched(&self, field: FieldRef) -> bool
         requires told { IsTold self.now }
         ensures { result ≡ said.is_touched (change_of self.now) field }
     {
         self.is_written(field) || self.is_foreign(field)
-    }
-
-    /// Whether the rule reads a field whose value may be another one.
-    pub fn reads_touched(&self, rule: &Rule) -> bool
-        requires told { IsTold self.now }
-        ensures { result ≡ said.reads_touched (change_of self.now) rule.now }
-    {
-        for guard in rule.guards.items() {
-            if self.is_touched(guard.path.field) {
-                return true;
-            }
-        }
-        match rule.inc.target() {
-            Some(path) => self.is_touched(path.field),
-            None => false,
-        }
     }
 
     // Whether the path is an entry of a written array.

@@ -17,7 +17,7 @@ ghost use Rattle.dsr_meaning.specs.Typed.{IsTyped, IsTypedQuant};
 
 use crate::avoided::avoided_sets;
 use crate::changes::Change;
-use crate::fields::{place_pool, pool_at};
+use crate::fields::{foreign_structures, place_pool, pool_at};
 use crate::rows::effect_of;
 use dsr_facts::{Facts, MOST_SETS};
 use dsr_goal::Known;
@@ -117,6 +117,7 @@ impl<'a> Context<'a> {
             exclusive: self.exclusive,
             goal,
             update,
+            foreign: foreign_structures(&self.spec.base, update.writes.items()),
             pool: place_pool(self.spec, self.quant, update.rule, update.place),
             apart: self.apart_at(update.place),
             fresh,

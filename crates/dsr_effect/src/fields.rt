@@ -1,12 +1,16 @@
 // Structures that are related, and the pools of records.
-ghost use Rattle.std.specs.Prelude.{◌≡◌, option_and_then, option_map, slice_get};
+ghost use Rattle.std.specs.Prelude.{◌≡◌, ◌<◌, ℕ, false, length, option_and_then, option_map, slice_get, slice_index_or};
+ghost use Rattle.dsr_effect.specs.Told.{is_foreign_structure};
 ghost use Rattle.dsr_meaning.specs.Instances as meaning;
 ghost use Rattle.dsr_meaning.specs.Typed as typed;
 ghost use Rattle.dsr_meaning.specs.Typed.{AreTyped};
 ghost use Rattle.dsr_updating.specs.Changes as said;
 
-use dsr_ir::{Place, Pool, Quant, Spec, Structure, Structures, Var};
+use dsr_ir::{Place, Pool, Quant, Spec, Structure, Structures, Var, Write};
 use dsr_layout::premise_pool;
+
+/// How many structures a specification may have.
+pub const MOST_STRUCTURES: usize = 64;
 
 // The structure's parent.
 fn parent(structures: &[Structure], structure: u32) -> Option<u32>
@@ -36,6 +40,33 @@ pub fn are_related(structures: &Structures, a: u32, b: u32) -> bool
     ensures { result ≡ said.are_related structures.now a b }
 {
     descends(structures, a, b) || descends(structures, b, a)
+}
+
+/// Whether fields of the structure may share bytes with one that is written.
+pub fn is_foreign(structures: &Structures, writes: &[Write], structure: u32) -> bool
+    requires typed { AreTyped structures.now }
+    ensures { result ≡ is_foreign_structure structures.now writes.now structure }
+{
+    for write in writes {
+        if !are_related(structures, structure, write.path.field.structure) {
+            return true;
+        }
+    }
+    false
+}
+
+/// The same for each structure that is declared.
+pub fn foreign_structures(structures: &Structures, writes: &[Write]) -> [bool; MOST_STRUCTURES]
+    requires typed { AreTyped structures.now }
+    ensures { (structure : ℕ) → structure < length structures.now.structures
+        → slice_index_or result structure false
+        ≡ is_foreign_structure structures.now writes.now structure }
+{
+    let mut marks = [false; MOST_STRUCTURES];
+    for structure in 0..structures.structures.items().len() as u32 {
+        marks[structure as usize] = is_foreign(structures, writes, structure);
+    }
+    marks
 }
 
 /// The declaration of a pool, counted from 1.

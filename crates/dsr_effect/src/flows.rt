@@ -53,8 +53,12 @@ fn hand_on(flow: Flow, rows: &mut [Tags]) -> bool
     ensures progress { MatchBool result (missing rows.new < missing rows.old)
         (rows.new ≡ rows.old) }
 {
+    let tags = rows[flow.from];
+    if !is_some(tags) {
+        return false;
+    }
     let old = rows[flow.to];
-    let new = joined(old, flow.passed_tags(rows[flow.from]));
+    let new = joined(old, flow.passed_tags(tags));
     rows[flow.to] = new;
     new != old
 }

@@ -10,6 +10,7 @@ mod context;
 mod fields;
 mod firing;
 mod flows;
+mod readings;
 mod rows;
 mod tags;
 mod touching;

@@ -2,12 +2,13 @@
 ghost use Rattle.std.specs.Prelude.{◌≡◌, ◌<◌, ◌+◌, ◌⊎◌, ◌↔◌, ◌++◌, ℕ, [], ◌∷◌, IfOk, IsTrue, Some, length};
 ghost use Rattle.dsr_effect.specs.Rows.{has_row_tag};
 ghost use Rattle.dsr_effect.specs.Table as table;
-ghost use Rattle.dsr_effect.specs.Table.{AreFlows, AreRuleFlows, IsChangedBy, IsPassing, row_number};
-ghost use Rattle.dsr_effect.specs.Told.{IsTold, IsTouchOf, change_of};
+ghost use Rattle.dsr_effect.specs.Table.{AreRuleFlows, IsChangedBy, IsPassing, row_number};
+ghost use Rattle.dsr_effect.specs.Told.{IsReading, IsTold, IsTouchOf, change_of};
 ghost use Rattle.dsr_effect.specs.declared.flows.Flow.{Flow as FlowOf};
 ghost use Rattle.dsr_ir.specs.Rules.{symbol_of};
 ghost use Rattle.dsr_ir.specs.declared.updates.Symbol.{Symbol as SymbolOf};
 ghost use Rattle.dsr_meaning.specs.Counting.{IsIn};
+ghost use Rattle.dsr_meaning.specs.Lists.{each_at};
 ghost use Rattle.dsr_meaning.specs.Typed.{AreTyped};
 ghost use Rattle.dsr_updating.specs.Effects as said;
 ghost use Rattle.dsr_updating.specs.Effects.{InTable, IsDeclared, MayChange, changes};
@@ -17,6 +18,7 @@ ghost use Rattle.dsr_updating.specs.declared.effects.Way.TheVariants.{Gain, Loss
 
 use crate::changes::Change;
 use crate::flows::{Flow, settle};
+use crate::readings::Reading;
 use crate::tags::{NO_TAGS, joined};
 use crate::touching::{Touch, is_own};
 use dsr_ir::{NoMemory, Rule, Seq, SetDecl, Structures, Symbol};
@@ -70,8 +72,9 @@ fn add_change(change: &Change, rows: &mut [Tags], rule: &Rule, touch: Touch, way
 }
 
 // Adds what the rule may gain and lose.
-fn add_changes(change: &Change, rows: &mut [Tags], rule: &Rule)
+fn add_changes(change: &Change, rows: &mut [Tags], rule: &Rule, touch: Touch)
     requires told { IsTold change.now }
+    requires touch { IsTouchOf (change_of change.now) rule.now touch }
     requires among { IsIn rule.now change.now.spec.now.rules }
     requires places { length rows.now ≡ table.row_count change.now.spec.now.base }
     ensures places { length rows.new ≡ length rows.old }
@@ -79,25 +82,10 @@ fn add_changes(change: &Change, rows: &mut [Tags], rule: &Rule)
         ↔ (IsTrue (has_row_tag rows.old row tag)
         ⊎ IsChangedBy (change_of change.now) (rule.now ∷ []) row tag) }
 {
-    let touch = change.touch(rule);
-    add_change(change, rows, rule, touch, Way::Gain);
-    add_change(change, rows, rule, touch, Way::Loss);
-}
-
-// What rules may gain and lose at the written and at the fresh record.
-fn changed_rows(alloc: Global, change: &Change) -> Result<Vec<Tags>, NoMemory>
-    requires told { IsTold change.now }
-    ensures places { IfOk result (λ rows. length rows.items
-        ≡ table.row_count change.now.spec.now.base) }
-    ensures exactly { IfOk result (λ rows. (row : ℕ) (tag : TagOf)
-        → IsTrue (has_row_tag rows.items row tag)
-        ↔ IsChangedBy (change_of change.now) change.now.spec.now.rules row tag) }
-{
-    let mut rows = vec![in alloc; NO_TAGS; 2 * symbol_count(&change.spec.base)]?;
-    for rule in change.spec.rules.items() {
-        add_changes(change, &mut rows, rule);
+    if touch.is_some() {
+        add_change(change, rows, rule, touch, Way::Gain);
+        add_change(change, rows, rule, touch, Way::Loss);
     }
-    Ok(rows)
 }
 
 // What the rule's premise hands on to what the rule gives.
@@ -106,8 +94,10 @@ fn push_passed(
     flows: &mut Vec<Flow>,
     rule: &Rule,
     premise: u32,
+    reading: Reading,
 ) -> Result<(), NoMemory>
     requires told { IsTold change.now }
+    requires reading { IsReading (change_of change.now) rule.now reading }
     requires among { IsIn rule.now change.now.spec.now.rules }
     requires premise { rule.now.premise ≡ Some premise }
     ensures { IfOk result (λ _. (gain : FlowOf) × (loss : FlowOf)
@@ -122,7 +112,7 @@ fn push_passed(
         from: row_of(base, Way::Gain, Symbol::Set(premise)),
         to: row_of(base, Way::Gain, symbol),
         keeps,
-        without_written: change.is_blocked_at_w(rule, true),
+        without_written: reading.blocked_joining,
         without_fresh: change.is_blocked_at_f(rule),
     })?;
     flows.push(Flow {
@@ -135,19 +125,30 @@ fn push_passed(
     Ok(())
 }
 
-// What the premises of all rules hand on.
-fn rule_flows(alloc: Global, change: &Change) -> Result<Vec<Flow>, NoMemory>
+// What rules may gain and lose at the written and at the fresh record, and what the premises of
+// all rules hand on; each rule is gone over once.
+fn rule_rows(alloc: Global, change: &Change) -> Result<(Vec<Tags>, Vec<Flow>), NoMemory>
     requires told { IsTold change.now }
-    ensures { IfOk result (λ flows. AreRuleFlows (change_of change.now)
-        change.now.spec.now.rules flows.items) }
+    ensures places { IfOk result (λ found. length found.0.items
+        ≡ table.row_count change.now.spec.now.base) }
+    ensures exactly { IfOk result (λ found. (row : ℕ) (tag : TagOf)
+        → IsTrue (has_row_tag found.0.items row tag)
+        ↔ IsChangedBy (change_of change.now) change.now.spec.now.rules row tag) }
+    ensures flows { IfOk result (λ found. AreRuleFlows (change_of change.now)
+        change.now.spec.now.rules found.1.items) }
 {
-    let mut flows = Vec::new(alloc);
-    for rule in change.spec.rules.items() {
+    let base = &change.spec.base;
+    let rules = change.spec.rules.items();
+    let mut rows = vec![in alloc; NO_TAGS; 2 * symbol_count(base)]?;
+    let mut flows = Vec::with_capacity(alloc, 2 * (rules.len() + base.sets.items().len()))?;
+    for rule in rules {
+        let touch = change.touch(rule);
+        add_changes(change, &mut rows, rule, touch);
         if let Some(premise) = rule.premise {
-            push_passed(change, &mut flows, rule, premise)?;
+            push_passed(change, &mut flows, rule, premise, touch.reading)?;
         }
     }
-    Ok(flows)
+    Ok((rows, flows))
 }
 
 // What a set hands on to its complement, the other way round.
@@ -183,17 +184,16 @@ fn push_complement(
     Ok(())
 }
 
-// All that is handed on.
-fn flows_of(alloc: Global, change: &Change) -> Result<Vec<Flow>, NoMemory>
-    requires told { IsTold change.now }
-    ensures { IfOk result (λ flows. AreFlows (change_of change.now) flows.items) }
+// Adds what sets hand on to their complements.
+fn push_complements(structures: &Structures, flows: &mut Vec<Flow>) -> Result<(), NoMemory>
+    requires typed { AreTyped structures.now }
+    ensures { IfOk result (λ _. flows.new.items ≡ flows.old.items
+        ++ each_at (table.complement_flows structures.now) 0 structures.now.sets) }
 {
-    let mut flows = rule_flows(alloc, change)?;
-    let structures = &change.spec.base;
     for (set, declared) in structures.sets.items().iter().enumerate() {
-        push_complement(structures, &mut flows, set as u32, declared)?;
+        push_complement(structures, flows, set as u32, declared)?;
     }
-    Ok(flows)
+    Ok(())
 }
 
 /// The least table.
@@ -208,8 +208,8 @@ pub fn effect_of(alloc: Global, change: &Change) -> Result<Effect, NoMemory>
         → IsTrue (changes change.now.spec.now.base e way symbol tag)
         ↔ InTable (change_of change.now) way symbol tag) }
 {
-    let flows = flows_of(alloc, change)?;
-    let mut rows = changed_rows(alloc, change)?;
+    let (mut rows, mut flows) = rule_rows(alloc, change)?;
+    push_complements(&change.spec.base, &mut flows)?;
     settle(&flows, &mut rows);
     let losses = rows.split_off(symbol_count(&change.spec.base))?;
     Ok(Effect {

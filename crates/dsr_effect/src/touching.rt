@@ -1,6 +1,6 @@
 // What instances of a rule at the written and at the fresh record may gain or lose.
-ghost use Rattle.std.specs.Prelude.{◌≡◌, ◌↔◌, Decides, IsTrue};
-ghost use Rattle.dsr_effect.specs.Told.{ChangesAtF, ChangesAtW, IsTold, IsTouchOf, MayChangeAtF, MayChangeAtW, change_of};
+ghost use Rattle.std.specs.Prelude.{◌≡◌, ◌↔◌, ◌||◌, Decides, IsTrue};
+ghost use Rattle.dsr_effect.specs.Told.{ChangesAtF, ChangesAtW, IsReading, IsTold, IsTouchOf, MayChangeAtF, MayChangeAtW, change_of};
 ghost use Rattle.dsr_meaning.specs.Counting.{IsIn};
 ghost use Rattle.dsr_updating.specs.Effects as said;
 ghost use Rattle.dsr_updating.specs.Effects.{MayChange, has_tag};
@@ -10,6 +10,7 @@ ghost use Rattle.dsr_updating.specs.declared.effects.Tag.{Tag as TagOf};
 
 use crate::avoided::is_marked;
 use crate::changes::Change;
+use crate::readings::Reading;
 use crate::tags::{NO_TAGS, joined, only};
 use dsr_ir::{FieldRef, Inc, Pick, Place, Rule};
 use dsr_layout::premise_pool;
@@ -22,11 +23,23 @@ pub fn is_own(inc: &Inc) -> bool
     matches!(inc, Inc::Own(_) | Inc::OwnPair(_, _))
 }
 
-/// Whether instances of a rule at the written and at the fresh record are touched.
+/// What an update does to a rule, for gains, losses and what is handed on alike.
 #[derive(Clone, Copy)]
 pub struct Touch {
+    /// Whether instances at the written and at the fresh record are touched.
     at_w: bool,
     at_f: bool,
+    /// What becomes of what the rule reads in the written record.
+    pub reading: Reading,
+}
+
+impl Touch {
+    /// Whether some instances are touched.
+    pub fn is_some(self) -> bool
+        ensures { result ≡ self.at_w || self.at_f }
+    {
+        self.at_w || self.at_f
+    }
 }
 
 // Of which record a fact of an instance at the fresh record is.
@@ -50,13 +63,14 @@ impl<'a> Change<'a> {
         }
     }
 
-    fn is_touched_at_w(&self, rule: &Rule) -> bool
+    fn is_touched_at_w(&self, rule: &Rule, reading: Reading) -> bool
         requires told { IsTold self.now }
         requires among { IsIn rule.now self.now.spec.now.rules }
+        requires reading { IsReading (change_of self.now) rule.now reading }
         ensures { Decides result (IsTouchedAtW (change_of self.now) rule.now) }
     {
         self.pool == Some(premise_pool(self.spec, rule))
-            && self.reads_touched(rule)
+            && reading.touched
             && !self.is_kept_apart(rule)
     }
 
@@ -106,26 +120,28 @@ impl<'a> Change<'a> {
         }
     }
 
-    /// Whether the rule is touched, for gains and losses alike.
+    /// What the update does to the rule.
     pub fn touch(&self, rule: &Rule) -> Touch
         requires told { IsTold self.now }
         requires among { IsIn rule.now self.now.spec.now.rules }
         ensures { IsTouchOf (change_of self.now) rule.now result }
     {
+        let reading = self.reading(rule);
         Touch {
-            at_w: self.is_touched_at_w(rule),
+            at_w: self.is_touched_at_w(rule, reading),
             at_f: self.is_touched_at_f(rule),
+            reading,
         }
     }
 
-    fn changes_at_w(&self, rule: &Rule, touched: bool, way: Way) -> bool
+    fn changes_at_w(&self, rule: &Rule, touch: Touch, way: Way) -> bool
         requires told { IsTold self.now }
-        requires touched { Decides touched (IsTouchedAtW (change_of self.now) rule.now) }
+        requires touch { IsTouchOf (change_of self.now) rule.now touch }
         ensures { Decides result (ChangesAtW (change_of self.now) rule.now way) }
     {
         match way {
-            Way::Gain => touched && !self.is_blocked_at_w(rule, false),
-            Way::Loss => touched && !self.stays_at_w(rule),
+            Way::Gain => touch.at_w && !touch.reading.blocked,
+            Way::Loss => touch.at_w && !self.stays_at_w(rule, touch.reading),
         }
     }
 
@@ -141,13 +157,13 @@ impl<'a> Change<'a> {
     }
 
     // What the rule may gain or lose at the written record.
-    fn tags_at_w(&self, rule: &Rule, touched: bool, way: Way) -> Tags
+    fn tags_at_w(&self, rule: &Rule, touch: Touch, way: Way) -> Tags
         requires told { IsTold self.now }
-        requires touched { Decides touched (IsTouchedAtW (change_of self.now) rule.now) }
+        requires touch { IsTouchOf (change_of self.now) rule.now touch }
         ensures { (tag : TagOf) → IsTrue (has_tag tag result)
             ↔ MayChangeAtW (change_of self.now) rule.now way tag }
     {
-        if self.changes_at_w(rule, touched, way) {
+        if self.changes_at_w(rule, touch, way) {
             only(self.tag_at_w(rule, way))
         } else {
             NO_TAGS
@@ -176,7 +192,7 @@ impl<'a> Change<'a> {
             ↔ MayChange (change_of self.now) rule.now way tag }
     {
         joined(
-            self.tags_at_w(rule, touch.at_w, way),
+            self.tags_at_w(rule, touch, way),
             self.tags_at_f(rule, touch.at_f, way),
         )
     }

@@ -1,4 +1,4 @@
-use Rattle.std.proofs.Common.{◌∙◌, rules, tests}
+use Rattle.std.proofs.Common.{rules, tests}
 use Rattle.std.proofs.lemmas.Iterator.{YieldsList-from_slice}
 use Rattle.std.proofs.lemmas.Iterator.Search.{find_from_yields_List}
 use Rattle.dsr_updating.specs.Templates.{is_same_field}
@@ -6,5 +6,4 @@ use Rattle.dsr_effect.proofs.changes.Change.write_to.Goals as goal
 
 pub returns : goal.returns
 returns c =
-    c.copied.ensures
-    ∙ find_from_yields_List (λ w. is_same_field w.path.field c.args.field) _ _ c.find.result c.find.ensures.ran (YieldsList-from_slice c.args.self.now.update.now.writes cc) (λ x b q k. search (rules, tests))
+    find_from_yields_List (λ w. is_same_field w.path.field c.args.field) _ _ c.find.result c.find.ensures.ran (YieldsList-from_slice c.args.self.now.update.now.writes cc) (λ x b q k. search (rules, tests))

@@ -2,7 +2,7 @@
 ghost use Rattle.dsr_meaning.specs.Typed.{IsTyped, IsTypedQuant};
 
 use anyhow::bail;
-use dsr_facts::{facts_before, known};
+use dsr_facts::{Facts, facts_before, known};
 use dsr_ir::{Quant, Spec, Var};
 use dsr_lines::Lines;
 use std::alloc::Global;
@@ -56,17 +56,28 @@ fn add_known_of(lines: &mut Lines, alloc: Global, spec: &Spec, quant: &Quant) ->
     }
 }
 
-/// The facts of the constraints before this one, and what is known of its variables.
-pub fn add_facts(lines: &mut Lines, alloc: Global, spec: &Spec, number: u32) -> anyhow::Result<()>
+fn add_gathered(lines: &mut Lines, facts: &Facts) {
+    add_numbers(lines, "    injective", facts.injective.items());
+    add_pairs(lines, "    exclusive", facts.exclusive.items());
+    add_pairs(lines, "    apart", facts.apart.items());
+    add_numbers(lines, "    from", facts.from.items());
+}
+
+fn add_before(lines: &mut Lines, alloc: Global, spec: &Spec, number: u32) -> anyhow::Result<()>
     requires typed { IsTyped spec.now }
 {
     let Ok(facts) = facts_before(alloc, spec, number) else {
         bail!("no memory");
     };
-    add_numbers(lines, "    injective", facts.injective.items());
-    add_pairs(lines, "    exclusive", facts.exclusive.items());
-    add_pairs(lines, "    apart", facts.apart.items());
-    add_numbers(lines, "    from", facts.from.items());
+    add_gathered(lines, &facts);
+    Ok(())
+}
+
+/// The facts of the constraints before this one, and what is known of its variables.
+pub fn add_facts(lines: &mut Lines, alloc: Global, spec: &Spec, number: u32) -> anyhow::Result<()>
+    requires typed { IsTyped spec.now }
+{
+    add_before(lines, alloc, spec, number)?;
     match spec.constraints.items().get(number as usize) {
         Some(constraint) => add_known_of(lines, alloc, spec, &constraint.quant),
         None => Ok(()),

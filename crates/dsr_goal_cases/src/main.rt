@@ -6,6 +6,7 @@
 //! Fields stand as the numbers of their structure and their place there.
 #![tactic(auto)]
 
+ghost use Rattle.std.specs.Prelude.{IfOk};
 ghost use Rattle.dsr_meaning.specs.Typed.{IsTyped};
 
 mod facts;
@@ -16,6 +17,7 @@ use dsr_ir::Spec;
 use dsr_lines::Lines;
 use dsr_parse::parse;
 use dsr_spec::spec;
+use dsr_tree::Tree;
 use facts::add_facts;
 use std::alloc::Global;
 use std::io;
@@ -34,25 +36,55 @@ fn add_constraint(lines: &mut Lines, alloc: Global, spec: &Spec, number: u32) ->
     add_literals(lines, alloc, spec, number)
 }
 
-fn add_case(lines: &mut Lines, alloc: Global, part: &str) -> anyhow::Result<()> {
-    let Some((name, text)) = part.split_once('\n') else {
-        bail!("a heading without its line feed: {part}");
-    };
-    let Ok(tree) = parse(alloc, text.as_bytes()) else {
-        bail!("{name} isn't a text of the grammar");
-    };
-    let Ok(spec) = spec(alloc, &tree) else {
-        bail!("{name} is no specification");
-    };
-    lines.word(name);
-    lines.word("\n");
+fn add_constraints(lines: &mut Lines, alloc: Global, spec: &Spec) -> anyhow::Result<()>
+    requires typed { IsTyped spec.now }
+{
     for number in 0..spec.constraints.items().len() {
         let Ok(number) = u32::try_from(number) else {
             bail!("more constraints than there are numbers");
         };
-        add_constraint(lines, alloc, &spec, number)?;
+        add_constraint(lines, alloc, spec, number)?;
     }
     Ok(())
+}
+
+fn add_spec(lines: &mut Lines, alloc: Global, name: &str, spec: &Spec) -> anyhow::Result<()>
+    requires typed { IsTyped spec.now }
+{
+    lines.word(name);
+    lines.word("\n");
+    add_constraints(lines, alloc, spec)
+}
+
+fn tree_of(alloc: Global, name: &str, text: &str) -> anyhow::Result<Tree> {
+    match parse(alloc, text.as_bytes()) {
+        Ok(tree) => Ok(tree),
+        Err(_) => bail!("{name} isn't a text of the grammar"),
+    }
+}
+
+fn meant(alloc: Global, name: &str, tree: &Tree) -> anyhow::Result<Spec>
+    ensures typed { IfOk result IsTyped }
+{
+    match spec(alloc, tree) {
+        Ok(spec) => Ok(spec),
+        Err(_) => bail!("{name} is no specification"),
+    }
+}
+
+fn spec_of(alloc: Global, name: &str, text: &str) -> anyhow::Result<Spec>
+    ensures typed { IfOk result IsTyped }
+{
+    let tree = tree_of(alloc, name, text)?;
+    meant(alloc, name, &tree)
+}
+
+fn add_case(lines: &mut Lines, alloc: Global, part: &str) -> anyhow::Result<()> {
+    let Some((name, text)) = part.split_once('\n') else {
+        bail!("a heading without its line feed: {part}");
+    };
+    let spec = spec_of(alloc, name, text)?;
+    add_spec(lines, alloc, name, &spec)
 }
 
 fn main(rt: HostRuntime) -> anyhow::Result<()> {

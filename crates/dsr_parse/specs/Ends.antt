@@ -15,6 +15,7 @@ use Rattle.dsr_text.specs.Phrases.{Phrase, ◌▸◌, in_turn}
 use Rattle.dsr_text.specs.Syntax.{a_word, a_mark, a_formula, a_unit, Syntax, Then, Many, The}
 use Rattle.dsr_text.specs.TreeTexts.{word as word_of, mark as mark_of, name_text, maybe_text, formula_text, behind_text, path_text, guards_text, inclusion_text, quantifier_text}
 use Rattle.dsr_parse.specs.Reading.{said_field}
+use Rattle.dsr_parse.specs.declared.reader.declarations.PoolCodes.{PoolCodes}
 use Rattle.dsr_parse.specs.declared.reader.declarations.PoolEnd.{PoolEnd}
 
 -- the fields of a structure, in braces
@@ -45,6 +46,23 @@ pool_end_text p =
     ▸ behind_text keyword.None (expr_shape p.none)
     ▸ mark_of sign.Semicolon
 
+-- how the references of a pool are coded, to the pool's end
+abbrev pub pool_codes : Syntax
+pool_codes =
+    row
+    (expr_behind (a_word keyword.Codes)
+    ∷ expr_behind (a_word keyword.Step)
+    ∷ expr_behind (a_word keyword.None)
+    ∷ mark sign.Semicolon
+    ∷ [])
+
+abbrev pub pool_codes_text : PoolCodes → Phrase
+pool_codes_text p =
+    behind_text keyword.Codes (expr_shape p.code)
+    ▸ behind_text keyword.Step (expr_shape p.step)
+    ▸ behind_text keyword.None (expr_shape p.none)
+    ▸ mark_of sign.Semicolon
+
 -- what stands behind the index of a rule
 abbrev pub rule_end : Syntax
 rule_end = row (maybe guards ∷ mark sign.Gives ∷ inclusion ∷ mark sign.Semicolon ∷ [])
@@ -52,6 +70,13 @@ rule_end = row (maybe guards ∷ mark sign.Gives ∷ inclusion ∷ mark sign.Sem
 abbrev pub rule_end_text : Option Guards → Inclusion → Phrase
 rule_end_text g i =
     maybe_text guards_text g ▸ mark_of sign.Gives ▸ inclusion_text i ▸ mark_of sign.Semicolon
+
+-- what a rule gives, to the rule's end
+abbrev pub conclusion : Syntax
+conclusion = row (mark sign.Gives ∷ inclusion ∷ mark sign.Semicolon ∷ [])
+
+abbrev pub conclusion_text : Inclusion → Phrase
+conclusion_text i = mark_of sign.Gives ▸ inclusion_text i ▸ mark_of sign.Semicolon
 
 -- what stands behind the comma of a pair
 abbrev pub pair_end : Syntax

@@ -1,5 +1,5 @@
 // Tables of names, from each name to the number of the first item that declares it.
-ghost use Rattle.std.specs.Prelude.{◌≡◌, ◌<◌, ℕ, List, [], map, length, vec_len, slice_index_or, codes, IfOk, OnOk};
+ghost use Rattle.std.specs.Prelude.{◌≡◌, ◌<◌, ℕ, List, [], Some, map, take, length, vec_len, slice_index_or, codes, IfOk, OnOk};
 ghost use Rattle.std.specs.List.{position_from};
 ghost use Rattle.std.specs.Str.{bytes_eq};
 ghost use Rattle.indexmap.specs.IndexMap.{get};
@@ -267,14 +267,52 @@ fn ancestors_of(
     Ok(lines)
 }
 
+// A `?` costs its proof what stays to be dropped there, so the tables of a tree are made in parts.
+
+// The pools by their names, and the supplies by their pools' names.
+#[derive(Drop)]
+struct PoolTables {
+    pools: IndexMap<Name, usize>,
+    supplies: IndexMap<Name, usize>,
+}
+
+fn pool_tables(alloc: Global, tree: &Tree) -> Result<PoolTables, NoMemory>
+    ensures pools { IfOk result (λ t. (q : List ℕ) → get bytes_eq t.pools q
+        ≡ position_from (λ p. is_named (Some p.name.name) q) 0 tree.now.pools) }
+    ensures supplies { IfOk result (λ t. (q : List ℕ) → get bytes_eq t.supplies q
+        ≡ position_from (λ f. is_named (Some f.pool.name) q) 0 tree.now.supplies) }
+{
+    let pools = numbers_of(alloc, tree.pools.items())?;
+    let supplies = numbers_of(alloc, tree.supplies.items())?;
+    Ok(PoolTables { pools, supplies })
+}
+
+// The sets and the relations by their names.
+#[derive(Drop)]
+struct SetTables {
+    sets: IndexMap<Name, usize>,
+    relations: IndexMap<Name, usize>,
+}
+
+fn set_tables(alloc: Global, tree: &Tree) -> Result<SetTables, NoMemory>
+    ensures sets { IfOk result (λ t. (q : List ℕ) → get bytes_eq t.sets q
+        ≡ position_from (λ s. is_named (Some s.name.name) q) 0 tree.now.sets) }
+    ensures relations { IfOk result (λ t. (q : List ℕ) → get bytes_eq t.relations q
+        ≡ position_from (λ r. is_named (Some r.name.name) q) 0 tree.now.relations) }
+{
+    let sets = numbers_of(alloc, tree.sets.items())?;
+    let relations = numbers_of(alloc, tree.relations.items())?;
+    Ok(SetTables { sets, relations })
+}
+
 // What the names of pools, sets and relations stand for.
 fn symbol_tables(alloc: Global, tree: &Tree) -> Result<SymbolTables, NoMemory>
     ensures { IfOk result (HaveSymbols tree.now) }
 {
-    let pools = numbers_of(alloc, tree.pools.items())?;
-    let sets = numbers_of(alloc, tree.sets.items())?;
-    let relations = numbers_of(alloc, tree.relations.items())?;
-    let supplies = numbers_of(alloc, tree.supplies.items())?;
+    let of_pools = pool_tables(alloc, tree)?;
+    let of_sets = set_tables(alloc, tree)?;
+    let PoolTables { pools, supplies } = of_pools;
+    let SetTables { sets, relations } = of_sets;
     Ok(SymbolTables {
         pools,
         sets,
@@ -283,16 +321,57 @@ fn symbol_tables(alloc: Global, tree: &Tree) -> Result<SymbolTables, NoMemory>
     })
 }
 
+// The structures by their names, and the fixed fields of `Head`.
+#[derive(Drop)]
+struct StructureNumbers {
+    structures: IndexMap<Name, usize>,
+    fixed: IndexMap<Name, usize>,
+}
+
+fn structure_numbers(alloc: Global, tree: &Tree) -> Result<StructureNumbers, NoMemory>
+    ensures structures { IfOk result (λ n. (q : List ℕ) → get bytes_eq n.structures q
+        ≡ position_from (λ s. is_named (Some s.name.name) q) 0 tree.now.structures) }
+    ensures fixed { IfOk result (λ n. (q : List ℕ) → get bytes_eq n.fixed q
+        ≡ fixed_in (tree_shape tree.now) (get bytes_eq n.structures (codes "Head")) q) }
+{
+    let structures = numbers_of(alloc, tree.structures.items())?;
+    let fixed = fixed_of_head(alloc, tree, &structures)?;
+    Ok(StructureNumbers { structures, fixed })
+}
+
+// What each structure declares itself, and what it descends from.
+#[derive(Drop)]
+struct StructureRows {
+    fields: Vec<IndexMap<Name, usize>>,
+    ancestors: Vec<Vec<usize>>,
+}
+
+fn structure_rows(
+    alloc: Global,
+    numbers: &StructureNumbers,
+    structures: &[Structure],
+) -> Result<StructureRows, NoMemory>
+    ensures fields { IfOk result (λ rows. map (get bytes_eq) rows.fields.items
+        ≡ map (λ s. field_number (structure_shape s)) structures.now) }
+    ensures ancestors { IfOk result (λ rows. map (λ v. v.items) rows.ancestors.items
+        ≡ all_ancestors (get bytes_eq numbers.now.structures)
+        (map structure_shape (take 65 structures.now))) }
+{
+    let asked = &structures[..structures.len().min(65)];
+    let ancestors = ancestors_of(alloc, &numbers.structures, asked)?;
+    let fields = own_fields(alloc, structures)?;
+    Ok(StructureRows { fields, ancestors })
+}
+
 /// What the names of a tree stand for.
 pub fn name_tables(alloc: Global, tree: &Tree) -> Result<NameTables, NoMemory>
     ensures { IfOk result (λ tables. told_by tree.now tables ≡ names_of (tree_shape tree.now)) }
 {
-    let items = tree.structures.items();
+    let numbers = structure_numbers(alloc, tree)?;
+    let rows = structure_rows(alloc, &numbers, tree.structures.items())?;
     let symbols = symbol_tables(alloc, tree)?;
-    let structures = numbers_of(alloc, items)?;
-    let fixed = fixed_of_head(alloc, tree, &structures)?;
-    let fields = own_fields(alloc, items)?;
-    let ancestors = ancestors_of(alloc, &structures, &items[..items.len().min(65)])?;
+    let StructureNumbers { structures, fixed } = numbers;
+    let StructureRows { fields, ancestors } = rows;
     Ok(NameTables {
         structures,
         fields,

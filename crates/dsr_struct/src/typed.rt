@@ -5,11 +5,12 @@ ghost use Rattle.dsr_text.specs.Declarations.{declaration_faults};
 ghost use Rattle.dsr_text.specs.Tables.{tables, tables_with, version_of};
 ghost use Rattle.dsr_meaning.specs.Placeable.{ArePlaceable};
 ghost use Rattle.dsr_meaning.specs.Typed.{AreTyped};
-ghost use Rattle.dsr_struct.specs.Known.{known_of, AllFit, HasLegalWidths};
+ghost use Rattle.dsr_text.specs.Names.{names_of};
+ghost use Rattle.dsr_struct.specs.Known.{told_by, known_of, AllFit, HasLegalWidths};
 ghost use Rattle.dsr_faults.specs.Refusals.{Tells};
 
 use crate::lookups::Names;
-use crate::names::{head_name, name_tables};
+use crate::names::{NameTables, head_name, name_tables};
 use dsr_faults::SpecFault;
 use dsr_ir::{Name, NoMemory, Structures};
 use dsr_tree::Tree;
@@ -38,16 +39,45 @@ impl Names<'_> {
         requires legal { All HasLegalWidths (known_of self.now).tree.structures }
         ensures { IfOk result (λ s. s ≡ tables_with (known_of self.now)) }
     {
+        let version = version_of(self.tree.version.number);
+        let number = self.head_number(head);
+        let structures = self.typed_structures(alloc)?;
+        let pools = self.typed_pools(alloc)?;
+        let sets = self.typed_sets(alloc)?;
+        let rels = self.typed_relations(alloc)?;
         Ok(Structures {
-            version: version_of(self.tree.version.number),
+            version,
             order: self.tree.order,
-            head: self.head_number(head),
-            structures: self.typed_structures(alloc)?,
-            pools: self.typed_pools(alloc)?,
-            sets: self.typed_sets(alloc)?,
-            rels: self.typed_relations(alloc)?,
+            head: number,
+            structures,
+            pools,
+            sets,
+            rels,
         })
     }
+}
+
+// The typed tables of a tree, or the fault that is told, with what its names stand for.
+fn typed_with(alloc: Global, tree: &Tree, known: &NameTables) -> Result<Structures, SpecFault>
+    requires { told_by tree.now known.now ≡ names_of (tree_shape tree.now) }
+    ensures no_fault { IfOk result (λ _. declaration_faults (tree_shape tree.now) ≡ []) }
+    ensures tables { IfOk result (λ s. s ≡ tables (tree_shape tree.now)) }
+    ensures typed { IfOk result AreTyped }
+    ensures placeable { IfOk result ArePlaceable }
+    ensures fault { IfErr result (Tells (declaration_faults (tree_shape tree.now))) }
+{
+    let names = Names {
+        tree,
+        tables: known,
+    };
+    let head = head_name(alloc)?;
+    if let Some(fault) = names.check(&head) {
+        return Err(SpecFault::At {
+            kind: fault.condition.kind(),
+            place: fault.place,
+        });
+    }
+    Ok(names.typed(alloc, &head)?)
 }
 
 /// The typed tables of a tree's structures, pools, sets, relations and supplies; its rules and
@@ -61,16 +91,5 @@ pub fn structures(alloc: Global, tree: &Tree) -> Result<Structures, SpecFault>
     ensures fault { IfErr result (Tells (declaration_faults (tree_shape tree.now))) }
 {
     let tables = name_tables(alloc, tree)?;
-    let names = Names {
-        tree,
-        tables: &tables,
-    };
-    let head = head_name(alloc)?;
-    if let Some(fault) = names.check(&head) {
-        return Err(SpecFault::At {
-            kind: fault.condition.kind(),
-            place: fault.place,
-        });
-    }
-    Ok(names.typed(alloc, &head)?)
+    typed_with(alloc, tree, &tables)
 }

@@ -1,15 +1,18 @@
 // The tables of structures and pools.
 ghost use Rattle.std.specs.Prelude.{◌≡◌, ◌∷◌, [], All, map, option_map, option_and_then, IfOk};
-ghost use Rattle.dsr_tree.specs.Trees.{named, named_shape, field_shape, structure_shape, pool_shape};
+ghost use Rattle.std.specs.Str.{bytes_eq};
+ghost use Rattle.indexmap.specs.IndexMap.{get};
+ghost use Rattle.dsr_tree.specs.Trees.{expr_shape, named, named_shape, field_shape, structure_shape, pool_shape};
 ghost use Rattle.dsr_text.specs.Declarations.{width_faults};
 ghost use Rattle.dsr_text.specs.Names.{used_structure};
-ghost use Rattle.dsr_text.specs.Tables.{number_in, pool_in, typed_width, typed_content, typed_field, typed_structure, typed_pool, avoided_by, avoided};
-ghost use Rattle.dsr_struct.specs.Known.{known_of, AllFit, HasLegalWidth, HasLegalWidths};
+ghost use Rattle.dsr_text.specs.Tables.{number_in, pool_in, typed_expr, typed_width, typed_content, typed_field, typed_structure, typed_pool, avoided_by, avoided};
+ghost use Rattle.dsr_struct.specs.Known.{known_of, Fit, AllFit, HasLegalWidth, HasLegalWidths};
 
 use crate::lookups::Names;
 use crate::typed_exprs::{number_in, typed_expr, typed_maybe_expr};
-use dsr_ir::{Field, Kind, Name, NoMemory, Pool, Seq, Structure, TryClone, Width};
+use dsr_ir::{Expr, Field, Kind, Name, NoMemory, Pool, Seq, Structure, TryClone, Width};
 use dsr_tree::{self, Content, Fresh, NamedField, PlacedName};
+use indexmap::IndexMap;
 use std::alloc::Global;
 
 fn typed_width(width: dsr_tree::Width) -> Width
@@ -23,6 +26,69 @@ fn typed_width(width: dsr_tree::Width) -> Width
         dsr_tree::Width::U64 { .. } => Width::U64,
         dsr_tree::Width::Bits { number, .. } => Width::Bits(number.number as u8),
     }
+}
+
+// A `?` costs its proof what stays to be dropped there, so a pool is made in parts.
+
+// A pool's name, and the sets that its supply avoids.
+#[derive(Drop)]
+struct NameAndAvoided {
+    name: Name,
+    avoid: Option<Seq<u32>>,
+}
+
+// Where a pool's slots lie.
+#[derive(Drop)]
+struct SlotExprs {
+    count: Expr,
+    slot: Option<Expr>,
+    start: Expr,
+}
+
+fn typed_slots(
+    alloc: Global,
+    fixed: &IndexMap<Name, usize>,
+    pool: &dsr_tree::Pool,
+) -> Result<SlotExprs, NoMemory>
+    requires { Fit (get bytes_eq fixed.now) }
+    ensures count { IfOk result (λ s. s.count
+        ≡ typed_expr (get bytes_eq fixed.now) (expr_shape pool.now.count)) }
+    ensures slot { IfOk result (λ s. s.slot
+        ≡ option_map (typed_expr (get bytes_eq fixed.now)) (option_map expr_shape pool.now.slot)) }
+    ensures start { IfOk result (λ s. s.start
+        ≡ typed_expr (get bytes_eq fixed.now) (expr_shape pool.now.start)) }
+{
+    let count = typed_expr(alloc, fixed, &pool.count)?;
+    let slot = typed_maybe_expr(alloc, fixed, &pool.slot)?;
+    let start = typed_expr(alloc, fixed, &pool.start)?;
+    Ok(SlotExprs { count, slot, start })
+}
+
+// The codes by which a pool's slots are referred to.
+#[derive(Drop)]
+struct CodeExprs {
+    code: Expr,
+    step: Expr,
+    none: Expr,
+}
+
+fn typed_codes(
+    alloc: Global,
+    fixed: &IndexMap<Name, usize>,
+    pool: &dsr_tree::Pool,
+) -> Result<CodeExprs, NoMemory>
+    requires { Fit (get bytes_eq fixed.now) }
+    ensures code { IfOk result (λ c. c.code
+        ≡ typed_expr (get bytes_eq fixed.now) (expr_shape pool.now.code)) }
+    ensures step { IfOk result (λ c. c.step
+        ≡ typed_expr (get bytes_eq fixed.now) (expr_shape pool.now.step)) }
+    ensures none { IfOk result (λ c. c.none
+        ≡ typed_expr (get bytes_eq fixed.now) (expr_shape pool.now.none)) }
+{
+    let code = typed_expr(alloc, fixed, &pool.code)?;
+    let step = typed_expr(alloc, fixed, &pool.step)?;
+    let none = typed_expr(alloc, fixed, &pool.none)?;
+    Ok(CodeExprs { code, step, none })
 }
 
 impl Names<'_> {
@@ -62,12 +128,16 @@ impl Names<'_> {
         requires legal { width_faults field.now.width ≡ [] }
         ensures { IfOk result (λ f. f ≡ typed_field (known_of self.now) (named (named_shape field.now))) }
     {
+        let width = typed_width(field.width);
+        let kind = self.typed_content(&field.content);
+        let name = field.name.name.clone(alloc)?;
+        let len = typed_maybe_expr(alloc, &self.tables.fixed, &field.length)?;
         Ok(Field {
-            name: field.name.name.clone(alloc)?,
+            name,
             fixed: field.fixed.is_some(),
-            width: typed_width(field.width),
-            len: typed_maybe_expr(alloc, &self.tables.fixed, &field.length)?,
-            kind: self.typed_content(&field.content),
+            width,
+            len,
+            kind,
         })
     }
 
@@ -124,10 +194,13 @@ impl Names<'_> {
         requires legal { HasLegalWidths (structure_shape structure.now) }
         ensures { IfOk result (λ s. s ≡ typed_structure (known_of self.now) (structure_shape structure.now)) }
     {
+        let parent = self.typed_parent(&structure.parent);
+        let name = structure.name.name.clone(alloc)?;
+        let fields = self.typed_fields(alloc, structure.fields.items())?;
         Ok(Structure {
-            name: structure.name.name.clone(alloc)?,
-            parent: self.typed_parent(&structure.parent),
-            fields: self.typed_fields(alloc, structure.fields.items())?,
+            name,
+            parent,
+            fields,
         })
     }
 
@@ -172,22 +245,30 @@ impl Names<'_> {
         Ok(None)
     }
 
+    fn name_and_avoided(&self, alloc: Global, pool: &Name) -> Result<NameAndAvoided, NoMemory>
+        requires fit { AllFit (known_of self.now) }
+        ensures name { IfOk result (λ n. n.name ≡ pool.now) }
+        ensures avoid { IfOk result (λ n. n.avoid ≡ avoided (known_of self.now) pool.now) }
+    {
+        let name = pool.clone(alloc)?;
+        let avoid = self.avoided(alloc, pool)?;
+        Ok(NameAndAvoided { name, avoid })
+    }
+
     fn typed_pool(&self, alloc: Global, pool: &dsr_tree::Pool) -> Result<Pool, NoMemory>
         requires fit { AllFit (known_of self.now) }
         ensures { IfOk result (λ p. p ≡ typed_pool (known_of self.now) (pool_shape pool.now)) }
     {
-        let fixed = &self.tables.fixed;
-        let name = pool.name.name.clone(alloc)?;
-        let count = typed_expr(alloc, fixed, &pool.count)?;
-        let slot = typed_maybe_expr(alloc, fixed, &pool.slot)?;
-        let start = typed_expr(alloc, fixed, &pool.start)?;
-        let code = typed_expr(alloc, fixed, &pool.code)?;
-        let step = typed_expr(alloc, fixed, &pool.step)?;
-        let none = typed_expr(alloc, fixed, &pool.none)?;
-        let avoid = self.avoided(alloc, &pool.name.name)?;
+        let structure = self.structure_in(&pool.structure);
+        let named = self.name_and_avoided(alloc, &pool.name.name)?;
+        let slots = typed_slots(alloc, &self.tables.fixed, pool)?;
+        let codes = typed_codes(alloc, &self.tables.fixed, pool)?;
+        let NameAndAvoided { name, avoid } = named;
+        let SlotExprs { count, slot, start } = slots;
+        let CodeExprs { code, step, none } = codes;
         Ok(Pool {
             name,
-            structure: self.structure_in(&pool.structure),
+            structure,
             count,
             slot,
             start,

@@ -23,6 +23,14 @@ pub struct PoolEnd {
     pub none: Expr,
 }
 
+// How a pool's references are coded.
+#[derive(Drop)]
+pub struct PoolCodes {
+    pub code: Expr,
+    pub step: Expr,
+    pub none: Expr,
+}
+
 impl<'a> Reader<'a> {
     pub fn pools(&mut self) -> Result<Vec<Pool>, Stop>
         ensures ok { IfOk result (λ pools. Reads (Many grammar.pool)
@@ -67,17 +75,26 @@ impl<'a> Reader<'a> {
     {
         let slot = self.slot()?;
         let start = self.expr_behind(Keyword::At)?;
+        let codes = self.pool_codes()?;
+        Ok(PoolEnd {
+            slot,
+            start,
+            code: codes.code,
+            step: codes.step,
+            none: codes.none,
+        })
+    }
+
+    // Reads how the references of a pool are coded, to the end of the pool.
+    fn pool_codes(&mut self) -> Result<PoolCodes, Stop>
+        ensures ok { IfOk result (λ p. Reads ends.pool_codes (ends.pool_codes_text p) self.old self.new) }
+        ensures err { IfErr result (λ e. Halts (ends.pool_codes ∷ []) self.old e) }
+    {
         let code = self.expr_behind(Keyword::Codes)?;
         let step = self.expr_behind(Keyword::Step)?;
         let none = self.expr_behind(Keyword::None)?;
         self.sign(Sign::Semicolon)?;
-        Ok(PoolEnd {
-            slot,
-            start,
-            code,
-            step,
-            none,
-        })
+        Ok(PoolCodes { code, step, none })
     }
 
     // Reads the length of a slot, where it is said.

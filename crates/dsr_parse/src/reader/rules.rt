@@ -50,10 +50,19 @@ impl<'a> Reader<'a> {
         ensures err { IfErr result (λ e. Halts (ends.rule_end ∷ []) self.old e) }
     {
         let guards = self.guards()?;
+        let inclusion = self.conclusion()?;
+        Ok((guards, inclusion))
+    }
+
+    // Reads what a rule gives, to its end.
+    fn conclusion(&mut self) -> Result<Inclusion, Stop>
+        ensures ok { IfOk result (λ i. Reads ends.conclusion (ends.conclusion_text i) self.old self.new) }
+        ensures err { IfErr result (λ e. Halts (ends.conclusion ∷ []) self.old e) }
+    {
         self.sign(Sign::Gives)?;
         let inclusion = self.inclusion()?;
         self.sign(Sign::Semicolon)?;
-        Ok((guards, inclusion))
+        Ok(inclusion)
     }
 
     fn premise(&mut self) -> Result<Premise, Stop>

@@ -1,27 +1,23 @@
-use Rattle.std.proofs.Common.{Some, map, take, length, refl, ap, ◌∙◌}
-use Rattle.std.proofs.lemmas.List.{take_min}
-use Rattle.std.proofs.Math.Nat.{min_comm}
-use Rattle.std.specs.List.{position_from}
+use Rattle.std.proofs.Common.{map, take, refl, ap, ◌∙◌}
 use Rattle.std.specs.Str.{bytes_eq}
 use Rattle.indexmap.specs.IndexMap.{get}
-use Rattle.dsr_tree.specs.Trees.{structure_shape, tree_shape}
+use Rattle.dsr_tree.specs.Trees.{structure_shape}
 use Rattle.dsr_text.specs.Names.{all_ancestors, field_number}
-use Rattle.dsr_struct.specs.Known.{is_named, told_by}
+use Rattle.dsr_struct.specs.Known.{told_by}
 use Rattle.dsr_struct.proofs.Tables.{tables_tell}
 use Rattle.dsr_struct.proofs.names.name_tables.Goals as goal
 
 pub returns : goal.returns
 returns c =
-    let number = get bytes_eq c.in_ok-structures.structures in
+    let numbers = c.in_ok-numbers in
+    let rows = c.in_ok-rows in
     let symbols = c.in_ok-symbols.ensures in
-    tables_tell c.args.tree.now (told_by c.args.tree.now (record { structures = c.in_ok-structures.structures; fields = c.in_ok-fields.fields; ancestors = c.in_ok-ancestors.ancestors; fixed = c.in_ok-fixed.fixed; symbols = c.in_ok-symbols.symbols })) (record {
+    tables_tell c.args.tree.now (told_by c.args.tree.now (record { structures = numbers.numbers.structures; fields = rows.rows.fields; ancestors = rows.rows.ancestors; fixed = numbers.numbers.fixed; symbols = c.in_ok-symbols.symbols })) (record {
       tree_is = refl;
-      structures = λ q. c.in_ok-structures.ensures q ∙ ap (position_from (λ s. is_named (Some s.name.name) q) 0) c.items-items.ensures;
-      fields = c.in_ok-fields.ensures ∙ ap (map (λ s. field_number (structure_shape s))) c.items-items.ensures;
-      ancestors = c.in_ok-ancestors.ensures
-          ∙ ap (λ n. all_ancestors number (map structure_shape (take n c.items-items.result.now))) (c.min.ensures ∙ min_comm (length c.items-items.result.now) 65)
-          ∙ ap (λ ss. all_ancestors number (map structure_shape ss)) (take_min 65 c.items-items.result.now ∙ ap (take 65) c.items-items.ensures);
-      fixed = c.in_ok-fixed.ensures;
+      structures = numbers.ensures.structures;
+      fields = rows.ensures.fields ∙ ap (map (λ s. field_number (structure_shape s))) c.items.ensures;
+      ancestors = rows.ensures.ancestors ∙ ap (λ ss. all_ancestors (get bytes_eq numbers.numbers.structures) (map structure_shape (take 65 ss))) c.items.ensures;
+      fixed = numbers.ensures.fixed;
       pools = symbols.pools;
       sets = symbols.sets;
       relations = symbols.relations;

@@ -1,12 +1,9 @@
-use Rattle.std.proofs.Common.{Some, ap, ◌∙◌}
-use Rattle.std.specs.List.{position_from}
-use Rattle.dsr_struct.specs.Known.{is_named}
 use Rattle.dsr_struct.proofs.names.symbol_tables.Goals as goal
 
 pub returns : goal.returns
 returns c = record {
-  pools = λ q. c.in_ok-pools.ensures q ∙ ap (position_from (λ p. is_named (Some p.name.name) q) 0) c.items.ensures;
-  sets = λ q. c.in_ok-sets.ensures q ∙ ap (position_from (λ p. is_named (Some p.name.name) q) 0) c.items-2.ensures;
-  relations = λ q. c.in_ok-relations.ensures q ∙ ap (position_from (λ p. is_named (Some p.name.name) q) 0) c.items-3.ensures;
-  supplies = λ q. c.in_ok-supplies.ensures q ∙ ap (position_from (λ p. is_named (Some p.pool.name) q) 0) c.items-4.ensures;
+  pools = c.in_ok-of_pools.ensures.pools;
+  sets = c.in_ok-of_sets.ensures.sets;
+  relations = c.in_ok-of_sets.ensures.relations;
+  supplies = c.in_ok-of_pools.ensures.supplies;
 }

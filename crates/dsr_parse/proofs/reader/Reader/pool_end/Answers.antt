@@ -1,4 +1,4 @@
-use Rattle.dsr_parse.proofs.Passing.{passed_on, halts_first, halts_rest, reads_then, reads_unkept, reads_as}
+use Rattle.dsr_parse.proofs.Passing.{passed_on, halts_first, halts_rest, reads_then, reads_as}
 use Rattle.dsr_parse.proofs.PartTexts.{slot_said}
 use Rattle.dsr_parse.proofs.reader.Reader.pool_end.Goals as goal
 
@@ -8,17 +8,8 @@ returns-in_err-slot-clause-err c = passed_on c.from_residual.result c.from_resid
 pub returns-in_err-start-clause-err : goal.returns-in_err-start-clause-err
 returns-in_err-start-clause-err c = passed_on c.from_residual-in_err-start.result c.from_residual-in_err-start.ensures.1 (halts_rest c.in_ok-slot.ensures.ok (halts_first c.in_err-start.ensures.err))
 
-pub returns-in_err-code-clause-err : goal.returns-in_err-code-clause-err
-returns-in_err-code-clause-err c = passed_on c.from_residual-in_err-code.result c.from_residual-in_err-code.ensures.1 (halts_rest c.in_ok-slot.ensures.ok (halts_rest c.in_ok-start.ensures.ok (halts_first c.in_err-code.ensures.err)))
-
-pub returns-in_err-step-clause-err : goal.returns-in_err-step-clause-err
-returns-in_err-step-clause-err c = passed_on c.from_residual-in_err-step.result c.from_residual-in_err-step.ensures.1 (halts_rest c.in_ok-slot.ensures.ok (halts_rest c.in_ok-start.ensures.ok (halts_rest c.in_ok-code.ensures.ok (halts_first c.in_err-step.ensures.err))))
-
-pub returns-in_err-none-clause-err : goal.returns-in_err-none-clause-err
-returns-in_err-none-clause-err c = passed_on c.from_residual-in_err-none.result c.from_residual-in_err-none.ensures.1 (halts_rest c.in_ok-slot.ensures.ok (halts_rest c.in_ok-start.ensures.ok (halts_rest c.in_ok-code.ensures.ok (halts_rest c.in_ok-step.ensures.ok (halts_first c.in_err-none.ensures.err)))))
-
-pub returns-in_err-sign-clause-err : goal.returns-in_err-sign-clause-err
-returns-in_err-sign-clause-err c = passed_on c.from_residual-in_err-sign.result c.from_residual-in_err-sign.ensures.1 (halts_rest c.in_ok-slot.ensures.ok (halts_rest c.in_ok-start.ensures.ok (halts_rest c.in_ok-code.ensures.ok (halts_rest c.in_ok-step.ensures.ok (halts_rest c.in_ok-none.ensures.ok c.in_err-sign.ensures.err)))))
+pub returns-in_err-codes-clause-err : goal.returns-in_err-codes-clause-err
+returns-in_err-codes-clause-err c = passed_on c.from_residual-in_err-codes.result c.from_residual-in_err-codes.ensures.1 (halts_rest c.in_ok-slot.ensures.ok (halts_rest c.in_ok-start.ensures.ok c.in_err-codes.ensures.err))
 
 pub returns-clause-ok : goal.returns-clause-ok
-returns-clause-ok c = reads_then (reads_as (slot_said c.in_ok-slot.slot) c.in_ok-slot.ensures.ok) (reads_then c.in_ok-start.ensures.ok (reads_then c.in_ok-code.ensures.ok (reads_then c.in_ok-step.ensures.ok (reads_then c.in_ok-none.ensures.ok (reads_unkept c.in_ok-sign.ensures.ok)))))
+returns-clause-ok c = reads_then (reads_as (slot_said c.in_ok-slot.slot) c.in_ok-slot.ensures.ok) (reads_then c.in_ok-start.ensures.ok c.in_ok-codes.ensures.ok)

@@ -8,29 +8,29 @@ use Rattle.dsr_struct.proofs.Outcome.{fault_told, no_fault, numbers_fit, widths_
 use Rattle.dsr_struct.proofs.PlaceableTables.{placeable_tables}
 use Rattle.dsr_struct.proofs.TypedTables.{typed_tables}
 use Rattle.dsr_meaning.specs.Typed.{AreTyped}
-use Rattle.dsr_struct.proofs.typed.structures.Goals as goal
+use Rattle.dsr_struct.proofs.typed.typed_with.Goals as goal
 
 pub returns-in-Some-clause-fault : goal.returns-in-Some-clause-fault
 returns-in-Some-clause-fault c =
-    (c.in-Some.fault.condition, c.kind.ensures, fault_told (tree_shape c.args.tree.now) (told_by c.args.tree.now c.in_ok-tables.tables) c.in_ok-tables.ensures c.check.result c.check.ensures c.in-Some.fault c.in-Some.is)
+    (c.in-Some.fault.condition, c.kind.ensures, fault_told (tree_shape c.args.tree.now) (told_by c.args.tree.now c.args.known.now) c.requires c.check.result c.check.ensures c.in-Some.fault c.in-Some.is)
 
 pub returns-in_err-head-clause-fault : goal.returns-in_err-head-clause-fault
-returns-in_err-head-clause-fault c = let p = err_from_is_err_and c.from_residual-in_err-head.result c.from_residual-in_err-head.ensures.1 in rw (p.1, p.2) tt
+returns-in_err-head-clause-fault c = let p = err_from_is_err_and c.from_residual.result c.from_residual.ensures.1 in rw (p.1, p.2) tt
 
 pub returns-in_err-typed-clause-fault : goal.returns-in_err-typed-clause-fault
 returns-in_err-typed-clause-fault c = let p = err_from_is_err_and c.from_residual-in_err-typed.result c.from_residual-in_err-typed.ensures.1 in rw (p.1, p.2) tt
 
 pub typed-requires-clause-fit : goal.typed-requires-clause-fit
-typed-requires-clause-fit c = numbers_fit (tree_shape c.args.tree.now) (told_by c.args.tree.now c.in_ok-tables.tables) c.in_ok-tables.ensures c.check.result c.check.ensures c.in_default.is
+typed-requires-clause-fit c = numbers_fit (tree_shape c.args.tree.now) (told_by c.args.tree.now c.args.known.now) c.requires c.check.result c.check.ensures c.in_default.is
 
 pub typed-requires-clause-legal : goal.typed-requires-clause-legal
-typed-requires-clause-legal c = widths_legal (tree_shape c.args.tree.now) (told_by c.args.tree.now c.in_ok-tables.tables) c.in_ok-tables.ensures c.check.result c.check.ensures c.in_default.is
+typed-requires-clause-legal c = widths_legal (tree_shape c.args.tree.now) (told_by c.args.tree.now c.args.known.now) c.requires c.check.result c.check.ensures c.in_default.is
 
 pub returns : goal.returns
 returns c =
     let tree = tree_shape c.args.tree.now in
-    let empty = no_fault tree (told_by c.args.tree.now c.in_ok-tables.tables) c.in_ok-tables.ensures c.check.result c.check.ensures c.in_default.is in
-    let made = c.in_ok-typed.ensures ∙ ap tables_with c.in_ok-tables.ensures in
+    let empty = no_fault tree (told_by c.args.tree.now c.args.known.now) c.requires c.check.result c.check.ensures c.in_default.is in
+    let made = c.in_ok-typed.ensures ∙ ap tables_with c.requires in
     record {
       no_fault = empty;
       tables = made;

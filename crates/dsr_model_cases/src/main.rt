@@ -12,8 +12,6 @@
 //! are its specification's text. A line `+++ NAME HEX` begins a case with the text of the last `===`.
 #![tactic(auto)]
 
-#[cfg(test)]
-mod calls;
 mod facts;
 mod lines;
 mod lookups;

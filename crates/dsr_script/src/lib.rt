@@ -9,6 +9,3 @@ mod status;
 pub use moves::{Commands, Move, Stage, Told};
 pub use playing::run;
 pub use status::{Status, Verdict};
-
-#[cfg(test)]
-mod tests;

@@ -2,7 +2,7 @@
 ghost use Rattle.std.specs.Prelude.{◌≡◌, IfOk};
 ghost use Rattle.dsr_script.specs.Moves.{shown};
 
-use super::*;
+use dsr_script::{Commands, Move, Stage, Status, Told, Verdict, run};
 use dsr_store::{Content, Held, Label, MemoryShelf, MemorySink};
 use std::alloc::{AllocError, Global};
 use std::test::Fail;

@@ -1,5 +1,5 @@
 #!/usr/bin/env python3
-"""Times what the updates for all literals of a specification near its limits may change.
+"""Times what the updates for all literals of a specification at its limits may change: 64 constraints of 16 conjunctions of 8.
 
     bench/effects.py PROGRAM
 
@@ -31,7 +31,8 @@ def text(constraints):
         guards = " and ".join("x.f%d < %d" % ((i + j) % FIELDS, 3 + i % 5) for j in range(4))
         lines.append("rule x in S%d when %s => <x, x.f%d> in R%d;" % (i % SETS, guards, i % FIELDS, i))
     for c in range(constraints):
-        pairs = ["(x in S%d or not x in S%d)" % ((c + 2 * p) % SETS, (c + 2 * p + 1) % SETS) for p in range(4)]
+        pairs = ["(x in S%d or not x in S%d)" % ((c + p) % SETS, (c + p) % SETS) for p in range(4)]
+        pairs += ["x in S%d" % ((c + 4 + p) % SETS) for p in range(4)]
         lines.append("constraint c%d : forall x in All : %s;" % (c, " and ".join(pairs)))
     return "\n".join(lines) + "\n"
 

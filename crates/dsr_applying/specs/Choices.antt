@@ -1,5 +1,5 @@
--- What is chosen where a literal is false and a template is to make it true: one of its updates, the record and the entry
--- that are written, the number, and the fresh record.
+-- What is chosen where a literal is false and a template is to make it true: one of its updates, the record and
+-- the entry that are written, the number, and the fresh record.
 use Rattle.std.specs.Prelude.{◌≡◌, ℕ, zero, List, [], ◌∷◌, Option, None, Some, IsSomeAnd, MatchOption, slice_get}
 use Rattle.dsr_ir.specs.declared.constraints.Atom.{Atom}
 use Rattle.dsr_ir.specs.declared.constraints.Atom.TheVariants as atoms
@@ -71,7 +71,8 @@ TakesAway _ n = ⊥
 
 -- The update of the template, by its place, with the instance that it is to stop, if any: where the template adds or sets
 -- its first; where it takes a fact away that of the rule of the first instance which gives the fact.
-pub data IsUpdateAt (spec : Spec) (layout : Layout) (bytes : List ℕ) (b : Binding) (atom : Atom) (template : Template) : ℕ → Update → Option Instance → Type 0 where
+pub data IsUpdateAt (spec : Spec) (layout : Layout) (bytes : List ℕ) (b : Binding) (atom : Atom)
+    (template : Template) : ℕ → Update → Option Instance → Type 0 where
   adds :
       (update : Update) → Adds (IsFact spec layout bytes) b atom template.goal
       → slice_get template.updates 0 ≡ Some update
@@ -107,7 +108,8 @@ written_size (write ∷ rest) = size_or write.pick (written_size rest)
 
 -- the size that is written; 0 where none is
 abbrev pub IsNumberFor : (Fact → Type 0) → Binding → List Write → ℕ → Type 0
-IsNumberFor is_fact b writes n = MatchOption (written_size writes) (n ≡ 0) (λ measure. HasSize is_fact b measure n)
+IsNumberFor is_fact b writes n =
+    MatchOption (written_size writes) (n ≡ 0) (λ measure. HasSize is_fact b measure n)
 
 -- ---- the fresh record
 
@@ -116,13 +118,15 @@ abbrev pub IsOutside : (Fact → Type 0) → List ℕ → Element → Type 0
 IsOutside is_fact sets e = (set : ℕ) → IsIn set sets → is_fact (Member set e) → ⊥
 
 -- the record is a slot of the pool, and in none of the sets that the pool's supply avoids
-pub record IsSupplied (is_fact : Fact → Type 0) (spec : Spec) (layout : Layout) (pool : ℕ) (e : Element) : Type 0 where
+pub record IsSupplied (is_fact : Fact → Type 0) (spec : Spec) (layout : Layout) (pool : ℕ)
+    (e : Element) : Type 0 where
   pub pool_is : e.pool ≡ pool
   pub slot : IsSlot layout e
   pub outside : IsSomeAnd (pool_at spec.base pool) (λ d. IsSomeAnd d.avoid (λ sets. IsOutside is_fact sets e))
 
 -- the least such record
-pub record IsFreshFrom (is_fact : Fact → Type 0) (spec : Spec) (layout : Layout) (pool : ℕ) (e : Element) : Type 0 where
+pub record IsFreshFrom (is_fact : Fact → Type 0) (spec : Spec) (layout : Layout) (pool : ℕ)
+    (e : Element) : Type 0 where
   pub supplied : IsSupplied is_fact spec layout pool e
   pub least : (f : Element) → IsSupplied is_fact spec layout pool f → Precedes f e → ⊥
 
@@ -138,7 +142,8 @@ IsFresh is_fact spec layout (Some pool) fresh = IsSomeAnd fresh (IsFreshFrom is_
 -- ---- all of it
 
 -- the step is the one by which the template is to make the atom, or its negation, true
-pub record IsChosen (spec : Spec) (layout : Layout) (bytes : List ℕ) (atom : Atom) (template : Template) (step : Step) (update : Update) : Type 0 where
+pub record IsChosen (spec : Spec) (layout : Layout) (bytes : List ℕ) (atom : Atom)
+    (template : Template) (step : Step) (update : Update) : Type 0 where
   pub stopped : Option Instance
   pub update_is : IsUpdateAt spec layout bytes step.binding atom template step.update update stopped
   pub rule : step.rule ≡ update.rule

@@ -51,9 +51,14 @@ pub struct Literal {
 }
 
 /// Literals that are to hold together.
-#[derive(Drop)]
 pub struct Conj {
     pub literals: Seq<Literal>,
+}
+
+impl Drop for Conj {
+    fn drop(self) {
+        let Conj { literals: _ } = self;
+    }
 }
 
 impl TryClone for Conj {
@@ -77,19 +82,30 @@ pub enum Quant {
 
 /// A consistency constraint (OOPSLA 2003) in disjunctive normal form: at each binding of its
 /// variables, every literal of one conjunction is to be true.
-#[derive(Drop)]
 pub struct Constraint {
     pub name: Name,
     pub quant: Quant,
     pub conjs: Seq<Conj>,
 }
 
+impl Drop for Constraint {
+    fn drop(self) {
+        let Constraint {
+            name: _,
+            quant: _,
+            conjs: _,
+        } = self;
+    }
+}
+
 impl TryClone for Constraint {
     fn clone(&self, alloc: Global) -> Result<Constraint, NoMemory> {
+        let name = self.name.clone(alloc)?;
+        let conjs = self.conjs.clone(alloc)?;
         Ok(Constraint {
-            name: self.name.clone(alloc)?,
+            name,
             quant: self.quant,
-            conjs: self.conjs.clone(alloc)?,
+            conjs,
         })
     }
 }

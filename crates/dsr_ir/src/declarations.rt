@@ -1,4 +1,6 @@
 // What a specification declares, with every name resolved to a number.
+ghost use Rattle.std.specs.Prelude.{◌≡◌, IfOk};
+
 use crate::{Constraint, Expr, Name, NoMemory, Rule, Seq, TryClone, copied};
 use std::alloc::Global;
 
@@ -34,7 +36,6 @@ pub enum Kind {
 
 /// A field of a structure; a `fixed` one is never written. A gap of n bytes is a `Gap` of `U8` with
 /// the length n.
-#[derive(Drop)]
 pub struct Field {
     pub name: Name,
     pub fixed: bool,
@@ -44,20 +45,33 @@ pub struct Field {
     pub kind: Kind,
 }
 
+impl Drop for Field {
+    fn drop(self) {
+        let Field {
+            name: _,
+            fixed: _,
+            width: _,
+            len: _,
+            kind: _,
+        } = self;
+    }
+}
+
 impl TryClone for Field {
     fn clone(&self, alloc: Global) -> Result<Field, NoMemory> {
+        let name = self.name.clone(alloc)?;
+        let len = copied(alloc, &self.len)?;
         Ok(Field {
-            name: self.name.clone(alloc)?,
+            name,
             fixed: self.fixed,
             width: self.width,
-            len: copied(alloc, &self.len)?,
+            len,
             kind: self.kind,
         })
     }
 }
 
 /// A structure with the fields that it declares itself.
-#[derive(Drop)]
 pub struct Structure {
     pub name: Name,
     /// The number of the structure that this one extends.
@@ -65,18 +79,29 @@ pub struct Structure {
     pub fields: Seq<Field>,
 }
 
+impl Drop for Structure {
+    fn drop(self) {
+        let Structure {
+            name: _,
+            parent: _,
+            fields: _,
+        } = self;
+    }
+}
+
 impl TryClone for Structure {
     fn clone(&self, alloc: Global) -> Result<Structure, NoMemory> {
+        let name = self.name.clone(alloc)?;
+        let fields = self.fields.clone(alloc)?;
         Ok(Structure {
-            name: self.name.clone(alloc)?,
+            name,
             parent: self.parent,
-            fields: self.fields.clone(alloc)?,
+            fields,
         })
     }
 }
 
 /// A pool of records of one structure.
-#[derive(Drop)]
 pub struct Pool {
     pub name: Name,
     /// The number of the structure of its slots.
@@ -97,24 +122,66 @@ pub struct Pool {
     pub avoid: Option<Seq<u32>>,
 }
 
+impl Drop for Pool {
+    fn drop(self) {
+        let Pool {
+            name: _,
+            structure: _,
+            count: _,
+            slot: _,
+            start: _,
+            code: _,
+            step: _,
+            none: _,
+            avoid: _,
+        } = self;
+    }
+}
+
+// A copy is made in two halves: what a failure has to drop grows with all that is copied before.
+impl Pool {
+    fn copied_place(&self, alloc: Global) -> Result<(Name, Expr, Option<Expr>, Expr), NoMemory>
+        ensures { IfOk result (λ place.
+            place ≡ (self.now.name, self.now.count, self.now.slot, self.now.start)) }
+    {
+        let name = self.name.clone(alloc)?;
+        let count = self.count.clone(alloc)?;
+        let slot = copied(alloc, &self.slot)?;
+        let start = self.start.clone(alloc)?;
+        Ok((name, count, slot, start))
+    }
+
+    fn copied_codes(&self, alloc: Global) -> Result<(Expr, Expr, Expr, Option<Seq<u32>>), NoMemory>
+        ensures { IfOk result (λ codes.
+            codes ≡ (self.now.code, self.now.step, self.now.none, self.now.avoid)) }
+    {
+        let code = self.code.clone(alloc)?;
+        let step = self.step.clone(alloc)?;
+        let none = self.none.clone(alloc)?;
+        let avoid = copied(alloc, &self.avoid)?;
+        Ok((code, step, none, avoid))
+    }
+}
+
 impl TryClone for Pool {
     fn clone(&self, alloc: Global) -> Result<Pool, NoMemory> {
+        let (name, count, slot, start) = self.copied_place(alloc)?;
+        let (code, step, none, avoid) = self.copied_codes(alloc)?;
         Ok(Pool {
-            name: self.name.clone(alloc)?,
+            name,
             structure: self.structure,
-            count: self.count.clone(alloc)?,
-            slot: copied(alloc, &self.slot)?,
-            start: self.start.clone(alloc)?,
-            code: self.code.clone(alloc)?,
-            step: self.step.clone(alloc)?,
-            none: self.none.clone(alloc)?,
-            avoid: copied(alloc, &self.avoid)?,
+            count,
+            slot,
+            start,
+            code,
+            step,
+            none,
+            avoid,
         })
     }
 }
 
 /// A set of slots of a pool.
-#[derive(Drop)]
 pub struct SetDecl {
     pub name: Name,
     /// The pool, counted from 1.
@@ -123,6 +190,17 @@ pub struct SetDecl {
     pub structure: u32,
     /// The number of the set of which this one is the complement.
     pub except: Option<u32>,
+}
+
+impl Drop for SetDecl {
+    fn drop(self) {
+        let SetDecl {
+            name: _,
+            pool: _,
+            structure: _,
+            except: _,
+        } = self;
+    }
 }
 
 impl TryClone for SetDecl {
@@ -137,13 +215,22 @@ impl TryClone for SetDecl {
 }
 
 /// A relation between the records of a pool or the head and those of a pool, or numbers.
-#[derive(Drop)]
 pub struct Rel {
     pub name: Name,
     /// The pool of the sources; 0 is the head.
     pub source: u32,
     /// The pool of the targets; none where they are numbers.
     pub target: Option<u32>,
+}
+
+impl Drop for Rel {
+    fn drop(self) {
+        let Rel {
+            name: _,
+            source: _,
+            target: _,
+        } = self;
+    }
 }
 
 impl TryClone for Rel {
@@ -165,7 +252,6 @@ pub struct FieldRef {
 
 /// Structures, pools, sets and relations in order of declaration. The number of one is its place
 /// here, counted from 0; only pools are counted from 1, since 0 is the head.
-#[derive(Drop)]
 pub struct Structures {
     /// 1 or 2.
     pub version: u8,
@@ -178,34 +264,64 @@ pub struct Structures {
     pub rels: Seq<Rel>,
 }
 
+impl Drop for Structures {
+    fn drop(self) {
+        let Structures {
+            version: _,
+            order: _,
+            head: _,
+            structures: _,
+            pools: _,
+            sets: _,
+            rels: _,
+        } = self;
+    }
+}
+
 impl TryClone for Structures {
     fn clone(&self, alloc: Global) -> Result<Structures, NoMemory> {
+        let structures = self.structures.clone(alloc)?;
+        let pools = self.pools.clone(alloc)?;
+        let sets = self.sets.clone(alloc)?;
+        let rels = self.rels.clone(alloc)?;
         Ok(Structures {
             version: self.version,
             order: self.order,
             head: self.head,
-            structures: self.structures.clone(alloc)?,
-            pools: self.pools.clone(alloc)?,
-            sets: self.sets.clone(alloc)?,
-            rels: self.rels.clone(alloc)?,
+            structures,
+            pools,
+            sets,
+            rels,
         })
     }
 }
 
 /// A typed specification, with rules and constraints in order of declaration.
-#[derive(Drop)]
 pub struct Spec {
     pub base: Structures,
     pub rules: Seq<Rule>,
     pub constraints: Seq<Constraint>,
 }
 
+impl Drop for Spec {
+    fn drop(self) {
+        let Spec {
+            base: _,
+            rules: _,
+            constraints: _,
+        } = self;
+    }
+}
+
 impl TryClone for Spec {
     fn clone(&self, alloc: Global) -> Result<Spec, NoMemory> {
+        let base = self.base.clone(alloc)?;
+        let rules = self.rules.clone(alloc)?;
+        let constraints = self.constraints.clone(alloc)?;
         Ok(Spec {
-            base: self.base.clone(alloc)?,
-            rules: self.rules.clone(alloc)?,
-            constraints: self.constraints.clone(alloc)?,
+            base,
+            rules,
+            constraints,
         })
     }
 }

@@ -20,9 +20,14 @@ pub enum ExprNode {
 
 /// An expression over numbers and fixed fields, computed in whole numbers from 0 to 2^64 - 1.
 /// Contracts see what it says, and not where its parts lie in memory.
-#[derive(Drop)]
 pub struct Expr {
     node: ExprNode,
+}
+
+impl Drop for Expr {
+    fn drop(self) {
+        let Expr { node: _ } = self;
+    }
 }
 
 impl Model for Expr {
@@ -58,7 +63,10 @@ impl Expr {
     pub fn sum(alloc: Global, left: Expr, right: Expr) -> Result<Expr, NoMemory>
         ensures { IfOk result (λ e. e ≡ SumOf left right) }
     {
-        let (left, right) = (Box::new(alloc, left.node)?, Box::new(alloc, right.node)?);
+        let Expr { node: left } = left;
+        let Expr { node: right } = right;
+        let left = Box::new(alloc, left)?;
+        let right = Box::new(alloc, right)?;
         Ok(Expr {
             node: ExprNode::Sum(left, right),
         })
@@ -68,7 +76,10 @@ impl Expr {
     pub fn less(alloc: Global, left: Expr, right: Expr) -> Result<Expr, NoMemory>
         ensures { IfOk result (λ e. e ≡ LessOf left right) }
     {
-        let (left, right) = (Box::new(alloc, left.node)?, Box::new(alloc, right.node)?);
+        let Expr { node: left } = left;
+        let Expr { node: right } = right;
+        let left = Box::new(alloc, left)?;
+        let right = Box::new(alloc, right)?;
         Ok(Expr {
             node: ExprNode::Less(left, right),
         })
@@ -78,7 +89,10 @@ impl Expr {
     pub fn times(alloc: Global, left: Expr, right: Expr) -> Result<Expr, NoMemory>
         ensures { IfOk result (λ e. e ≡ TimesOf left right) }
     {
-        let (left, right) = (Box::new(alloc, left.node)?, Box::new(alloc, right.node)?);
+        let Expr { node: left } = left;
+        let Expr { node: right } = right;
+        let left = Box::new(alloc, left)?;
+        let right = Box::new(alloc, right)?;
         Ok(Expr {
             node: ExprNode::Times(left, right),
         })
@@ -88,7 +102,10 @@ impl Expr {
     pub fn over(alloc: Global, left: Expr, right: Expr) -> Result<Expr, NoMemory>
         ensures { IfOk result (λ e. e ≡ OverOf left right) }
     {
-        let (left, right) = (Box::new(alloc, left.node)?, Box::new(alloc, right.node)?);
+        let Expr { node: left } = left;
+        let Expr { node: right } = right;
+        let left = Box::new(alloc, left)?;
+        let right = Box::new(alloc, right)?;
         Ok(Expr {
             node: ExprNode::Over(left, right),
         })

@@ -20,9 +20,14 @@ pub enum FormulaNode {
 
 /// A constraint's body before it is brought to disjunctive normal form. Contracts see what it
 /// says, and not where its parts lie in memory.
-#[derive(Drop)]
 pub struct Formula {
     node: FormulaNode,
+}
+
+impl Drop for Formula {
+    fn drop(self) {
+        let Formula { node: _ } = self;
+    }
 }
 
 impl Model for Formula {

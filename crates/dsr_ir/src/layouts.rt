@@ -26,12 +26,22 @@ pub struct FieldPlace {
 /// What a specification's expressions amount to on an image: its length in bytes, the order of a
 /// number's bytes, the numbers of the pools in order of declaration, and the places of each
 /// structure's own fields.
-#[derive(Drop)]
 pub struct Layout {
     pub length: u64,
     pub order: Order,
     pub pools: Seq<PoolNumbers>,
     pub fields: Seq<Seq<FieldPlace>>,
+}
+
+impl Drop for Layout {
+    fn drop(self) {
+        let Layout {
+            length: _,
+            order: _,
+            pools: _,
+            fields: _,
+        } = self;
+    }
 }
 
 impl Layout {
@@ -141,11 +151,13 @@ impl Layout {
 
 impl TryClone for Layout {
     fn clone(&self, alloc: Global) -> Result<Layout, NoMemory> {
+        let pools = self.pools.clone(alloc)?;
+        let fields = self.fields.clone(alloc)?;
         Ok(Layout {
             length: self.length,
             order: self.order,
-            pools: self.pools.clone(alloc)?,
-            fields: self.fields.clone(alloc)?,
+            pools,
+            fields,
         })
     }
 }

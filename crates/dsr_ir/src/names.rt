@@ -6,9 +6,14 @@ use std::hash::{Hash, Hasher};
 use std::marker::Model;
 
 /// A name of a specification: a letter followed by letters, digits and `_`, at most 32 bytes.
-#[derive(Drop)]
 pub struct Name {
     bytes: Vec<u8>,
+}
+
+impl Drop for Name {
+    fn drop(self) {
+        let Name { bytes: _ } = self;
+    }
 }
 
 impl Model for Name {

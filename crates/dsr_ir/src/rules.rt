@@ -111,13 +111,23 @@ impl Inc {
 }
 
 /// A model definition rule (OOPSLA 2003): from a premise and guards to an inclusion.
-#[derive(Drop)]
 pub struct Rule {
     /// The number of the premise's set; none where the premise is `head`.
     pub premise: Option<u32>,
     pub span: Span,
     pub guards: Seq<Guard>,
     pub inc: Inc,
+}
+
+impl Drop for Rule {
+    fn drop(self) {
+        let Rule {
+            premise: _,
+            span: _,
+            guards: _,
+            inc: _,
+        } = self;
+    }
 }
 
 impl TryClone for Rule {

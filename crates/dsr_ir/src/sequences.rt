@@ -6,9 +6,14 @@ use std::hash::{Hash, Hasher};
 use std::marker::Model;
 
 /// A list of items, in order.
-#[derive(Drop)]
 pub struct Seq<T> {
     items: Vec<T>,
+}
+
+impl<T: Drop> Drop for Seq<T> {
+    fn drop(self) {
+        let Seq { items: _ } = self;
+    }
 }
 
 impl<T> Model for Seq<T> {

@@ -54,7 +54,7 @@ pub enum At {
 }
 
 /// Writes to the cells of one record, and perhaps a fresh record of a pool.
-#[derive(Drop, PartialEq, Eq)]
+#[derive(PartialEq, Eq)]
 pub struct Update {
     /// The number of the rule whose tuples are added, removed or set.
     pub rule: u32,
@@ -63,6 +63,18 @@ pub struct Update {
     pub writes: Seq<Write>,
     /// The pool of the fresh record, counted from 1.
     pub fresh: Option<u32>,
+}
+
+impl Drop for Update {
+    fn drop(self) {
+        let Update {
+            rule: _,
+            place: _,
+            at: _,
+            writes: _,
+            fresh: _,
+        } = self;
+    }
 }
 
 impl TryClone for Update {
@@ -100,10 +112,19 @@ pub enum Goal {
 
 /// A goal with one update, or one update for each rule of a symbol; in `ExactlyOne` the update
 /// that supplies stands first and those that trim follow.
-#[derive(Drop, PartialEq, Eq)]
+#[derive(PartialEq, Eq)]
 pub struct Template {
     pub goal: Goal,
     pub updates: Seq<Update>,
+}
+
+impl Drop for Template {
+    fn drop(self) {
+        let Template {
+            goal: _,
+            updates: _,
+        } = self;
+    }
 }
 
 impl TryClone for Template {

@@ -100,57 +100,95 @@ fn pool(alloc: Global) -> Result<Pool, NoMemory> {
     })
 }
 
+fn set(alloc: Global) -> Result<Seq<SetDecl>, NoMemory> {
+    let name = name(alloc, b"Nodes")?;
+    one(
+        alloc,
+        SetDecl {
+            name,
+            pool: 1,
+            structure: 0,
+            except: None,
+        },
+    )
+}
+
+fn relation(alloc: Global) -> Result<Seq<Rel>, NoMemory> {
+    let name = name(alloc, b"Next")?;
+    one(
+        alloc,
+        Rel {
+            name,
+            source: 1,
+            target: Some(1),
+        },
+    )
+}
+
 fn structures(alloc: Global) -> Result<Structures, NoMemory> {
-    let set = SetDecl {
-        name: name(alloc, b"Nodes")?,
-        pool: 1,
-        structure: 0,
-        except: None,
-    };
-    let rel = Rel {
-        name: name(alloc, b"Next")?,
-        source: 1,
-        target: Some(1),
-    };
+    let structures = one(alloc, structure(alloc)?)?;
+    let pools = one(alloc, pool(alloc)?)?;
+    let sets = set(alloc)?;
+    let rels = relation(alloc)?;
     Ok(Structures {
         version: 1,
         order: Order::Little,
         head: 0,
-        structures: one(alloc, structure(alloc)?)?,
-        pools: one(alloc, pool(alloc)?)?,
-        sets: one(alloc, set)?,
-        rels: one(alloc, rel)?,
+        structures,
+        pools,
+        sets,
+        rels,
     })
 }
 
-fn specification(alloc: Global) -> Result<Spec, NoMemory> {
+fn rule(alloc: Global) -> Result<Seq<Rule>, NoMemory> {
     let guard = Guard {
         path: PATH,
         test: Test::Cmp(Op::Le, 7),
     };
-    let rule = Rule {
-        premise: None,
-        span: Span::Single,
-        guards: one(alloc, guard)?,
-        inc: Inc::Target(0, PATH),
-    };
+    let guards = one(alloc, guard)?;
+    one(
+        alloc,
+        Rule {
+            premise: None,
+            span: Span::Single,
+            guards,
+            inc: Inc::Target(0, PATH),
+        },
+    )
+}
+
+fn conjunctions(alloc: Global) -> Result<Seq<Conj>, NoMemory> {
     let literal = Literal {
         atom: Atom::Member(Var::First, 0),
         negated: true,
         given: false,
     };
-    let conj = Conj {
-        literals: one(alloc, literal)?,
-    };
-    let constraint = Constraint {
-        name: name(alloc, b"empty")?,
-        quant: Quant::Each(0),
-        conjs: one(alloc, conj)?,
-    };
+    let literals = one(alloc, literal)?;
+    one(alloc, Conj { literals })
+}
+
+fn constraint(alloc: Global) -> Result<Seq<Constraint>, NoMemory> {
+    let name = name(alloc, b"empty")?;
+    let conjs = conjunctions(alloc)?;
+    one(
+        alloc,
+        Constraint {
+            name,
+            quant: Quant::Each(0),
+            conjs,
+        },
+    )
+}
+
+fn specification(alloc: Global) -> Result<Spec, NoMemory> {
+    let base = structures(alloc)?;
+    let rules = rule(alloc)?;
+    let constraints = constraint(alloc)?;
     Ok(Spec {
-        base: structures(alloc)?,
-        rules: one(alloc, rule)?,
-        constraints: one(alloc, constraint)?,
+        base,
+        rules,
+        constraints,
     })
 }
 
@@ -257,25 +295,38 @@ fn is_formula(formula: &Formula) -> bool {
     }
 }
 
+fn is_product(expr: &Expr) -> bool {
+    *expr != Expr::number(5) && matches!(expr.node(), ExprNode::Times(_, _))
+}
+
+fn expression_is_copied(alloc: Global) -> Result<bool, NoMemory> {
+    let expr = expression(alloc)?;
+    let copy = TryClone::clone(&expr, alloc)?;
+    Ok(copy == expr && is_product(&expr))
+}
+
 #[test]
 fn expressions_are_copied(rt: HostRuntime) -> Result<(), Fail> {
-    let alloc = rt.alloc();
-    let expr = expression(alloc)?;
-    assert!(rt; TryClone::clone(&expr, alloc)? == expr);
-    assert!(rt; expr != Expr::number(5));
-    assert!(rt; matches!(expr.node(), ExprNode::Times(_, _)));
+    assert!(rt; expression_is_copied(rt.alloc())?);
     Ok(())
+}
+
+fn is_same_specification(copy: &Spec, source: &Spec) -> bool {
+    are_same_pools(copy.base.pools.items(), source.base.pools.items())
+        && are_same_rules(copy.rules.items(), source.rules.items())
+        && copy.base.pools.items().len() == 1
+        && copy.rules.items().len() == 1
+}
+
+fn specification_is_copied(alloc: Global) -> Result<bool, NoMemory> {
+    let spec = specification(alloc)?;
+    let copy = TryClone::clone(&spec, alloc)?;
+    Ok(is_same_specification(&copy, &spec))
 }
 
 #[test]
 fn specifications_are_copied(rt: HostRuntime) -> Result<(), Fail> {
-    let alloc = rt.alloc();
-    let spec = specification(alloc)?;
-    let copy = TryClone::clone(&spec, alloc)?;
-    assert!(rt; are_same_pools(copy.base.pools.items(), spec.base.pools.items()));
-    assert!(rt; are_same_rules(copy.rules.items(), spec.rules.items()));
-    assert_eq!(rt; copy.base.pools.items().len(), 1);
-    assert_eq!(rt; copy.rules.items().len(), 1);
+    assert!(rt; specification_is_copied(rt.alloc())?);
     Ok(())
 }
 
@@ -288,13 +339,22 @@ fn formulas_are_copied(rt: HostRuntime) -> Result<(), Fail> {
     Ok(())
 }
 
+fn template_is_copied(alloc: Global) -> Result<bool, NoMemory> {
+    let template = template(alloc)?;
+    let copy = TryClone::clone(&template, alloc)?;
+    Ok(copy == template)
+}
+
+fn length_of_copy(alloc: Global) -> Result<u64, NoMemory> {
+    let layout = layout(alloc)?;
+    let copy = TryClone::clone(&layout, alloc)?;
+    Ok(copy.length())
+}
+
 #[test]
 fn templates_and_layouts_are_copied(rt: HostRuntime) -> Result<(), Fail> {
-    let alloc = rt.alloc();
-    let template = template(alloc)?;
-    assert!(rt; TryClone::clone(&template, alloc)? == template);
-    let copy = TryClone::clone(&layout(alloc)?, alloc)?;
-    assert_eq!(rt; copy.length(), 112);
+    assert!(rt; template_is_copied(rt.alloc())?);
+    assert_eq!(rt; length_of_copy(rt.alloc())?, 112);
     Ok(())
 }
 

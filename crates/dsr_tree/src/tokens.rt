@@ -102,10 +102,15 @@ impl TryClone for Token {
 }
 
 /// A token with the place of its first byte in the text, counted from 0.
-#[derive(Drop)]
 pub struct Lexeme {
     pub token: Token,
     pub place: u64,
+}
+
+impl Drop for Lexeme {
+    fn drop(self) {
+        let Lexeme { token: _, place: _ } = self;
+    }
 }
 
 impl TryClone for Lexeme {

@@ -7,10 +7,15 @@ mod tree_copies;
 use dsr_ir::{Name, Order, Seq};
 
 /// A name and where it stands.
-#[derive(Drop)]
 pub struct PlacedName {
     pub name: Name,
     pub place: u64,
+}
+
+impl Drop for PlacedName {
+    fn drop(self) {
+        let PlacedName { name: _, place: _ } = self;
+    }
 }
 
 /// A number and where it stands.
@@ -21,7 +26,6 @@ pub struct PlacedNumber {
 }
 
 /// The tree of a whole text.
-#[derive(Drop)]
 pub struct Tree {
     pub place: u64,
     /// 1 or 2.
@@ -36,13 +40,40 @@ pub struct Tree {
     pub constraints: Seq<Constraint>,
 }
 
+impl Drop for Tree {
+    fn drop(self) {
+        let Tree {
+            place: _,
+            version: _,
+            order: _,
+            structures: _,
+            pools: _,
+            sets: _,
+            relations: _,
+            supplies: _,
+            rules: _,
+            constraints: _,
+        } = self;
+    }
+}
+
 /// `structure NAME extends NAME { FIELDS }`
-#[derive(Drop)]
 pub struct Structure {
     pub place: u64,
     pub name: PlacedName,
     pub parent: Option<PlacedName>,
     pub fields: Seq<Field>,
+}
+
+impl Drop for Structure {
+    fn drop(self) {
+        let Structure {
+            place: _,
+            name: _,
+            parent: _,
+            fields: _,
+        } = self;
+    }
 }
 
 /// A field, or bytes that are skipped.
@@ -55,7 +86,6 @@ pub enum Field {
 }
 
 /// A field with a name.
-#[derive(Drop)]
 pub struct NamedField {
     /// The place of `fixed` where the field is one.
     pub fixed: Option<u64>,
@@ -63,6 +93,18 @@ pub struct NamedField {
     pub name: PlacedName,
     pub length: Option<Expr>,
     pub content: Option<Content>,
+}
+
+impl Drop for NamedField {
+    fn drop(self) {
+        let NamedField {
+            fixed: _,
+            width: _,
+            name: _,
+            length: _,
+            content: _,
+        } = self;
+    }
 }
 
 /// What a field holds, where that is said.
@@ -86,7 +128,6 @@ pub enum Width {
 }
 
 /// `pool NAME : STRUCTURE[COUNT] slot SLOT at START codes CODE step STEP none NONE;`
-#[derive(Drop)]
 pub struct Pool {
     pub place: u64,
     pub name: PlacedName,
@@ -99,13 +140,39 @@ pub struct Pool {
     pub none: Expr,
 }
 
+impl Drop for Pool {
+    fn drop(self) {
+        let Pool {
+            place: _,
+            name: _,
+            structure: _,
+            count: _,
+            slot: _,
+            start: _,
+            code: _,
+            step: _,
+            none: _,
+        } = self;
+    }
+}
+
 /// `set NAME of POOL as STRUCTURE;` or `except SET` in place of `as STRUCTURE`
-#[derive(Drop)]
 pub struct Set {
     pub place: u64,
     pub name: PlacedName,
     pub pool: PlacedName,
     pub view: Option<View>,
+}
+
+impl Drop for Set {
+    fn drop(self) {
+        let Set {
+            place: _,
+            name: _,
+            pool: _,
+            view: _,
+        } = self;
+    }
 }
 
 /// How a set is read, where that is said.
@@ -118,12 +185,22 @@ pub enum View {
 }
 
 /// `relation NAME : SOURCE -> TARGET;`
-#[derive(Drop)]
 pub struct Relation {
     pub place: u64,
     pub name: PlacedName,
     pub source: Var,
     pub target: Target,
+}
+
+impl Drop for Relation {
+    fn drop(self) {
+        let Relation {
+            place: _,
+            name: _,
+            source: _,
+            target: _,
+        } = self;
+    }
 }
 
 /// The second part of a relation's pairs.
@@ -135,7 +212,6 @@ pub enum Target {
 }
 
 /// `fresh POOL avoid SET, SET;`
-#[derive(Drop)]
 pub struct Fresh {
     pub place: u64,
     pub pool: PlacedName,
@@ -144,14 +220,36 @@ pub struct Fresh {
     pub rest: Seq<PlacedName>,
 }
 
+impl Drop for Fresh {
+    fn drop(self) {
+        let Fresh {
+            place: _,
+            pool: _,
+            first: _,
+            rest: _,
+        } = self;
+    }
+}
+
 /// `rule PREMISE, NAME in INDEX when GUARD and GUARD => INCLUSION;`
-#[derive(Drop)]
 pub struct Rule {
     pub place: u64,
     pub premise: Premise,
     pub span: Option<Span>,
     pub guards: Option<Guards>,
     pub inclusion: Inclusion,
+}
+
+impl Drop for Rule {
+    fn drop(self) {
+        let Rule {
+            place: _,
+            premise: _,
+            span: _,
+            guards: _,
+            inclusion: _,
+        } = self;
+    }
 }
 
 /// The record that a rule reads.
@@ -164,10 +262,15 @@ pub enum Premise {
 }
 
 /// `NAME in INDEX`
-#[derive(Drop)]
 pub struct Span {
     pub name: PlacedName,
     pub index: Index,
+}
+
+impl Drop for Span {
+    fn drop(self) {
+        let Span { name: _, index: _ } = self;
+    }
 }
 
 /// What an index runs over.
@@ -179,11 +282,16 @@ pub enum Index {
 }
 
 /// `when GUARD and GUARD`
-#[derive(Drop)]
 pub struct Guards {
     pub first: Guard,
     /// The guards after the first one.
     pub rest: Seq<Guard>,
+}
+
+impl Drop for Guards {
+    fn drop(self) {
+        let Guards { first: _, rest: _ } = self;
+    }
 }
 
 /// A condition of a rule.
@@ -213,11 +321,20 @@ pub enum RefTest {
 }
 
 /// `VARIABLE.FIELD[INDEX]`
-#[derive(Drop)]
 pub struct Path {
     pub var: Var,
     pub field: PlacedName,
     pub index: Option<PlacedName>,
+}
+
+impl Drop for Path {
+    fn drop(self) {
+        let Path {
+            var: _,
+            field: _,
+            index: _,
+        } = self;
+    }
 }
 
 /// What a rule gives.
@@ -252,10 +369,15 @@ pub enum Term {
 }
 
 /// The member that a rule gives.
-#[derive(Drop)]
 pub struct Member {
     pub var: Var,
     pub part: Option<MemberPart>,
+}
+
+impl Drop for Member {
+    fn drop(self) {
+        let Member { var: _, part: _ } = self;
+    }
 }
 
 /// What stands behind the variable of a member.
@@ -271,7 +393,6 @@ pub enum MemberPart {
 }
 
 /// `constraint NAME : forall BINDER in SYMBOL : FORMULA;`
-#[derive(Drop)]
 pub struct Constraint {
     pub place: u64,
     pub name: PlacedName,
@@ -279,12 +400,32 @@ pub struct Constraint {
     pub formula: Formula,
 }
 
+impl Drop for Constraint {
+    fn drop(self) {
+        let Constraint {
+            place: _,
+            name: _,
+            quantifier: _,
+            formula: _,
+        } = self;
+    }
+}
+
 /// `forall BINDER in SYMBOL :`
-#[derive(Drop)]
 pub struct Quantifier {
     pub place: u64,
     pub binder: Binder,
     pub symbol: PlacedName,
+}
+
+impl Drop for Quantifier {
+    fn drop(self) {
+        let Quantifier {
+            place: _,
+            binder: _,
+            symbol: _,
+        } = self;
+    }
 }
 
 /// The variables of a quantifier.
@@ -366,11 +507,20 @@ pub enum Measure {
 }
 
 /// `size(VARIABLE.NAME)`
-#[derive(Drop)]
 pub struct Size {
     pub place: u64,
     pub var: Var,
     pub part: Option<PlacedName>,
+}
+
+impl Drop for Size {
+    fn drop(self) {
+        let Size {
+            place: _,
+            var: _,
+            part: _,
+        } = self;
+    }
 }
 
 /// `head` or a name.

@@ -1,14 +1,49 @@
 // Copies of the tree and of its parts with expressions or formulas in them.
-ghost use Rattle.std.specs.Prelude.{◌≡◌, IfOk, map};
-ghost use Rattle.dsr_tree.specs.Trees.{expr_shape, more_term_shape, more_factor_shape, formula_shape, join_shape, unit_shape};
+ghost use Rattle.std.specs.Prelude.{◌≡◌, IfOk, map, option_map};
+ghost use Rattle.dsr_tree.specs.Trees.{constraint_shape, pool_shape, structure_shape, expr_shape, more_term_shape, more_factor_shape, formula_shape, join_shape, unit_shape};
 
 use super::{
-    Constraint, Expr, Factor, Field, Formula, Join, MoreFactor, MoreTerm, NamedField, Pool,
-    Structure, Term2, Tree, Unit,
+    Constraint, Expr, Factor, Field, Formula, Fresh, Join, MoreFactor, MoreTerm, NamedField,
+    PlacedName, Pool, Relation, Rule, Set, Structure, Term2, Tree, Unit,
 };
 use crate::TryCloneTree;
-use dsr_ir::{NoMemory, TryClone, copied};
+use dsr_ir::{NoMemory, Seq, TryClone, copied};
 use std::alloc::Global;
+
+// A copy is made in two halves: what a failure has to drop grows with all that is copied before.
+impl Tree {
+    fn copied_places(
+        &self,
+        alloc: Global,
+    ) -> Result<(Seq<Structure>, Seq<Pool>, Seq<Set>), NoMemory>
+        ensures structures { IfOk result (λ copies.
+            map structure_shape copies.0 ≡ map structure_shape self.now.structures) }
+        ensures pools { IfOk result (λ copies. map pool_shape copies.1 ≡ map pool_shape self.now.pools) }
+        ensures sets { IfOk result (λ copies. copies.2 ≡ self.now.sets) }
+    {
+        let structures = self.structures.clone(alloc)?;
+        let pools = self.pools.clone(alloc)?;
+        let sets = self.sets.clone(alloc)?;
+        Ok((structures, pools, sets))
+    }
+
+    fn copied_facts(
+        &self,
+        alloc: Global,
+    ) -> Result<(Seq<Relation>, Seq<Fresh>, Seq<Rule>, Seq<Constraint>), NoMemory>
+        ensures relations { IfOk result (λ copies. copies.0 ≡ self.now.relations) }
+        ensures supplies { IfOk result (λ copies. copies.1 ≡ self.now.supplies) }
+        ensures rules { IfOk result (λ copies. copies.2 ≡ self.now.rules) }
+        ensures constraints { IfOk result (λ copies.
+            map constraint_shape copies.3 ≡ map constraint_shape self.now.constraints) }
+    {
+        let relations = self.relations.clone(alloc)?;
+        let supplies = self.supplies.clone(alloc)?;
+        let rules = self.rules.clone(alloc)?;
+        let constraints = self.constraints.clone(alloc)?;
+        Ok((relations, supplies, rules, constraints))
+    }
+}
 
 impl TryCloneTree for Tree {
     ghost use Rattle.dsr_tree.specs.Trees.{TreeShape, tree_shape};
@@ -18,17 +53,19 @@ impl TryCloneTree for Tree {
     ghost shape = { tree_shape };
 
     fn clone(&self, alloc: Global) -> Result<Tree, NoMemory> {
+        let (structures, pools, sets) = self.copied_places(alloc)?;
+        let (relations, supplies, rules, constraints) = self.copied_facts(alloc)?;
         Ok(Tree {
             place: self.place,
             version: self.version,
             order: self.order,
-            structures: self.structures.clone(alloc)?,
-            pools: self.pools.clone(alloc)?,
-            sets: self.sets.clone(alloc)?,
-            relations: self.relations.clone(alloc)?,
-            supplies: self.supplies.clone(alloc)?,
-            rules: self.rules.clone(alloc)?,
-            constraints: self.constraints.clone(alloc)?,
+            structures,
+            pools,
+            sets,
+            relations,
+            supplies,
+            rules,
+            constraints,
         })
     }
 }
@@ -86,6 +123,38 @@ impl TryCloneTree for NamedField {
     }
 }
 
+// A copy is made in two halves: what a failure has to drop grows with all that is copied before.
+impl Pool {
+    fn copied_place(
+        &self,
+        alloc: Global,
+    ) -> Result<(PlacedName, PlacedName, Expr, Option<Expr>), NoMemory>
+        ensures names { IfOk result (λ copies. copies.0 ≡ self.now.name × copies.1 ≡ self.now.structure) }
+        ensures count { IfOk result (λ copies. expr_shape copies.2 ≡ expr_shape self.now.count) }
+        ensures slot { IfOk result (λ copies.
+            option_map expr_shape copies.3 ≡ option_map expr_shape self.now.slot) }
+    {
+        let name = self.name.clone(alloc)?;
+        let structure = self.structure.clone(alloc)?;
+        let count = self.count.clone(alloc)?;
+        let slot = self.slot.clone(alloc)?;
+        Ok((name, structure, count, slot))
+    }
+
+    fn copied_codes(&self, alloc: Global) -> Result<(Expr, Expr, Expr, Expr), NoMemory>
+        ensures start { IfOk result (λ copies. expr_shape copies.0 ≡ expr_shape self.now.start) }
+        ensures code { IfOk result (λ copies. expr_shape copies.1 ≡ expr_shape self.now.code) }
+        ensures step { IfOk result (λ copies. expr_shape copies.2 ≡ expr_shape self.now.step) }
+        ensures none { IfOk result (λ copies. expr_shape copies.3 ≡ expr_shape self.now.none) }
+    {
+        let start = self.start.clone(alloc)?;
+        let code = self.code.clone(alloc)?;
+        let step = self.step.clone(alloc)?;
+        let none = self.none.clone(alloc)?;
+        Ok((start, code, step, none))
+    }
+}
+
 impl TryCloneTree for Pool {
     ghost use Rattle.dsr_tree.specs.Trees.{PoolTree, pool_shape};
 
@@ -94,16 +163,18 @@ impl TryCloneTree for Pool {
     ghost shape = { pool_shape };
 
     fn clone(&self, alloc: Global) -> Result<Pool, NoMemory> {
+        let (name, structure, count, slot) = self.copied_place(alloc)?;
+        let (start, code, step, none) = self.copied_codes(alloc)?;
         Ok(Pool {
             place: self.place,
-            name: self.name.clone(alloc)?,
-            structure: self.structure.clone(alloc)?,
-            count: self.count.clone(alloc)?,
-            slot: self.slot.clone(alloc)?,
-            start: self.start.clone(alloc)?,
-            code: self.code.clone(alloc)?,
-            step: self.step.clone(alloc)?,
-            none: self.none.clone(alloc)?,
+            name,
+            structure,
+            count,
+            slot,
+            start,
+            code,
+            step,
+            none,
         })
     }
 }

@@ -111,7 +111,10 @@ impl Scope<'_> {
     fn set_pool(&self, set: &PlacedName) -> Option<u32>
         ensures { result ≡ option_map (λ s. s.pool) (set_named (known_of self.now.known) set.now.name) }
     {
-        Some(self.known.set_named(&set.name)?.pool)
+        match self.known.set_named(&set.name) {
+            Some(set) => Some(set.pool),
+            None => None,
+        }
     }
 
     // Whether pools or kinds of an atom disagree.

@@ -25,13 +25,19 @@ impl Scope<'_> {
     pub fn pool_of(&self, var: &dsr_tree::Var) -> Option<u32>
         ensures { result ≡ pool_of (scope_told self.now) var.now }
     {
-        self.var_pool(self.variable(var)?)
+        match self.variable(var) {
+            Some(var) => self.var_pool(var),
+            None => None,
+        }
     }
 
     /// The pool of the variable that has a name, where that is known.
     pub fn pool_of_name(&self, name: &PlacedName) -> Option<u32>
         ensures { result ≡ pool_of (scope_told self.now) (vars.Name name.now) }
     {
-        self.var_pool(self.named_variable(&name.name)?)
+        match self.named_variable(&name.name) {
+            Some(var) => self.var_pool(var),
+            None => None,
+        }
     }
 }

@@ -83,11 +83,10 @@ impl Scope<'_> {
     fn relation_at(&self, var: &Var) -> Option<&Rel>
         ensures { option_map (λ r. r.now) result ≡ relation_at (scope_told self.now).known var.now }
     {
-        self.known
-            .base
-            .rels
-            .items()
-            .get(self.relation_of(var)? as usize)
+        match self.relation_of(var) {
+            Some(relation) => self.known.base.rels.items().get(relation as usize),
+            None => None,
+        }
     }
 
     fn part_mismatches(&self, var: &Var, part: &PlacedName) -> bool

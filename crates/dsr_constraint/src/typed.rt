@@ -1,5 +1,5 @@
 // The typed constraints of a tree, or its first fault.
-ghost use Rattle.std.specs.Prelude.{◌≡◌, ◌++◌, ◌∷◌, [], None, map, IfOk, IfErr, OnOk};
+ghost use Rattle.std.specs.Prelude.{◌≡◌, ◌++◌, ◌∷◌, [], None, map, IfOk, IfErr, IsSome, OnOk};
 ghost use Rattle.std.specs.Str.{bytes_eq};
 ghost use Rattle.indexmap.specs.IndexMap.{get};
 ghost use Rattle.dsr_meaning.specs.Typed.{AreTyped};
@@ -7,7 +7,8 @@ ghost use Rattle.dsr_names.specs.Tables.{known_of};
 ghost use Rattle.dsr_tree.specs.Trees.{constraint_shape, formula_shape};
 ghost use Rattle.dsr_typing.specs.Known.{known_in};
 ghost use Rattle.dsr_typing.specs.Constraints.{constraint_number, constraints_faults};
-ghost use Rattle.dsr_typing.specs.NormalForms.{normal_form};
+ghost use Rattle.dsr_normal.specs.Telling.{refusal_told};
+ghost use Rattle.dsr_typing.specs.NormalForms.{normal_form, refusal_of};
 ghost use Rattle.dsr_typing.specs.TypedConstraints.{scope_of, typed_formula, typed_constraint, typed_constraints};
 ghost use Rattle.dsr_faults.specs.Refusals.{Tells};
 ghost use Rattle.dsr_faults.specs.Telling.{Finds};
@@ -23,7 +24,7 @@ use crate::widths::{Constants, least_widths};
 use dsr_faults::{SpecFault, Told};
 use dsr_ir::{Conj, Constraint, Formula, NoMemory, Seq, Structures, TryClone};
 use dsr_names::{Known, name_tables};
-use dsr_normal::normal;
+use dsr_normal::{NormalFault, normal};
 use dsr_tree::{Condition, Tree};
 use std::alloc::Global;
 
@@ -52,6 +53,26 @@ fn add_constraint(
     Ok(())
 }
 
+// The normal form of a formula, or why it has none.
+fn normal_of(
+    alloc: Global,
+    scope: &Scope,
+    formula: &dsr_tree::Formula,
+) -> Result<Vec<Conj>, NormalFault>
+    ensures listed { IfOk result
+        (λ conjs. conjs.items
+        ≡ normal_form (typed_formula (scope_told scope.now) (formula_shape formula.now))) }
+    ensures accepted { OnOk result
+        (refusal_of (typed_formula (scope_told scope.now) (formula_shape formula.now)) ≡ None) }
+    ensures refused { IfErr result
+        (λ fault. IsSome (refusal_told fault) →
+        refusal_of (typed_formula (scope_told scope.now) (formula_shape formula.now))
+        ≡ refusal_told fault) }
+{
+    let formula = Formula::new(typed_formula(alloc, scope, formula)?);
+    normal(alloc, &formula)
+}
+
 // The typed constraint where its formula has a normal form, and otherwise why it has none.
 fn add_typed(
     alloc: Global,
@@ -67,8 +88,7 @@ fn add_typed(
         ++ typed_of known.now constraint.now ∷ []) }
 {
     let scope = scope_of(known, &constraint.quantifier);
-    let formula = Formula::new(typed_formula(alloc, &scope, &constraint.formula)?);
-    match normal(alloc, &formula) {
+    match normal_of(alloc, &scope, &constraint.formula) {
         Ok(conjs) => {
             add_constraint(alloc, &scope, typed, constraint, &conjs)?;
             Ok(())
@@ -155,6 +175,26 @@ fn typed_among(
     checker.typed_constraints(alloc, told, items)
 }
 
+// The same, or the first fault in them.
+fn constraints_with(
+    alloc: Global,
+    known: &Known,
+    constants: &Constants,
+    items: &[dsr_tree::Constraint],
+) -> Result<Vec<Constraint>, SpecFault>
+    requires { Narrow known.now constants.now }
+    ensures no_fault { IfOk result (λ _. faults_of_all known.now constants.now.rules.now items.now ≡ []) }
+    ensures constraints { IfOk result (λ cs. cs.items ≡ typed_of_all known.now items.now) }
+    ensures fault { IfErr result (Tells (faults_of_all known.now constants.now.rules.now items.now)) }
+{
+    let mut told = Told { fault: None };
+    let typed = typed_among(alloc, known, constants, &mut told, items)?;
+    match told.refusal() {
+        Some(fault) => Err(fault),
+        None => Ok(typed),
+    }
+}
+
 // The typed constraints of a tree, over what its names stand for, or its first fault.
 fn constraints_among(
     alloc: Global,
@@ -167,18 +207,12 @@ fn constraints_among(
     ensures fault { IfErr result (Tells (faults_of_all known.now tree.now.rules tree.now.constraints)) }
 {
     let rules = tree.rules.items();
-    let items = tree.constraints.items();
     let least = least_widths(alloc, known, rules)?;
     let constants = Constants {
         rules,
         least: &least,
     };
-    let mut told = Told { fault: None };
-    let typed = typed_among(alloc, known, &constants, &mut told, items)?;
-    match told.refusal() {
-        Some(fault) => Err(fault),
-        None => Ok(typed),
-    }
+    constraints_with(alloc, known, &constants, tree.constraints.items())
 }
 
 /// The typed constraints of a tree, in order, in disjunctive normal form, over the tables of its

@@ -63,7 +63,8 @@ pub fn all_without_complements(
 {
     let mut typed = Vec::new(alloc);
     for conj in conjs {
-        typed.push(without_complements(alloc, base, conj)?)?;
+        let entry = without_complements(alloc, base, conj)?;
+        typed.push(entry)?;
     }
     Ok(typed)
 }

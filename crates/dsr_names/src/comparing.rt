@@ -11,9 +11,12 @@ use dsr_ir::{Expr, Width};
 pub fn disagree(left: Option<u32>, right: Option<u32>) -> bool
     ensures { result ≡ disagree left right }
 {
-    match (left, right) {
-        (Some(left), Some(right)) => left != right,
-        _ => false,
+    let Some(left) = left else {
+        return false;
+    };
+    match right {
+        Some(right) => left != right,
+        None => false,
     }
 }
 
@@ -21,9 +24,12 @@ pub fn disagree(left: Option<u32>, right: Option<u32>) -> bool
 pub fn differ(left: Option<&Expr>, right: Option<&Expr>) -> bool
     ensures { result ≡ differ (option_map (λ e. e.now) left.entry) (option_map (λ e. e.now) right.entry) }
 {
-    match (left, right) {
-        (Some(left), Some(right)) => left != right,
-        _ => false,
+    let Some(left) = left else {
+        return false;
+    };
+    match right {
+        Some(right) => left != right,
+        None => false,
     }
 }
 
@@ -31,10 +37,12 @@ pub fn differ(left: Option<&Expr>, right: Option<&Expr>) -> bool
 pub fn is_other_target(referred: Option<u32>, target: Option<u32>) -> bool
     ensures { result ≡ is_other_target referred target }
 {
-    match (referred, target) {
-        (None, None) => false,
-        (Some(referred), Some(target)) => referred != target,
-        _ => true,
+    let Some(referred) = referred else {
+        return target.is_some();
+    };
+    match target {
+        Some(target) => referred != target,
+        None => true,
     }
 }
 

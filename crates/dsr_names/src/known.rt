@@ -38,8 +38,16 @@ impl<'a> Known<'a> {
     fn own_field(&self, structure: u32, name: &Name) -> Option<FieldRef>
         ensures { result ≡ own_field self.now.tables.now name.now structure }
     {
-        let field = *self.tables.fields.get(structure as usize)?.get(name)?;
-        Some(FieldRef { structure, field })
+        let Some(fields) = self.tables.fields.get(structure as usize) else {
+            return None;
+        };
+        match fields.get(name) {
+            Some(field) => Some(FieldRef {
+                structure,
+                field: *field,
+            }),
+            None => None,
+        }
     }
 
     // The first of several structures to declare a field of this name.
@@ -78,8 +86,10 @@ impl<'a> Known<'a> {
     pub fn declared_field(&self, field: FieldRef) -> Option<&'a Field>
         ensures { option_map (λ f. f.now) result ≡ declared_field self.now.base.now field }
     {
-        let structure = self.base.structures.items().get(field.structure as usize)?;
-        structure.fields.items().get(field.field as usize)
+        match self.base.structures.items().get(field.structure as usize) {
+            Some(structure) => structure.fields.items().get(field.field as usize),
+            None => None,
+        }
     }
 
     /// How many entries the array of a field has; none for a scalar.
@@ -104,14 +114,20 @@ impl<'a> Known<'a> {
     pub fn set_named(&self, name: &Name) -> Option<&'a SetDecl>
         ensures { option_map (λ s. s.now) result ≡ set_named (known_of self.now) name.now }
     {
-        self.base.sets.items().get(self.set(name)? as usize)
+        match self.set(name) {
+            Some(set) => self.base.sets.items().get(set as usize),
+            None => None,
+        }
     }
 
     /// The declaration of the relation that has a name.
     pub fn relation_named(&self, name: &Name) -> Option<&'a Rel>
         ensures { option_map (λ r. r.now) result ≡ relation_named (known_of self.now) name.now }
     {
-        self.base.rels.items().get(self.relation(name)? as usize)
+        match self.relation(name) {
+            Some(relation) => self.base.rels.items().get(relation as usize),
+            None => None,
+        }
     }
 
     // A set by its number, where it is no complement.
@@ -128,13 +144,19 @@ impl<'a> Known<'a> {
     pub fn plain_set(&self, name: &Name) -> Option<u32>
         ensures { result ≡ plain_set (known_of self.now) name.now }
     {
-        self.plain_number(self.set(name)?)
+        match self.set(name) {
+            Some(set) => self.plain_number(set),
+            None => None,
+        }
     }
 
     /// The declaration of such a set.
     pub fn plain_named(&self, name: &Name) -> Option<&'a SetDecl>
         ensures { option_map (λ s. s.now) result ≡ plain_named (known_of self.now) name.now }
     {
-        self.base.sets.items().get(self.plain_set(name)? as usize)
+        match self.plain_set(name) {
+            Some(set) => self.base.sets.items().get(set as usize),
+            None => None,
+        }
     }
 }

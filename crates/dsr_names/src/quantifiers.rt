@@ -12,8 +12,14 @@ fn bound_symbol(known: &Known<'_>, binder: &Binder, name: &Name) -> Option<Quant
     ensures { result ≡ bound_symbol (known_of known.now) binder.now name.now }
 {
     match binder {
-        Binder::One(_) => Some(Quant::Each(known.set(name)?)),
-        Binder::Pair { .. } => Some(Quant::Pairs(known.relation(name)?)),
+        Binder::One(_) => match known.set(name) {
+            Some(set) => Some(Quant::Each(set)),
+            None => None,
+        },
+        Binder::Pair { .. } => match known.relation(name) {
+            Some(relation) => Some(Quant::Pairs(relation)),
+            None => None,
+        },
     }
 }
 

@@ -25,7 +25,10 @@ fn record_structure(known: &Known<'_>, premise: &Premise) -> Option<u32>
 {
     match premise {
         Premise::Head { .. } => Some(known.base.head),
-        Premise::Member { set, .. } => Some(known.plain_named(&set.name)?.structure),
+        Premise::Member { set, .. } => match known.plain_named(&set.name) {
+            Some(set) => Some(set.structure),
+            None => None,
+        },
     }
 }
 

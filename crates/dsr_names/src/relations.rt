@@ -13,8 +13,14 @@ pub fn first_pool(base: &Structures, quant: Quant) -> Option<u32>
     ensures { result ≡ pool_of_var base.now quant vars_of.First }
 {
     match quant {
-        Quant::Each(set) => Some(base.sets.items().get(set as usize)?.pool),
-        Quant::Pairs(rel) => Some(base.rels.items().get(rel as usize)?.source),
+        Quant::Each(set) => match base.sets.items().get(set as usize) {
+            Some(set) => Some(set.pool),
+            None => None,
+        },
+        Quant::Pairs(rel) => match base.rels.items().get(rel as usize) {
+            Some(rel) => Some(rel.source),
+            None => None,
+        },
         Quant::Once => None,
     }
 }
@@ -24,7 +30,10 @@ pub fn second_pool(base: &Structures, quant: Quant) -> Option<u32>
     ensures { result ≡ pool_of_var base.now quant vars_of.Second }
 {
     match quant {
-        Quant::Pairs(rel) => base.rels.items().get(rel as usize)?.target,
+        Quant::Pairs(rel) => match base.rels.items().get(rel as usize) {
+            Some(rel) => rel.target,
+            None => None,
+        },
         _ => None,
     }
 }

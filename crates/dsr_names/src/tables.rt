@@ -15,7 +15,6 @@ use indexmap::IndexMap;
 use std::alloc::Global;
 
 /// What the names of declared tables stand for, by the numbers of their entries.
-#[derive(Drop)]
 pub struct NameTables {
     /// The pools, counted from 1.
     pub pools: IndexMap<Name, u32>,
@@ -25,6 +24,19 @@ pub struct NameTables {
     pub fields: Vec<IndexMap<Name, u32>>,
     /// For each structure its ancestors, the nearest first.
     pub ancestors: Vec<Vec<u32>>,
+}
+
+// Dropped by a call of its own, so that each caller has one step for it, and not one for each table.
+impl Drop for NameTables {
+    fn drop(self) {
+        let NameTables {
+            pools: _,
+            sets: _,
+            relations: _,
+            fields: _,
+            ancestors: _,
+        } = self;
+    }
 }
 
 // For each structure the fields that it declares itself.
@@ -69,35 +81,72 @@ fn lines_of(alloc: Global, structures: &[Structure]) -> Result<Vec<Vec<u32>>, No
     Ok(lines)
 }
 
-// The tables of pools, sets and relations.
+// A `?` costs its proof what stays to be dropped there, so the tables are made in pairs.
+
+// What each structure declares itself, and what it descends from.
 #[derive(Drop)]
-struct NumberTables {
-    pools: IndexMap<Name, u32>,
+struct StructureRows {
+    fields: Vec<IndexMap<Name, u32>>,
+    ancestors: Vec<Vec<u32>>,
+}
+
+fn structure_rows(alloc: Global, structures: &[Structure]) -> Result<StructureRows, NoMemory>
+    requires { All (λ s. length s.fields ≤ 64) structures.now }
+    ensures fields { IfOk result
+        (λ rows. map (get bytes_eq) rows.fields.items
+        ≡ map (λ s q. position_from (has_field_name q) 0 s.fields) structures.now) }
+    ensures ancestors { IfOk result
+        (λ rows. map (λ v. v.items) rows.ancestors.items
+        ≡ each_at (λ i _. ancestors structures.now i ∷ []) 0 structures.now) }
+{
+    let fields = own_fields(alloc, structures)?;
+    let ancestors = lines_of(alloc, structures)?;
+    Ok(StructureRows { fields, ancestors })
+}
+
+// The sets and the relations by their names.
+#[derive(Drop)]
+struct SymbolNumbers {
     sets: IndexMap<Name, u32>,
     relations: IndexMap<Name, u32>,
 }
 
-// A `?` costs its proof what stays to be dropped there, so these tables are made apart from the others.
+fn symbol_numbers(alloc: Global, base: &Structures) -> Result<SymbolNumbers, NoMemory>
+    requires typed { AreTyped base.now }
+    ensures sets { IfOk result
+        (λ n. (q : List ℕ) → get bytes_eq n.sets q
+        ≡ position_from (λ s. bytes_eq s.name q) 0 base.now.sets) }
+    ensures relations { IfOk result
+        (λ n. (q : List ℕ) → get bytes_eq n.relations q
+        ≡ position_from (λ r. bytes_eq r.name q) 0 base.now.rels) }
+{
+    let sets = numbers_from(alloc, 0, base.sets.items())?;
+    let relations = numbers_from(alloc, 0, base.rels.items())?;
+    Ok(SymbolNumbers { sets, relations })
+}
+
+// These, and the pools by their names.
+#[derive(Drop)]
+struct NumberTables {
+    pools: IndexMap<Name, u32>,
+    symbols: SymbolNumbers,
+}
+
 fn number_tables(alloc: Global, base: &Structures) -> Result<NumberTables, NoMemory>
     requires typed { AreTyped base.now }
     ensures pools { IfOk result
         (λ t. (q : List ℕ) → get bytes_eq t.pools q
         ≡ position_from (λ p. bytes_eq p.name q) 1 base.now.pools) }
     ensures sets { IfOk result
-        (λ t. (q : List ℕ) → get bytes_eq t.sets q
+        (λ t. (q : List ℕ) → get bytes_eq t.symbols.sets q
         ≡ position_from (λ s. bytes_eq s.name q) 0 base.now.sets) }
     ensures relations { IfOk result
-        (λ t. (q : List ℕ) → get bytes_eq t.relations q
+        (λ t. (q : List ℕ) → get bytes_eq t.symbols.relations q
         ≡ position_from (λ r. bytes_eq r.name q) 0 base.now.rels) }
 {
     let pools = numbers_from(alloc, 1, base.pools.items())?;
-    let sets = numbers_from(alloc, 0, base.sets.items())?;
-    let relations = numbers_from(alloc, 0, base.rels.items())?;
-    Ok(NumberTables {
-        pools,
-        sets,
-        relations,
-    })
+    let symbols = symbol_numbers(alloc, base)?;
+    Ok(NumberTables { pools, symbols })
 }
 
 /// What the names of declared tables stand for.
@@ -105,19 +154,13 @@ pub fn name_tables(alloc: Global, base: &Structures) -> Result<NameTables, NoMem
     requires typed { AreTyped base.now }
     ensures { IfOk result (λ tables. told_by base.now tables ≡ known_in base.now) }
 {
-    let fields = own_fields(alloc, base.structures.items())?;
-    let ancestors = lines_of(alloc, base.structures.items())?;
+    let rows = structure_rows(alloc, base.structures.items())?;
     let numbers = number_tables(alloc, base)?;
-    let NumberTables {
-        pools,
-        sets,
-        relations,
-    } = numbers;
     Ok(NameTables {
-        pools,
-        sets,
-        relations,
-        fields,
-        ancestors,
+        pools: numbers.pools,
+        sets: numbers.symbols.sets,
+        relations: numbers.symbols.relations,
+        fields: rows.fields,
+        ancestors: rows.ancestors,
     })
 }

@@ -2,7 +2,8 @@
 use Rattle.std.proofs.Common.{◌≡◌, ◌<◌, ◌≤◌, ◌+◌, ℕ, Bool, true, false, eqb, List, [], ◌∷◌, ◌++◌, drop, length, length-append, get_or, ◌⊎◌, inl, inr, refl, ap, sym, subst, ◌∙◌, arith}
 use Rattle.std.specs.Prelude.{if◌then◌else◌, ◌↔◌, ◌&&◌, IsTrue}
 use Rattle.std.proofs.lemmas.Bool.{eqb-true, eq-eqb, and_parts, and_from, lt-ltb}
-use Rattle.std.proofs.lemmas.List.{drop_more}
+use Rattle.std.proofs.lemmas.Bool.Decides.{nat_tests}
+use Rattle.std.proofs.lemmas.List.{at_drop_all, drop_more, length_push}
 use Rattle.dsr_ir.specs.declared.constraints.Atom.{Atom}
 use Rattle.dsr_ir.specs.declared.constraints.Atom.TheVariants as atoms
 use Rattle.dsr_ir.specs.declared.constraints.Bound.{Bound}
@@ -208,6 +209,37 @@ different_next : (seen atoms : List Atom) (i : ℕ) (d : Atom) (b : Bool) → i 
 different_next seen atoms i d b lt e =
     ap (different seen) (drop_more atoms i d lt)
     ∙ ap (λ t. different (if t then seen else seen ++ (get_or atoms i d ∷ [])) (drop (i + 1) atoms)) e
+
+-- what stays so of a loop over the atoms: at most 8 were seen, and what is left adds the others
+pub record AreSeen (seen left atoms : List Atom) : Type 0 where
+  pub few : length seen ≤ 8
+  pub same : different seen left ≡ different [] atoms
+
+-- a new one is seen
+pub seen_more : (seen known new atoms : List Atom) (i : ℕ) (d : Atom) (told : Bool) → i < length atoms → known ≡ seen → told ≡ has_atom known (get_or atoms i d) → told ≡ false → new ≡ seen ++ get_or atoms i d ∷ [] → length seen + 1 ≤ 8 → different seen (drop i atoms) ≡ different [] atoms → AreSeen new (drop (i + 1) atoms) atoms
+seen_more seen known new atoms i d told lt is asked absent pushed few same =
+    let news : has_atom seen (get_or atoms i d) ≡ false = ap (λ s. has_atom s (get_or atoms i d)) (sym is) ∙ sym asked ∙ absent in
+    let long = ap length pushed ∙ length_push seen (get_or atoms i d) in
+    record {
+      few = omega (arith, long, few);
+      same = ap (λ s. different s (drop (i + 1) atoms)) pushed ∙ sym (different_next seen atoms i d false lt news) ∙ same;
+    }
+
+-- one that was seen changes nothing
+pub seen_again : (seen known new atoms : List Atom) (i : ℕ) (d : Atom) (told : Bool) → i < length atoms → known ≡ seen → told ≡ has_atom known (get_or atoms i d) → told ≡ true → new ≡ seen → length seen ≤ 8 → different seen (drop i atoms) ≡ different [] atoms → AreSeen new (drop (i + 1) atoms) atoms
+seen_again seen known new atoms i d told lt is asked there kept few same =
+    let old : has_atom seen (get_or atoms i d) ≡ true = ap (λ s. has_atom s (get_or atoms i d)) (sym is) ∙ sym asked ∙ there in
+    record {
+      few = subst (λ s. length s ≤ 8) (sym kept) few;
+      same = ap (λ s. different s (drop (i + 1) atoms)) kept ∙ sym (different_next seen atoms i d true lt old) ∙ same;
+    }
+
+-- behind the last atom, not too many were seen
+pub seen_all : (seen atoms : List Atom) (i : ℕ) → length atoms ≤ i → length seen ≤ 8 → different seen (drop i atoms) ≡ different [] atoms → false ≡ has_many_atoms atoms
+seen_all seen atoms i end few same =
+    let all : length seen ≡ length (different [] atoms) = ap length (sym (at_drop_all (different seen) atoms i end) ∙ same) in
+    let most : length (different [] atoms) ≤ 8 = omega (arith, all, few) in
+    grind (arith, nat_tests)
 
 -- beyond 8 that were seen, one more is too many
 pub one_too_many : (seen known atoms : List Atom) (i : ℕ) (d : Atom) (told : Bool) → i < length atoms → length seen ≡ 8 → known ≡ seen → told ≡ has_atom known (get_or atoms i d) → told ≡ false → different seen (drop i atoms) ≡ different [] atoms → true ≡ has_many_atoms atoms

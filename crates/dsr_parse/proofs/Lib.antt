@@ -3,6 +3,7 @@ pub mod Bared
 pub mod Checked
 pub mod Exclusive
 pub mod Goes
+pub mod Grouped
 pub mod PartTexts
 pub mod Passing
 pub mod Sentences

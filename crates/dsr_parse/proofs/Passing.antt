@@ -15,7 +15,7 @@ use Rattle.std.proofs.lemmas.Bool.{lt-leb, le-leb}
 use Rattle.dsr_parse.specs.Machine.{accepts, among, may_begin, first, nullable, enter, into_part, step, is_done, run, go_on, Outcome, Accepts, StopsAt, Exceeds}
 use Rattle.dsr_parse.specs.Reading.{Standing, Halts, EndsBy, Reads, ReadsItems, Next, Other, is_next}
 use Rattle.dsr_parse.specs.declared.reader.Stop.{Stop}
-use Rattle.dsr_parse.specs.declared.reader.Stop.TheVariants.{Limit}
+use Rattle.dsr_parse.specs.declared.reader.Stop.TheVariants.{Expected, Limit}
 
 one_more : (n : ℕ) → n + 1 ≡ suc n
 one_more n = omega arith
@@ -73,7 +73,7 @@ reads_unkept {a} {t} {place} {x} {y} r = record { goes = r.goes; says = unkept t
     unkept _ _ _ _ (says_at u at left) = says u at left
 
 -- how the machine ends doesn't depend on how that is known
-ends_so : (e : Stop) (o u : Outcome) → o ≡ u → EndsBy e u → EndsBy e o
+pub ends_so : (e : Stop) (o u : Outcome) → o ≡ u → EndsBy e u → EndsBy e o
 ends_so e o u same ends = subst (EndsBy e) (sym same) ends
 
 -- it stops at the first of two
@@ -188,6 +188,18 @@ one_halts {charge} {class} {x} {e} h next = record { halts = λ k. ends_so e (ru
     same (l ∷ ls) n k = ap (λ b. go_on (cond b (cond (accepts class l.token) (Some (record { over = is_over charge x.counted; count = count_after charge x.counted; stack = k })) None) None) (run ls) (suc (length ls))) n
         ∙ sym (ap (λ b. go_on (cond b (cond (accepts class l.token) (Some (record { over = false; count = x.counted; stack = k })) None) None) (run ls) (suc (length ls))) n)
 
+-- the machine stops at a token that doesn't fit
+pub expected_halts : {charge : Charge} {class : Class} {x : Standing} {e : Stop} → e ≡ Expected (length x.rest) → is_next (One free class) x.rest ≡ false → Halts (One charge class ∷ []) x e
+expected_halts {charge} {class} {x} {e} same next = record { halts = λ k. subst (λ f. EndsBy f (run x.rest x.counted (One charge class ∷ k))) (sym same) (stops x.rest next k) }
+  where
+    stops : (ls : List Lexeme) → is_next (One free class) ls ≡ false → (k : List Syntax) → run ls x.counted (One charge class ∷ k) ≡ StopsAt (length ls)
+    stops [] next k = refl
+    stops (l ∷ ls) next k = ap (λ b. go_on (cond b (cond (accepts class l.token) (Some (record { over = is_over charge x.counted; count = count_after charge x.counted; stack = k })) None) None) (run ls) (suc (length ls))) next
+
+-- a counted token past its limit, or one that opens a construct too deep
+pub counted_stops : {limit : ℕ} {class : Class} {x : Standing} {e : Stop} → (limit ≤ x.counted) × (e ≡ Limit (length x.rest)) → is_next (One free class) x.rest ≡ true → Halts (One (counted limit) class ∷ []) x e
+counted_stops {limit} {class} {x} {e} (past, same) next = subst (λ f. Halts (One (counted limit) class ∷ []) x f) (sym same) (counted_halts past refl next)
+
 -- the only token of a phrase
 said_is : {t : Token} {place : ℕ} {ls ms : List Lexeme} → Says (said_at t place) ls ms → ls ≡ record { token = t; place = place } ∷ ms
 said_is (says_at t place ms) = refl
@@ -198,6 +210,10 @@ starts_reads {class} {t} {place} {x} {y} {z} same zero fits r = record {
   goes = record { passes = λ k. ap (λ ls. run ls x.counted (One starts class ∷ k)) (said_is r.says) ∙ ap (λ move. go_on move (run y.rest) (suc (length y.rest))) (one_step starts class t x.counted k fits) ∙ ap (λ ls. run ls 0 k) (sym same) ∙ ap (λ n. run z.rest n k) (sym zero) };
   says = subst (λ ls. Says (said_at t place) x.rest ls) (sym same) r.says;
 }
+
+-- the same, where it is known to be next
+pub starts_next : {class : Class} {t : Token} {place : ℕ} {x y z : Standing} → z.rest ≡ y.rest → z.counted ≡ 0 → is_next (One free class) x.rest ≡ true → Reads (One free class) (said_at t place) x y → Reads (One starts class) (said_at t place) x z
+starts_next {class} {t} {place} {x} {y} {z} same zero next r = starts_reads same zero (sym (or_false (accepts class t)) ∙ subst (λ ls. is_next (One free class) ls ≡ true) (said_is r.says) next) r
 
 -- ---- one or the other
 

@@ -1,20 +1,26 @@
 -- Parts of productions that a reader's functions read.
-use Rattle.std.specs.Prelude.{ℕ, suc, [], ◌∷◌, Option, option_map}
-use Rattle.dsr_tree.specs.Trees.{expr_shape, formula_shape}
+use Rattle.std.specs.Prelude.{ℕ, suc, [], ◌∷◌, Option, option_map, map}
+use Rattle.dsr_tree.specs.Trees.{expr_shape, formula_shape, constraint_shape}
 use Rattle.dsr_tree.specs.declared.tokens.Keyword.TheVariants as keyword
 use Rattle.dsr_tree.specs.declared.tokens.Sign.TheVariants as sign
+use Rattle.dsr_tree.specs.declared.tree.Compare.{Compare}
+use Rattle.dsr_tree.specs.declared.tree.Content.{Content}
+use Rattle.dsr_tree.specs.declared.tree.Expr.{Expr}
 use Rattle.dsr_tree.specs.declared.tree.Field.{Field}
 use Rattle.dsr_tree.specs.declared.tree.Formula.{Formula}
 use Rattle.dsr_tree.specs.declared.tree.Guards.{Guards}
 use Rattle.dsr_tree.specs.declared.tree.Inclusion.{Inclusion}
+use Rattle.dsr_tree.specs.declared.tree.Measure.{Measure}
 use Rattle.dsr_tree.specs.declared.tree.Path.{Path}
 use Rattle.dsr_tree.specs.declared.tree.PlacedName.{PlacedName}
 use Rattle.dsr_tree.specs.declared.tree.Quantifier.{Quantifier}
-use Rattle.dsr_text.specs.Grammar.{row, maybe, word, mark, name, nesting, expr_behind, field, path, guards, inclusion, quantifier}
+use Rattle.dsr_text.specs.Grammar.{row, maybe, word, mark, name, nesting, expr_behind, brackets, content, field, set, relation, fresh, rule, constraint, compare, measure, path, guards, inclusion, quantifier}
 use Rattle.dsr_text.specs.Phrases.{Phrase, ◌▸◌, in_turn}
 use Rattle.dsr_text.specs.Syntax.{a_word, a_mark, a_formula, a_unit, Syntax, Then, Many, The}
-use Rattle.dsr_text.specs.TreeTexts.{word as word_of, mark as mark_of, name_text, maybe_text, formula_text, behind_text, path_text, guards_text, inclusion_text, quantifier_text}
+use Rattle.dsr_text.specs.TreeTexts.{word as word_of, mark as mark_of, name_text, maybe_text, formula_text, behind_text, brackets_text, content_text, set_text, relation_text, fresh_text, rule_text, constraint_text, compare_text, measure_text, path_text, guards_text, inclusion_text, quantifier_text}
 use Rattle.dsr_parse.specs.Reading.{said_field}
+use Rattle.dsr_parse.specs.declared.reader.constraints.RulesEnd.{RulesEnd}
+use Rattle.dsr_parse.specs.declared.reader.constraints.TreeEnd.{TreeEnd}
 use Rattle.dsr_parse.specs.declared.reader.declarations.PoolCodes.{PoolCodes}
 use Rattle.dsr_parse.specs.declared.reader.declarations.PoolEnd.{PoolEnd}
 
@@ -24,6 +30,14 @@ braced_fields = row (mark sign.OpenBrace ∷ Many field ∷ mark sign.CloseBrace
 
 abbrev pub braced_text : Phrase → Phrase
 braced_text fields = mark_of sign.OpenBrace ▸ fields ▸ mark_of sign.CloseBrace
+
+-- what stands behind the name of a field
+abbrev pub field_end : Syntax
+field_end = row (maybe brackets ∷ maybe content ∷ mark sign.Semicolon ∷ [])
+
+abbrev pub field_end_text : Option Expr → Option Content → Phrase
+field_end_text length c =
+    maybe_text brackets_text (option_map expr_shape length) ▸ maybe_text content_text c ▸ mark_of sign.Semicolon
 
 -- what stands behind the count of a pool
 abbrev pub pool_end : Syntax
@@ -93,6 +107,32 @@ constraint_end = row (maybe quantifier ∷ The (a_formula 0) ∷ mark sign.Semic
 abbrev pub constraint_end_text : Option Quantifier → Formula → Phrase
 constraint_end_text q f =
     maybe_text quantifier_text q ▸ formula_text (formula_shape f) ▸ mark_of sign.Semicolon
+
+-- what stands behind the variable of a value
+abbrev pub value_end : Syntax
+value_end = row (mark sign.Dot ∷ name ∷ compare ∷ measure ∷ [])
+
+abbrev pub value_end_text : PlacedName → Compare → Measure → Phrase
+value_end_text relation c m =
+    mark_of sign.Dot ▸ name_text relation ▸ compare_text c ▸ measure_text m
+
+-- what stands behind the relations of a specification
+abbrev pub rules_end : Syntax
+rules_end = row (Many fresh ∷ Many rule ∷ Many constraint ∷ [])
+
+abbrev pub rules_end_text : RulesEnd → Phrase
+rules_end_text r =
+    in_turn fresh_text r.supplies ▸ in_turn rule_text r.rules
+    ▸ in_turn constraint_text (map constraint_shape r.constraints)
+
+-- what stands behind the pools of a specification
+abbrev pub tree_end : Syntax
+tree_end =
+    row (Many set ∷ Many relation ∷ Many fresh ∷ Many rule ∷ Many constraint ∷ [])
+
+abbrev pub tree_end_text : TreeEnd → Phrase
+tree_end_text t =
+    in_turn set_text t.sets ▸ in_turn relation_text t.relations ▸ rules_end_text t.rules
 
 -- the units that open a construct
 abbrev pub not_unit : ℕ → Syntax

@@ -1,8 +1,9 @@
 // The tokens of a text, read one after the other.
-ghost use Rattle.std.specs.Prelude.{◌≡◌, ◌<◌, ◌≤◌, ◌+◌, true, false, length, IfOk, IfErr, IfSome, IfNone, OnOk, ◌∷◌, []};
+ghost use Rattle.std.specs.Prelude.{◌≡◌, ◌<◌, ◌≤◌, ◌+◌, true, false, length, Ok, Err, IfOk, IfErr, IfSome, IfNone, OnOk, ◌∷◌, []};
 ghost use Rattle.dsr_tree.specs.declared.tokens.Token.TheVariants as tokens;
 ghost use Rattle.dsr_text.specs.Grammar as grammar;
-ghost use Rattle.dsr_text.specs.Syntax.{One, free, starts, counted, opening, a_word, a_mark, a_name, a_number, a_version};
+ghost use Rattle.dsr_text.specs.Phrases.{◌▸◌};
+ghost use Rattle.dsr_text.specs.Syntax.{One, Then, free, starts, counted, opening, a_word, a_mark, a_name, a_number, a_version};
 ghost use Rattle.dsr_text.specs.TreeTexts as texts;
 ghost use Rattle.dsr_parse.specs.Machine.{accepts};
 ghost use Rattle.dsr_parse.specs.Reading.{Reads, Halts, is_next};
@@ -27,7 +28,7 @@ const LITERAL_LIMIT: u64 = 128;
 const DEPTH_LIMIT: u64 = 32;
 
 // Why no tree is read, with the number of tokens that are left.
-#[derive(Clone, Copy, Debug, PartialEq, Eq)]
+#[derive(Clone, Copy)]
 pub enum Stop {
     NoMemory,
     // The next token continues no text of the grammar.
@@ -71,6 +72,17 @@ impl<'a> Model for Reader<'a> {
     ghost Value = { Standing };
 
     ghost view = { λ r. record { rest = r.rest.now; counted = r.counted } };
+}
+
+// What was read before, with what is read behind it. All that a failure has to drop is dropped here.
+fn both<A: Drop, B: Drop>(first: A, second: Result<B, Stop>) -> Result<(A, B), Stop>
+    ensures ok { IfOk result (λ r. (r.0 ≡ first) × (second ≡ Ok r.1)) }
+    ensures err { IfErr result (λ e. second ≡ Err e) }
+{
+    match second {
+        Ok(second) => Ok((first, second)),
+        Err(stop) => Err(stop),
+    }
 }
 
 fn is_keyword(token: &Token, keyword: Keyword) -> bool
@@ -232,6 +244,40 @@ impl<'a> Reader<'a> {
             }
             _ => Err(self.expected()),
         }
+    }
+
+    // Reads a sign behind what was read before, and hands that on.
+    fn ended<T: Drop>(&mut self, read: T, sign: Sign) -> Result<T, Stop>
+        ensures same { IfOk result (λ r. r ≡ read) }
+        ensures ok { OnOk result (Reads (grammar.mark sign) (texts.mark sign) self.old self.new) }
+        ensures err { IfErr result (λ e. Halts (grammar.mark sign ∷ []) self.old e) }
+    {
+        match self.take_sign(sign) {
+            Some(_) => Ok(read),
+            None => Err(self.expected()),
+        }
+    }
+
+    // Reads a name and the sign behind it.
+    fn name_before(&mut self, sign: Sign) -> Result<PlacedName, Stop>
+        ensures ok { IfOk result (λ name. Reads (Then grammar.name (grammar.mark sign))
+            (texts.name_text name ▸ texts.mark sign) self.old self.new) }
+        ensures err { IfErr result
+            (λ e. Halts (Then grammar.name (grammar.mark sign) ∷ []) self.old e) }
+    {
+        let name = self.name()?;
+        self.ended(name, sign)
+    }
+
+    // Reads a keyword and the name behind it.
+    fn name_behind(&mut self, keyword: Keyword) -> Result<PlacedName, Stop>
+        ensures ok { IfOk result (λ name. Reads (Then (grammar.word keyword) grammar.name)
+            (texts.word keyword ▸ texts.name_text name) self.old self.new) }
+        ensures err { IfErr result
+            (λ e. Halts (Then (grammar.word keyword) grammar.name ∷ []) self.old e) }
+    {
+        self.word(keyword)?;
+        self.name()
     }
 
     fn number(&mut self) -> Result<PlacedNumber, Stop>

@@ -114,9 +114,12 @@ impl Scope<'_> {
     fn has_other_length(&self, field: Option<FieldRef>, index: &Option<PlacedName>) -> bool
         ensures { result ≡ has_other_length (scope_told self.now) field index.now }
     {
-        match (field, index) {
-            (Some(field), Some(index)) => self.is_other_length(field, index),
-            _ => false,
+        let Some(field) = field else {
+            return false;
+        };
+        match index {
+            Some(index) => self.is_other_length(field, index),
+            None => false,
         }
     }
 

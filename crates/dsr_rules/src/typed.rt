@@ -1,6 +1,7 @@
 // The typed rules of a tree, or its first fault.
 ghost use Rattle.std.specs.Prelude.{◌≡◌, [], IfOk, IfErr};
 ghost use Rattle.dsr_meaning.specs.Typed.{AreTyped};
+ghost use Rattle.dsr_names.specs.Tables.{known_of};
 ghost use Rattle.dsr_typing.specs.Known.{known_in};
 ghost use Rattle.dsr_typing.specs.RuleFaults.{rules_faults};
 ghost use Rattle.dsr_typing.specs.TypedRules.{typed_rules};
@@ -13,6 +14,21 @@ use dsr_ir::{Rule, Structures};
 use dsr_names::{Known, name_tables};
 use dsr_tree::Tree;
 use std::alloc::Global;
+
+// The typed rules of a tree, over what its names stand for, or its first fault.
+fn rules_among(alloc: Global, tree: &Tree, known: &Known<'_>) -> Result<Vec<Rule>, SpecFault>
+    ensures no_fault { IfOk result (λ _. rules_faults (known_of known.now) tree.now.rules ≡ []) }
+    ensures rules { IfOk result (λ rs. rs.items ≡ typed_rules (known_of known.now) tree.now.rules) }
+    ensures fault { IfErr result (Tells (rules_faults (known_of known.now) tree.now.rules)) }
+{
+    let rules = tree.rules.items();
+    let mut told = Told { fault: None };
+    check_rules(known, &mut told, rules);
+    match told.refusal() {
+        Some(fault) => Err(fault),
+        None => Ok(typed_rules(alloc, known, rules)?),
+    }
+}
 
 /// The typed rules of a tree, in order, over the tables of its declarations. `At` tells the fault
 /// with the least place, and of several there the one of the least condition; the conditions are
@@ -29,10 +45,5 @@ pub fn rules(alloc: Global, tree: &Tree, structures: &Structures) -> Result<Vec<
         base: structures,
         tables: &tables,
     };
-    let mut told = Told { fault: None };
-    check_rules(&known, &mut told, tree.rules.items());
-    if let Some(fault) = told.refusal() {
-        return Err(fault);
-    }
-    Ok(typed_rules(alloc, &known, tree.rules.items())?)
+    rules_among(alloc, tree, &known)
 }

@@ -202,11 +202,13 @@ impl Scope<'_> {
     fn typed_rule(&self, alloc: Global, rule: &dsr_tree::Rule) -> Result<Rule, NoMemory>
         ensures { IfOk result (λ r. r ≡ rule_in (scope_told self.now) rule.now) }
     {
+        let inc = self.typed_inclusion(&rule.inclusion);
+        let guards = self.typed_guards(alloc, &rule.guards)?;
         Ok(Rule {
             premise: premise_set(&self.known, &rule.premise),
             span: self.typed_span(&rule.span),
-            guards: self.typed_guards(alloc, &rule.guards)?,
-            inc: self.typed_inclusion(&rule.inclusion),
+            guards,
+            inc,
         })
     }
 }
@@ -227,7 +229,8 @@ pub fn typed_rules(
 {
     let mut typed = Vec::new(alloc);
     for rule in rules {
-        typed.push(typed_rule(alloc, known, rule)?)?;
+        let entry = typed_rule(alloc, known, rule)?;
+        typed.push(entry)?;
     }
     Ok(typed)
 }

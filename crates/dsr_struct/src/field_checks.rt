@@ -1,7 +1,5 @@
 // The faults of fields.
 ghost use Rattle.std.specs.Prelude.{◌≡◌, ◌<◌, ◌%◌, ◌^◌, ◌&&◌, ◌||◌, not, nat_eq, nat_le, is_some, map, slice_get};
-ghost use Rattle.std.specs.Str.{bytes_eq};
-ghost use Rattle.indexmap.specs.IndexMap.{get};
 ghost use Rattle.dsr_tree.specs.Trees.{field_shape, named_shape, structure_shape};
 ghost use Rattle.dsr_text.specs.Declarations.{entry_bits, is_bytewise, width_faults, content_faults, extent_of, is_open, has_open, is_open_structure, inherits_open, is_declared_above, is_misplaced, named_field_faults, field_faults, position_of};
 ghost use Rattle.dsr_meaning.specs.Extents.{bit_behind};
@@ -146,7 +144,7 @@ impl Names<'_> {
 
     fn check_content(&self, told: &mut Told, width: Width, content: &Option<Content>)
         ensures { Finds (content_faults
-            (get bytes_eq self.now.tables.now.symbols.pools) width content.now) told.old.fault
+            (known_of self.now).pool width content.now) told.old.fault
             told.new.fault }
     {
         match content {
@@ -171,7 +169,7 @@ impl Names<'_> {
         told.note_if(is_misaligned(at, field), Condition::Align, place);
         told.note_if(is_misplaced, Condition::FixedPlace, place);
         check_width(told, field.width);
-        check_maybe_expr(told, &self.tables.fixed, &field.length);
+        check_maybe_expr(told, &self.tables.structures.numbers.fixed, &field.length);
         self.check_content(told, field.width, &field.content);
     }
 
@@ -184,7 +182,7 @@ impl Names<'_> {
             Field::Skip { place, length } => {
                 told.note_if(at.number == 64, Condition::Limit, *place);
                 told.note_if(!at.on_byte, Condition::Align, *place);
-                check_expr(told, &self.tables.fixed, length);
+                check_expr(told, &self.tables.structures.numbers.fixed, length);
             }
         }
     }

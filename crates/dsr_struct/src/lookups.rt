@@ -1,7 +1,5 @@
 // What is asked of names.
 ghost use Rattle.std.specs.Prelude.{◌≡◌, is_some, length, slice_get};
-ghost use Rattle.std.specs.Str.{bytes_eq};
-ghost use Rattle.indexmap.specs.IndexMap.{get};
 ghost use Rattle.dsr_text.specs.Names.{is_at, used_structure, ancestors_of, own_field, inherits, descends, pool_structure, is_complement, plain_number, plain_set, set_pool};
 ghost use Rattle.dsr_struct.specs.Known.{known_of};
 
@@ -38,34 +36,34 @@ fn is_complement(view: &Option<View>) -> bool
 
 impl Names<'_> {
     pub fn structure(&self, name: &Name) -> Option<usize>
-        ensures { result ≡ get bytes_eq self.now.tables.now.structures name.now }
+        ensures { result ≡ (known_of self.now).structure name.now }
     {
-        self.tables.structures.get(name).copied()
+        self.tables.structures.numbers.structures.get(name).copied()
     }
 
     pub fn pool(&self, name: &Name) -> Option<usize>
-        ensures { result ≡ get bytes_eq self.now.tables.now.symbols.pools name.now }
+        ensures { result ≡ (known_of self.now).pool name.now }
     {
-        self.tables.symbols.pools.get(name).copied()
+        self.tables.symbols.pools.pools.get(name).copied()
     }
 
     pub fn set(&self, name: &Name) -> Option<usize>
-        ensures { result ≡ get bytes_eq self.now.tables.now.symbols.sets name.now }
+        ensures { result ≡ (known_of self.now).set name.now }
     {
-        self.tables.symbols.sets.get(name).copied()
+        self.tables.symbols.sets.sets.get(name).copied()
     }
 
     pub fn relation(&self, name: &Name) -> Option<usize>
-        ensures { result ≡ get bytes_eq self.now.tables.now.symbols.relations name.now }
+        ensures { result ≡ (known_of self.now).relation name.now }
     {
-        self.tables.symbols.relations.get(name).copied()
+        self.tables.symbols.sets.relations.get(name).copied()
     }
 
     /// The first supply of the pool that has a name.
     pub fn supply(&self, name: &Name) -> Option<usize>
-        ensures { result ≡ get bytes_eq self.now.tables.now.symbols.supplies name.now }
+        ensures { result ≡ (known_of self.now).supply name.now }
     {
-        self.tables.symbols.supplies.get(name).copied()
+        self.tables.symbols.pools.supplies.get(name).copied()
     }
 
     /// The structure of a name as a parent, a pool's structure or a set's.
@@ -83,7 +81,7 @@ impl Names<'_> {
     pub fn ancestors(&self, structure: usize) -> &[usize]
         ensures { result.now ≡ ancestors_of (known_of self.now) structure }
     {
-        match self.tables.ancestors.get(structure) {
+        match self.tables.structures.rows.ancestors.get(structure) {
             Some(line) => line,
             None => &[],
         }
@@ -93,7 +91,7 @@ impl Names<'_> {
     pub fn own_field(&self, structure: usize, name: &Name) -> Option<usize>
         ensures { result ≡ own_field (known_of self.now) structure name.now }
     {
-        match self.tables.fields.get(structure) {
+        match self.tables.structures.rows.fields.get(structure) {
             Some(fields) => fields.get(name).copied(),
             None => None,
         }

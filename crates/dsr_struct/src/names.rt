@@ -5,34 +5,98 @@ ghost use Rattle.std.specs.Str.{bytes_eq};
 ghost use Rattle.indexmap.specs.IndexMap.{get};
 ghost use Rattle.dsr_tree.specs.Trees.{field_shape, structure_shape, tree_shape};
 ghost use Rattle.dsr_text.specs.Names.{has_name, has_fixed_name, field_number, fixed_in, before, is_head, with_ancestors, all_ancestors, parent_number, names_of};
-ghost use Rattle.dsr_struct.specs.Known.{is_named, entered, told_by, HaveSymbols};
+ghost use Rattle.dsr_struct.specs.Known.{is_named, entered, told_by, HaveStructures, HaveSymbols};
 
 use dsr_ir::{Name, NoMemory, TryClone};
 use dsr_tree::{Field, Fresh, PlacedName, Pool, Relation, Set, Structure, Tree};
 use indexmap::IndexMap;
 use std::alloc::Global;
 
+// A `?` costs its proof what stays to be dropped there. So the tables are held and made in pairs, and
+// those that stay alive at a `?` are dropped by a call of their own.
+
 /// What the names of a tree stand for, by the numbers of the items that declare them.
-#[derive(Drop)]
 pub struct NameTables {
-    pub structures: IndexMap<Name, usize>,
-    /// For each structure the fields that it declares itself.
-    pub fields: Vec<IndexMap<Name, usize>>,
-    /// For each structure up to the first one over the limit its ancestors, the nearest first.
-    pub ancestors: Vec<Vec<usize>>,
-    /// The fixed fields of `Head`.
-    pub fixed: IndexMap<Name, usize>,
+    pub structures: StructureTables,
     pub symbols: SymbolTables,
+}
+
+impl Drop for NameTables {
+    fn drop(self) {
+        let NameTables {
+            structures: _,
+            symbols: _,
+        } = self;
+    }
+}
+
+/// What the names of structures and of their fields stand for.
+pub struct StructureTables {
+    pub numbers: StructureNumbers,
+    pub rows: StructureRows,
+}
+
+impl Drop for StructureTables {
+    fn drop(self) {
+        let StructureTables {
+            numbers: _,
+            rows: _,
+        } = self;
+    }
+}
+
+/// The structures by their names, and the fixed fields of `Head`.
+pub struct StructureNumbers {
+    pub structures: IndexMap<Name, usize>,
+    pub fixed: IndexMap<Name, usize>,
+}
+
+impl Drop for StructureNumbers {
+    fn drop(self) {
+        let StructureNumbers {
+            structures: _,
+            fixed: _,
+        } = self;
+    }
+}
+
+/// A row for each structure.
+#[derive(Drop)]
+pub struct StructureRows {
+    /// The fields that it declares itself.
+    pub fields: Vec<IndexMap<Name, usize>>,
+    /// Up to the first one over the limit its ancestors, the nearest first.
+    pub ancestors: Vec<Vec<usize>>,
 }
 
 /// What the names of pools, sets and relations stand for.
 #[derive(Drop)]
 pub struct SymbolTables {
+    pub pools: PoolTables,
+    pub sets: SetTables,
+}
+
+/// The pools by their names.
+pub struct PoolTables {
     pub pools: IndexMap<Name, usize>,
-    pub sets: IndexMap<Name, usize>,
-    pub relations: IndexMap<Name, usize>,
     /// The first supply of each pool.
     pub supplies: IndexMap<Name, usize>,
+}
+
+impl Drop for PoolTables {
+    fn drop(self) {
+        let PoolTables {
+            pools: _,
+            supplies: _,
+        } = self;
+    }
+}
+
+/// The sets and the relations by their names.
+#[derive(Drop)]
+pub struct SetTables {
+    pub sets: IndexMap<Name, usize>,
+    pub relations: IndexMap<Name, usize>,
 }
 
 /// An item that may have a name.
@@ -135,7 +199,8 @@ fn enter(
         ≡ entered (get bytes_eq table.old) name.now number q) }
 {
     if table.get(name).is_none() {
-        table.insert(name.clone(alloc)?, number)?;
+        let key = name.clone(alloc)?;
+        table.insert(key, number)?;
     }
     Ok(())
 }
@@ -170,6 +235,22 @@ fn fixed_fields(alloc: Global, fields: &[Field]) -> Result<IndexMap<Name, usize>
     Ok(table)
 }
 
+// The fixed fields of the structure of a number, where there is one.
+fn fixed_of(
+    alloc: Global,
+    tree: &Tree,
+    structure: Option<usize>,
+) -> Result<IndexMap<Name, usize>, NoMemory>
+    ensures { IfOk result (λ m. (q : List ℕ) → get bytes_eq m q ≡ fixed_in (tree_shape tree.now) structure q) }
+{
+    if let Some(number) = structure {
+        if let Some(structure) = tree.structures.items().get(number) {
+            return fixed_fields(alloc, structure.fields.items());
+        }
+    }
+    Ok(IndexMap::new(alloc))
+}
+
 // The fixed fields that `Head` itself declares.
 fn fixed_of_head(
     alloc: Global,
@@ -180,12 +261,7 @@ fn fixed_of_head(
         ≡ fixed_in (tree_shape tree.now) (get bytes_eq structures.now (codes "Head")) q) }
 {
     let head = head_name(alloc)?;
-    if let Some(number) = structures.get(&head) {
-        if let Some(structure) = tree.structures.items().get(*number) {
-            return fixed_fields(alloc, structure.fields.items());
-        }
-    }
-    Ok(IndexMap::new(alloc))
+    fixed_of(alloc, tree, structures.get(&head).copied())
 }
 
 // For each structure the fields that it declares itself.
@@ -198,7 +274,8 @@ fn own_fields(
 {
     let mut tables = Vec::new(alloc);
     for structure in structures {
-        tables.push(numbers_of(alloc, structure.fields.items())?)?;
+        let numbers = numbers_of(alloc, structure.fields.items())?;
+        tables.push(numbers)?;
     }
     Ok(tables)
 }
@@ -267,15 +344,6 @@ fn ancestors_of(
     Ok(lines)
 }
 
-// A `?` costs its proof what stays to be dropped there, so the tables of a tree are made in parts.
-
-// The pools by their names, and the supplies by their pools' names.
-#[derive(Drop)]
-struct PoolTables {
-    pools: IndexMap<Name, usize>,
-    supplies: IndexMap<Name, usize>,
-}
-
 fn pool_tables(alloc: Global, tree: &Tree) -> Result<PoolTables, NoMemory>
     ensures pools { IfOk result (λ t. (q : List ℕ) → get bytes_eq t.pools q
         ≡ position_from (λ p. is_named (Some p.name.name) q) 0 tree.now.pools) }
@@ -285,13 +353,6 @@ fn pool_tables(alloc: Global, tree: &Tree) -> Result<PoolTables, NoMemory>
     let pools = numbers_of(alloc, tree.pools.items())?;
     let supplies = numbers_of(alloc, tree.supplies.items())?;
     Ok(PoolTables { pools, supplies })
-}
-
-// The sets and the relations by their names.
-#[derive(Drop)]
-struct SetTables {
-    sets: IndexMap<Name, usize>,
-    relations: IndexMap<Name, usize>,
 }
 
 fn set_tables(alloc: Global, tree: &Tree) -> Result<SetTables, NoMemory>
@@ -305,27 +366,12 @@ fn set_tables(alloc: Global, tree: &Tree) -> Result<SetTables, NoMemory>
     Ok(SetTables { sets, relations })
 }
 
-// What the names of pools, sets and relations stand for.
 fn symbol_tables(alloc: Global, tree: &Tree) -> Result<SymbolTables, NoMemory>
     ensures { IfOk result (HaveSymbols tree.now) }
 {
-    let of_pools = pool_tables(alloc, tree)?;
-    let of_sets = set_tables(alloc, tree)?;
-    let PoolTables { pools, supplies } = of_pools;
-    let SetTables { sets, relations } = of_sets;
-    Ok(SymbolTables {
-        pools,
-        sets,
-        relations,
-        supplies,
-    })
-}
-
-// The structures by their names, and the fixed fields of `Head`.
-#[derive(Drop)]
-struct StructureNumbers {
-    structures: IndexMap<Name, usize>,
-    fixed: IndexMap<Name, usize>,
+    let pools = pool_tables(alloc, tree)?;
+    let sets = set_tables(alloc, tree)?;
+    Ok(SymbolTables { pools, sets })
 }
 
 fn structure_numbers(alloc: Global, tree: &Tree) -> Result<StructureNumbers, NoMemory>
@@ -339,44 +385,38 @@ fn structure_numbers(alloc: Global, tree: &Tree) -> Result<StructureNumbers, NoM
     Ok(StructureNumbers { structures, fixed })
 }
 
-// What each structure declares itself, and what it descends from.
-#[derive(Drop)]
-struct StructureRows {
-    fields: Vec<IndexMap<Name, usize>>,
-    ancestors: Vec<Vec<usize>>,
-}
-
 fn structure_rows(
     alloc: Global,
-    numbers: &StructureNumbers,
+    numbers: &IndexMap<Name, usize>,
     structures: &[Structure],
 ) -> Result<StructureRows, NoMemory>
     ensures fields { IfOk result (λ rows. map (get bytes_eq) rows.fields.items
         ≡ map (λ s. field_number (structure_shape s)) structures.now) }
     ensures ancestors { IfOk result (λ rows. map (λ v. v.items) rows.ancestors.items
-        ≡ all_ancestors (get bytes_eq numbers.now.structures)
-        (map structure_shape (take 65 structures.now))) }
+        ≡ all_ancestors (get bytes_eq numbers.now) (map structure_shape (take 65 structures.now))) }
 {
     let asked = &structures[..structures.len().min(65)];
-    let ancestors = ancestors_of(alloc, &numbers.structures, asked)?;
+    let ancestors = ancestors_of(alloc, numbers, asked)?;
     let fields = own_fields(alloc, structures)?;
     Ok(StructureRows { fields, ancestors })
+}
+
+fn structure_tables(alloc: Global, tree: &Tree) -> Result<StructureTables, NoMemory>
+    ensures { IfOk result (HaveStructures tree.now) }
+{
+    let numbers = structure_numbers(alloc, tree)?;
+    let rows = structure_rows(alloc, &numbers.structures, tree.structures.items())?;
+    Ok(StructureTables { numbers, rows })
 }
 
 /// What the names of a tree stand for.
 pub fn name_tables(alloc: Global, tree: &Tree) -> Result<NameTables, NoMemory>
     ensures { IfOk result (λ tables. told_by tree.now tables ≡ names_of (tree_shape tree.now)) }
 {
-    let numbers = structure_numbers(alloc, tree)?;
-    let rows = structure_rows(alloc, &numbers, tree.structures.items())?;
+    let structures = structure_tables(alloc, tree)?;
     let symbols = symbol_tables(alloc, tree)?;
-    let StructureNumbers { structures, fixed } = numbers;
-    let StructureRows { fields, ancestors } = rows;
     Ok(NameTables {
         structures,
-        fields,
-        ancestors,
-        fixed,
         symbols,
     })
 }

@@ -14,9 +14,12 @@ use dsr_tree::{Condition, Fresh, PlacedName, Relation, Set, Target, Var, View};
 fn disagree(left: Option<usize>, right: Option<usize>) -> bool
     ensures { result ≡ disagree left right }
 {
-    match (left, right) {
-        (Some(left), Some(right)) => left != right,
-        _ => false,
+    let Some(left) = left else {
+        return false;
+    };
+    match right {
+        Some(right) => left != right,
+        None => false,
     }
 }
 
@@ -25,9 +28,12 @@ impl Names<'_> {
     fn is_unrelated(&self, structure: Option<usize>, ancestor: Option<usize>) -> bool
         ensures { result ≡ is_unrelated (known_of self.now) structure ancestor }
     {
-        match (structure, ancestor) {
-            (Some(structure), Some(ancestor)) => !self.descends(structure, ancestor),
-            _ => false,
+        let Some(structure) = structure else {
+            return false;
+        };
+        match ancestor {
+            Some(ancestor) => !self.descends(structure, ancestor),
+            None => false,
         }
     }
 

@@ -59,7 +59,7 @@ impl Names<'_> {
         ensures { Finds (pool_faults (known_of self.now) number (pool_shape pool.now))
             told.old.fault told.new.fault }
     {
-        let fixed = &self.tables.fixed;
+        let fixed = &self.tables.structures.numbers.fixed;
         let is_first = is_at(number, self.pool(&pool.name.name));
         told.note_if(!is_first, Condition::NameTwice, pool.name.place);
         told.note_if(number == 32, Condition::Limit, pool.name.place);

@@ -55,6 +55,25 @@ impl Names<'_> {
             rels,
         })
     }
+
+    // The typed tables, or the fault that is told.
+    fn outcome(&self, alloc: Global, head: &Name) -> Result<Structures, SpecFault>
+        requires head { head.now ≡ codes "Head" }
+        requires known { known_of self.now ≡ names_of (tree_shape self.now.tree.now) }
+        ensures no_fault { IfOk result (λ _. declaration_faults (tree_shape self.now.tree.now) ≡ []) }
+        ensures tables { IfOk result (λ s. s ≡ tables (tree_shape self.now.tree.now)) }
+        ensures typed { IfOk result AreTyped }
+        ensures placeable { IfOk result ArePlaceable }
+        ensures fault { IfErr result (Tells (declaration_faults (tree_shape self.now.tree.now))) }
+    {
+        if let Some(fault) = self.check(head) {
+            return Err(SpecFault::At {
+                kind: fault.condition.kind(),
+                place: fault.place,
+            });
+        }
+        Ok(self.typed(alloc, head)?)
+    }
 }
 
 // The typed tables of a tree, or the fault that is told, with what its names stand for.
@@ -71,13 +90,7 @@ fn typed_with(alloc: Global, tree: &Tree, known: &NameTables) -> Result<Structur
         tables: known,
     };
     let head = head_name(alloc)?;
-    if let Some(fault) = names.check(&head) {
-        return Err(SpecFault::At {
-            kind: fault.condition.kind(),
-            place: fault.place,
-        });
-    }
-    Ok(names.typed(alloc, &head)?)
+    names.outcome(alloc, &head)
 }
 
 /// The typed tables of a tree's structures, pools, sets, relations and supplies; its rules and

@@ -28,7 +28,7 @@ impl Names<'_> {
         ensures { result ≡ typed_except (known_of self.now) view.now }
     {
         match view {
-            Some(View::Except { set, .. }) => Some(number_in(&self.tables.symbols.sets, set)),
+            Some(View::Except { set, .. }) => Some(number_in(&self.tables.symbols.sets.sets, set)),
             _ => None,
         }
     }
@@ -37,11 +37,15 @@ impl Names<'_> {
         requires fit { AllFit (known_of self.now) }
         ensures { IfOk result (λ s. s ≡ typed_set (known_of self.now) set.now) }
     {
+        let pool = self.pool_in(&set.pool);
+        let structure = self.set_structure(set);
+        let except = self.typed_except(&set.view);
+        let name = set.name.name.clone(alloc)?;
         Ok(SetDecl {
-            name: set.name.name.clone(alloc)?,
-            pool: self.pool_in(&set.pool),
-            structure: self.set_structure(set),
-            except: self.typed_except(&set.view),
+            name,
+            pool,
+            structure,
+            except,
         })
     }
 
@@ -52,7 +56,8 @@ impl Names<'_> {
     {
         let mut typed = Vec::new(alloc);
         for set in self.tree.sets.items() {
-            typed.push(self.typed_set(alloc, set)?)?;
+            let entry = self.typed_set(alloc, set)?;
+            typed.push(entry)?;
         }
         Ok(Seq::new(typed))
     }
@@ -81,10 +86,13 @@ impl Names<'_> {
         requires fit { AllFit (known_of self.now) }
         ensures { IfOk result (λ r. r ≡ typed_relation (known_of self.now) relation.now) }
     {
+        let source = self.typed_source(&relation.source);
+        let target = self.typed_target(&relation.target);
+        let name = relation.name.name.clone(alloc)?;
         Ok(Rel {
-            name: relation.name.name.clone(alloc)?,
-            source: self.typed_source(&relation.source),
-            target: self.typed_target(&relation.target),
+            name,
+            source,
+            target,
         })
     }
 
@@ -96,7 +104,8 @@ impl Names<'_> {
     {
         let mut typed = Vec::new(alloc);
         for relation in self.tree.relations.items() {
-            typed.push(self.typed_relation(alloc, relation)?)?;
+            let entry = self.typed_relation(alloc, relation)?;
+            typed.push(entry)?;
         }
         Ok(Seq::new(typed))
     }

@@ -97,7 +97,7 @@ impl Names<'_> {
         requires fit { AllFit (known_of self.now) }
         ensures { result ≡ pool_in (known_of self.now) name.now }
     {
-        number_in(&self.tables.symbols.pools, name) + 1
+        number_in(&self.tables.symbols.pools.pools, name) + 1
     }
 
     /// The structure of a name as a parent, a pool's structure or a set's.
@@ -131,7 +131,7 @@ impl Names<'_> {
         let width = typed_width(field.width);
         let kind = self.typed_content(&field.content);
         let name = field.name.name.clone(alloc)?;
-        let len = typed_maybe_expr(alloc, &self.tables.fixed, &field.length)?;
+        let len = typed_maybe_expr(alloc, &self.tables.structures.numbers.fixed, &field.length)?;
         Ok(Field {
             name,
             fixed: field.fixed.is_some(),
@@ -149,13 +149,16 @@ impl Names<'_> {
     {
         match field {
             dsr_tree::Field::Named(field) => self.typed_named_field(alloc, field),
-            dsr_tree::Field::Skip { length, .. } => Ok(Field {
-                name: Name::new(Vec::new(alloc)),
-                fixed: false,
-                width: Width::U8,
-                len: Some(typed_expr(alloc, &self.tables.fixed, length)?),
-                kind: Kind::Gap,
-            }),
+            dsr_tree::Field::Skip { length, .. } => {
+                let len = typed_expr(alloc, &self.tables.structures.numbers.fixed, length)?;
+                Ok(Field {
+                    name: Name::new(Vec::new(alloc)),
+                    fixed: false,
+                    width: Width::U8,
+                    len: Some(len),
+                    kind: Kind::Gap,
+                })
+            }
         }
     }
 
@@ -170,7 +173,8 @@ impl Names<'_> {
     {
         let mut typed = Vec::new(alloc);
         for field in fields {
-            typed.push(self.typed_field(alloc, field)?)?;
+            let entry = self.typed_field(alloc, field)?;
+            typed.push(entry)?;
         }
         Ok(Seq::new(typed))
     }
@@ -213,7 +217,8 @@ impl Names<'_> {
     {
         let mut typed = Vec::new(alloc);
         for structure in self.tree.structures.items() {
-            typed.push(self.typed_structure(alloc, structure)?)?;
+            let entry = self.typed_structure(alloc, structure)?;
+            typed.push(entry)?;
         }
         Ok(Seq::new(typed))
     }
@@ -223,7 +228,7 @@ impl Names<'_> {
         requires fit { AllFit (known_of self.now) }
         ensures { IfOk result (λ ns. ns ≡ avoided_by (known_of self.now) supply.now) }
     {
-        let sets = &self.tables.symbols.sets;
+        let sets = &self.tables.symbols.sets.sets;
         let mut numbers = Vec::new(alloc);
         numbers.push(number_in(sets, &supply.first))?;
         for set in supply.rest.items() {
@@ -261,8 +266,8 @@ impl Names<'_> {
     {
         let structure = self.structure_in(&pool.structure);
         let named = self.name_and_avoided(alloc, &pool.name.name)?;
-        let slots = typed_slots(alloc, &self.tables.fixed, pool)?;
-        let codes = typed_codes(alloc, &self.tables.fixed, pool)?;
+        let slots = typed_slots(alloc, &self.tables.structures.numbers.fixed, pool)?;
+        let codes = typed_codes(alloc, &self.tables.structures.numbers.fixed, pool)?;
         let NameAndAvoided { name, avoid } = named;
         let SlotExprs { count, slot, start } = slots;
         let CodeExprs { code, step, none } = codes;
@@ -286,7 +291,8 @@ impl Names<'_> {
     {
         let mut typed = Vec::new(alloc);
         for pool in self.tree.pools.items() {
-            typed.push(self.typed_pool(alloc, pool)?)?;
+            let entry = self.typed_pool(alloc, pool)?;
+            typed.push(entry)?;
         }
         Ok(Seq::new(typed))
     }

@@ -8,9 +8,28 @@ ghost use Rattle.dsr_text.specs.TreeTexts as texts;
 ghost use Rattle.dsr_parse.specs.Ends as ends;
 ghost use Rattle.dsr_parse.specs.Reading.{Reads, Halts, said_constraint};
 
-use crate::reader::{Reader, Stop};
+use crate::reader::{Reader, Stop, both};
 use dsr_ir::{Order, Seq};
-use dsr_tree::{Binder, Constraint, Formula, Keyword, PlacedNumber, Quantifier, Sign, Tree};
+use dsr_tree::{
+    Binder, Constraint, Formula, Fresh, Keyword, PlacedNumber, Quantifier, Relation, Rule, Set,
+    Sign, Tree,
+};
+
+// What stands behind the pools of a specification.
+#[derive(Drop)]
+pub struct TreeEnd {
+    pub sets: Seq<Set>,
+    pub relations: Seq<Relation>,
+    pub rules: RulesEnd,
+}
+
+// What stands behind the relations.
+#[derive(Drop)]
+pub struct RulesEnd {
+    pub supplies: Seq<Fresh>,
+    pub rules: Seq<Rule>,
+    pub constraints: Seq<Constraint>,
+}
 
 impl<'a> Reader<'a> {
     // Reads the tree of a whole text; what stands behind it is left.
@@ -23,19 +42,45 @@ impl<'a> Reader<'a> {
         let order = self.order()?;
         let structures = self.structures()?;
         let pools = self.pools()?;
-        let sets = self.sets()?;
-        let relations = self.relations()?;
-        let supplies = self.supplies()?;
-        let rules = self.rules()?;
-        let constraints = self.constraints()?;
+        let end = self.tree_end()?;
         Ok(Tree {
             place,
             version,
             order,
             structures: Seq::new(structures),
             pools: Seq::new(pools),
+            sets: end.sets,
+            relations: end.relations,
+            supplies: end.rules.supplies,
+            rules: end.rules.rules,
+            constraints: end.rules.constraints,
+        })
+    }
+
+    // Reads what stands behind the pools.
+    fn tree_end(&mut self) -> Result<TreeEnd, Stop>
+        ensures ok { IfOk result (λ t. Reads ends.tree_end (ends.tree_end_text t) self.old self.new) }
+        ensures err { IfErr result (λ e. Halts (ends.tree_end ∷ []) self.old e) }
+    {
+        let sets = self.sets()?;
+        let relations = self.relations()?;
+        let rules = self.rules_end()?;
+        Ok(TreeEnd {
             sets: Seq::new(sets),
             relations: Seq::new(relations),
+            rules,
+        })
+    }
+
+    // Reads what stands behind the relations.
+    fn rules_end(&mut self) -> Result<RulesEnd, Stop>
+        ensures ok { IfOk result (λ r. Reads ends.rules_end (ends.rules_end_text r) self.old self.new) }
+        ensures err { IfErr result (λ e. Halts (ends.rules_end ∷ []) self.old e) }
+    {
+        let supplies = self.supplies()?;
+        let rules = self.rules()?;
+        let constraints = self.constraints()?;
+        Ok(RulesEnd {
             supplies: Seq::new(supplies),
             rules: Seq::new(rules),
             constraints: Seq::new(constraints),
@@ -110,9 +155,8 @@ impl<'a> Reader<'a> {
         ensures err { IfErr result (λ e. Halts (ends.constraint_end ∷ []) self.old e) }
     {
         let quantifier = self.quantifier()?;
-        let formula = self.formula(0)?;
-        self.sign(Sign::Semicolon)?;
-        Ok((quantifier, formula))
+        let end = both(quantifier, self.formula(0))?;
+        self.ended(end, Sign::Semicolon)
     }
 
     // Reads the quantifier of a constraint, where there is one.
@@ -125,8 +169,7 @@ impl<'a> Reader<'a> {
             return Ok(None);
         };
         let binder = self.binder()?;
-        self.word(Keyword::In)?;
-        let symbol = self.name()?;
+        let (binder, symbol) = both(binder, self.name_behind(Keyword::In))?;
         self.starting_sign(Sign::Colon)?;
         Ok(Some(Quantifier {
             place,
@@ -143,10 +186,8 @@ impl<'a> Reader<'a> {
             return Ok(Binder::One(self.name()?));
         }
         let place = self.sign(Sign::Less)?;
-        let first = self.name()?;
-        self.sign(Sign::Comma)?;
-        let second = self.name()?;
-        self.sign(Sign::Greater)?;
+        let first = self.name_before(Sign::Comma)?;
+        let second = self.name_before(Sign::Greater)?;
         Ok(Binder::Pair {
             place,
             first,

@@ -9,7 +9,7 @@ ghost use Rattle.dsr_text.specs.TreeTexts as texts;
 ghost use Rattle.dsr_parse.specs.Ends as ends;
 ghost use Rattle.dsr_parse.specs.Reading.{Reads, Halts, said_pool, said_slot};
 
-use crate::reader::{Reader, Stop};
+use crate::reader::{Reader, Stop, both};
 use dsr_ir::Seq;
 use dsr_tree::{Expr, Fresh, Keyword, PlacedName, Pool, Relation, Set, Sign, Target, View};
 
@@ -50,11 +50,10 @@ impl<'a> Reader<'a> {
         ensures err { IfErr result (λ e. Halts (grammar.pool ∷ []) self.old e) }
     {
         let place = self.word(Keyword::Pool)?;
-        let name = self.name()?;
-        self.sign(Sign::Colon)?;
-        let structure = self.name()?;
+        let name = self.name_before(Sign::Colon)?;
+        let (name, structure) = both(name, self.name())?;
         let count = self.brackets()?;
-        let end = self.pool_end()?;
+        let (count, end) = both(count, self.pool_end())?;
         Ok(Pool {
             place,
             name,
@@ -74,7 +73,7 @@ impl<'a> Reader<'a> {
         ensures err { IfErr result (λ e. Halts (ends.pool_end ∷ []) self.old e) }
     {
         let slot = self.slot()?;
-        let start = self.expr_behind(Keyword::At)?;
+        let (slot, start) = both(slot, self.expr_behind(Keyword::At))?;
         let codes = self.pool_codes()?;
         Ok(PoolEnd {
             slot,
@@ -93,8 +92,7 @@ impl<'a> Reader<'a> {
         let code = self.expr_behind(Keyword::Codes)?;
         let step = self.expr_behind(Keyword::Step)?;
         let none = self.expr_behind(Keyword::None)?;
-        self.sign(Sign::Semicolon)?;
-        Ok(PoolCodes { code, step, none })
+        self.ended(PoolCodes { code, step, none }, Sign::Semicolon)
     }
 
     // Reads the length of a slot, where it is said.
@@ -130,16 +128,15 @@ impl<'a> Reader<'a> {
     {
         let place = self.word(Keyword::Set)?;
         let name = self.name()?;
-        self.word(Keyword::Of)?;
-        let pool = self.name()?;
+        let pool = self.name_behind(Keyword::Of)?;
         let view = self.view()?;
-        self.sign(Sign::Semicolon)?;
-        Ok(Set {
+        let set = Set {
             place,
             name,
             pool,
             view,
-        })
+        };
+        self.ended(set, Sign::Semicolon)
     }
 
     // Reads how a set is read, where that is said.
@@ -176,18 +173,16 @@ impl<'a> Reader<'a> {
         ensures err { IfErr result (λ e. Halts (grammar.relation ∷ []) self.old e) }
     {
         let place = self.word(Keyword::Relation)?;
-        let name = self.name()?;
-        self.sign(Sign::Colon)?;
-        let source = self.var()?;
-        self.sign(Sign::Arrow)?;
+        let name = self.name_before(Sign::Colon)?;
+        let source = self.var_before(Sign::Arrow)?;
         let target = self.target()?;
-        self.sign(Sign::Semicolon)?;
-        Ok(Relation {
+        let relation = Relation {
             place,
             name,
             source,
             target,
-        })
+        };
+        self.ended(relation, Sign::Semicolon)
     }
 
     fn target(&mut self) -> Result<Target, Stop>
@@ -218,16 +213,15 @@ impl<'a> Reader<'a> {
     {
         let place = self.word(Keyword::Fresh)?;
         let pool = self.name()?;
-        self.word(Keyword::Avoid)?;
-        let first = self.name()?;
+        let first = self.name_behind(Keyword::Avoid)?;
         let rest = self.more_names()?;
-        self.sign(Sign::Semicolon)?;
-        Ok(Fresh {
+        let fresh = Fresh {
             place,
             pool,
             first,
             rest: Seq::new(rest),
-        })
+        };
+        self.ended(fresh, Sign::Semicolon)
     }
 
     // Reads the names behind the first one.

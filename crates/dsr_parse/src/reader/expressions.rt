@@ -7,7 +7,7 @@ ghost use Rattle.dsr_text.specs.Syntax.{Many, a_word};
 ghost use Rattle.dsr_text.specs.TreeTexts as texts;
 ghost use Rattle.dsr_parse.specs.Reading.{Reads, Halts, Next, Found, said_term, said_factor};
 
-use crate::reader::{Reader, Stop};
+use crate::reader::{Reader, Stop, both};
 use dsr_tree::{Expr, Factor, Keyword, MoreFactor, MoreTerm, ProductSign, Sign, SumSign, Term2};
 
 impl<'a> Reader<'a> {
@@ -20,7 +20,7 @@ impl<'a> Reader<'a> {
         ensures err { IfErr result (λ e. Halts (grammar.expression depth ∷ []) self.old e) }
     {
         let first = self.term2(depth)?;
-        let rest = self.more_terms(depth)?;
+        let (first, rest) = both(first, self.more_terms(depth))?;
         Ok(Expr { first, rest })
     }
 
@@ -83,7 +83,7 @@ impl<'a> Reader<'a> {
         }
         let place = self.opening_sign(Sign::OpenParenthesis, depth)?;
         let inner = self.expr(depth + 1)?;
-        self.sign(Sign::CloseParenthesis)?;
+        let inner = self.ended(inner, Sign::CloseParenthesis)?;
         let inner = Box::new(self.alloc, inner)?;
         Ok(Factor::Group { place, inner })
     }
@@ -141,7 +141,6 @@ impl<'a> Reader<'a> {
     {
         self.starting_sign(Sign::OpenBracket)?;
         let length = self.expr(0)?;
-        self.sign(Sign::CloseBracket)?;
-        Ok(length)
+        self.ended(length, Sign::CloseBracket)
     }
 }

@@ -2,13 +2,13 @@
 ghost use Rattle.std.specs.Prelude.{◌≡◌, ◌≤◌, IfOk, IfErr, ◌∷◌, []};
 ghost use Rattle.dsr_tree.specs.Trees as shapes;
 ghost use Rattle.dsr_text.specs.Grammar as grammar;
-ghost use Rattle.dsr_text.specs.Phrases.{in_turn};
-ghost use Rattle.dsr_text.specs.Syntax.{Many, free};
+ghost use Rattle.dsr_text.specs.Phrases.{in_turn, ◌▸◌};
+ghost use Rattle.dsr_text.specs.Syntax.{Many, Then};
 ghost use Rattle.dsr_text.specs.TreeTexts as texts;
 ghost use Rattle.dsr_parse.specs.Ends as ends;
 ghost use Rattle.dsr_parse.specs.Reading.{Reads, Halts, said_join, said_unit};
 
-use crate::reader::{Reader, Stop};
+use crate::reader::{Reader, Stop, both};
 use dsr_tree::{
     Atom, Bound, Compare, Formula, Join, Keyword, Measure, PlacedName, Sign, Size, Unit, Var,
 };
@@ -23,7 +23,7 @@ impl<'a> Reader<'a> {
         ensures err { IfErr result (λ e. Halts (grammar.formula depth ∷ []) self.old e) }
     {
         let first = self.join(depth)?;
-        let rest = self.more_joins(depth)?;
+        let (first, rest) = both(first, self.more_joins(depth))?;
         Ok(Formula { first, rest })
     }
 
@@ -50,7 +50,7 @@ impl<'a> Reader<'a> {
         ensures err { IfErr result (λ e. Halts (grammar.join depth ∷ []) self.old e) }
     {
         let first = self.unit(depth)?;
-        let rest = self.more_units(depth)?;
+        let (first, rest) = both(first, self.more_units(depth))?;
         Ok(Join { first, rest })
     }
 
@@ -125,7 +125,7 @@ impl<'a> Reader<'a> {
     {
         let place = self.opening_sign(Sign::OpenParenthesis, depth)?;
         let formula = self.formula(depth + 1)?;
-        self.sign(Sign::CloseParenthesis)?;
+        let formula = self.ended(formula, Sign::CloseParenthesis)?;
         let formula = Box::new(self.alloc, formula)?;
         Ok(Unit::Group { place, formula })
     }
@@ -150,7 +150,7 @@ impl<'a> Reader<'a> {
     {
         let place = self.literal_word(Keyword::Size)?;
         let size = self.size_behind(place)?;
-        let bound = self.bound()?;
+        let (size, bound) = both(size, self.bound())?;
         let number = self.number()?;
         Ok(Atom::Count {
             size,
@@ -165,12 +165,9 @@ impl<'a> Reader<'a> {
         ensures err { IfErr result (λ e. Halts (grammar.pair_atom ∷ []) self.old e) }
     {
         let place = self.literal_sign(Sign::Less)?;
-        let first = self.var()?;
-        self.sign(Sign::Comma)?;
-        let second = self.var()?;
-        self.sign(Sign::Greater)?;
-        self.word(Keyword::In)?;
-        let relation = self.name()?;
+        let first = self.var_before(Sign::Comma)?;
+        let second = self.var_before(Sign::Greater)?;
+        let relation = self.name_behind(Keyword::In)?;
         Ok(Atom::Pair {
             place,
             first,
@@ -189,16 +186,26 @@ impl<'a> Reader<'a> {
             let set = self.name()?;
             return Ok(Atom::Member { var, set });
         }
-        self.sign(Sign::Dot)?;
-        let relation = self.name()?;
-        let compare = self.compare()?;
-        let measure = self.measure()?;
+        let (relation, compare, measure) = self.value_end()?;
         Ok(Atom::Value {
             var,
             relation,
             compare,
             measure,
         })
+    }
+
+    // Reads what stands behind the variable of a value.
+    fn value_end(&mut self) -> Result<(PlacedName, Compare, Measure), Stop>
+        ensures ok { IfOk result (λ v. Reads ends.value_end
+            (ends.value_end_text v.0 v.1 v.2) self.old self.new) }
+        ensures err { IfErr result (λ e. Halts (ends.value_end ∷ []) self.old e) }
+    {
+        self.sign(Sign::Dot)?;
+        let relation = self.name()?;
+        let compare = self.compare()?;
+        let measure = self.measure()?;
+        Ok((relation, compare, measure))
     }
 
     fn measure(&mut self) -> Result<Measure, Stop>
@@ -208,15 +215,8 @@ impl<'a> Reader<'a> {
         if self.is_number() {
             return Ok(Measure::Number(self.number()?));
         }
-        Ok(Measure::Size(self.size()?))
-    }
-
-    fn size(&mut self) -> Result<Size, Stop>
-        ensures ok { IfOk result (λ s. Reads (grammar.size_by free) (texts.size_text s) self.old self.new) }
-        ensures err { IfErr result (λ e. Halts (grammar.size_by free ∷ []) self.old e) }
-    {
         let place = self.word(Keyword::Size)?;
-        self.size_behind(place)
+        Ok(Measure::Size(self.size_behind(place)?))
     }
 
     // Reads what is counted, behind the keyword at this place.
@@ -228,8 +228,7 @@ impl<'a> Reader<'a> {
         self.sign(Sign::OpenParenthesis)?;
         let var = self.var()?;
         let part = self.size_part()?;
-        self.sign(Sign::CloseParenthesis)?;
-        Ok(Size { place, var, part })
+        self.ended(Size { place, var, part }, Sign::CloseParenthesis)
     }
 
     // Reads the name behind the variable of a size, where there is one.
@@ -265,6 +264,17 @@ impl<'a> Reader<'a> {
             return Ok(Var::Head { place });
         }
         Ok(Var::Name(self.name()?))
+    }
+
+    // Reads a variable and the sign behind it.
+    pub fn var_before(&mut self, sign: Sign) -> Result<Var, Stop>
+        ensures ok { IfOk result (λ v. Reads (Then grammar.var (grammar.mark sign))
+            (texts.var_text v ▸ texts.mark sign) self.old self.new) }
+        ensures err { IfErr result
+            (λ e. Halts (Then grammar.var (grammar.mark sign) ∷ []) self.old e) }
+    {
+        let var = self.var()?;
+        self.ended(var, sign)
     }
 
     fn bound(&mut self) -> Result<Bound, Stop>

@@ -7,7 +7,7 @@ ghost use Rattle.dsr_text.specs.TreeTexts as texts;
 ghost use Rattle.dsr_parse.specs.Ends as ends;
 ghost use Rattle.dsr_parse.specs.Reading.{Reads, Halts, Found};
 
-use crate::reader::{Reader, Stop};
+use crate::reader::{Reader, Stop, both};
 use dsr_ir::Seq;
 use dsr_tree::{
     Guard, Guards, Inclusion, Index, Keyword, Member, MemberPart, Path, PlacedName, Premise,
@@ -33,7 +33,7 @@ impl<'a> Reader<'a> {
     {
         let place = self.word(Keyword::Rule)?;
         let premise = self.premise()?;
-        let span = self.span()?;
+        let (premise, span) = both(premise, self.span())?;
         let (guards, inclusion) = self.rule_end()?;
         Ok(Rule {
             place,
@@ -50,8 +50,7 @@ impl<'a> Reader<'a> {
         ensures err { IfErr result (λ e. Halts (ends.rule_end ∷ []) self.old e) }
     {
         let guards = self.guards()?;
-        let inclusion = self.conclusion()?;
-        Ok((guards, inclusion))
+        both(guards, self.conclusion())
     }
 
     // Reads what a rule gives, to its end.
@@ -61,8 +60,7 @@ impl<'a> Reader<'a> {
     {
         self.sign(Sign::Gives)?;
         let inclusion = self.inclusion()?;
-        self.sign(Sign::Semicolon)?;
-        Ok(inclusion)
+        self.ended(inclusion, Sign::Semicolon)
     }
 
     fn premise(&mut self) -> Result<Premise, Stop>
@@ -73,8 +71,7 @@ impl<'a> Reader<'a> {
             return Ok(Premise::Head { place });
         }
         let name = self.name()?;
-        self.word(Keyword::In)?;
-        let set = self.name()?;
+        let set = self.name_behind(Keyword::In)?;
         Ok(Premise::Member { name, set })
     }
 
@@ -116,7 +113,7 @@ impl<'a> Reader<'a> {
             return Ok(None);
         }
         let first = self.guard()?;
-        let rest = self.more_guards()?;
+        let (first, rest) = both(first, self.more_guards())?;
         Ok(Some(Guards {
             first,
             rest: Seq::new(rest),
@@ -143,11 +140,10 @@ impl<'a> Reader<'a> {
         if let Some((test, place)) = self.ref_test() {
             self.sign(Sign::OpenParenthesis)?;
             let path = self.path()?;
-            self.sign(Sign::CloseParenthesis)?;
-            return Ok(Guard::Tested { place, test, path });
+            return self.ended(Guard::Tested { place, test, path }, Sign::CloseParenthesis);
         }
         let path = self.path()?;
-        let compare = self.compare()?;
+        let (path, compare) = both(path, self.compare())?;
         let number = self.number()?;
         Ok(Guard::Compared {
             path,
@@ -177,8 +173,7 @@ impl<'a> Reader<'a> {
         ensures ok { IfOk result (λ p. Reads grammar.path (texts.path_text p) self.old self.new) }
         ensures err { IfErr result (λ e. Halts (grammar.path ∷ []) self.old e) }
     {
-        let var = self.var()?;
-        self.sign(Sign::Dot)?;
+        let var = self.var_before(Sign::Dot)?;
         let field = self.name()?;
         let index = self.index()?;
         Ok(Path { var, field, index })
@@ -193,9 +188,7 @@ impl<'a> Reader<'a> {
         if self.take_sign(Sign::OpenBracket).is_none() {
             return Ok(None);
         }
-        let name = self.name()?;
-        self.sign(Sign::CloseBracket)?;
-        Ok(Some(name))
+        Ok(Some(self.name_before(Sign::CloseBracket)?))
     }
 
     fn inclusion(&mut self) -> Result<Inclusion, Stop>
@@ -217,8 +210,8 @@ impl<'a> Reader<'a> {
     {
         let place = self.sign(Sign::Less)?;
         let term = self.term()?;
-        self.sign(Sign::Comma)?;
-        let (path, relation) = self.pair_end()?;
+        let term = self.ended(term, Sign::Comma)?;
+        let (term, (path, relation)) = both(term, self.pair_end())?;
         Ok(Inclusion::Pair {
             place,
             term,
@@ -233,10 +226,8 @@ impl<'a> Reader<'a> {
         ensures err { IfErr result (λ e. Halts (ends.pair_end ∷ []) self.old e) }
     {
         let path = self.path()?;
-        self.sign(Sign::Greater)?;
-        self.word(Keyword::In)?;
-        let relation = self.name()?;
-        Ok((path, relation))
+        let path = self.ended(path, Sign::Greater)?;
+        both(path, self.name_behind(Keyword::In))
     }
 
     // Reads the inclusion of a member.
@@ -246,8 +237,7 @@ impl<'a> Reader<'a> {
         ensures err { IfErr result (λ e. Halts (grammar.member_inclusion ∷ []) self.old e) }
     {
         let member = self.member()?;
-        self.word(Keyword::In)?;
-        let set = self.name()?;
+        let (member, set) = both(member, self.name_behind(Keyword::In))?;
         Ok(Inclusion::Member { member, set })
     }
 
@@ -286,8 +276,7 @@ impl<'a> Reader<'a> {
         if self.take_sign(Sign::OpenBracket).is_none() {
             return Ok(None);
         }
-        let name = self.name()?;
-        self.sign(Sign::CloseBracket)?;
+        let name = self.name_before(Sign::CloseBracket)?;
         Ok(Some(MemberPart::Slot(name)))
     }
 }

@@ -1,7 +1,6 @@
 // Structures and their fields.
 ghost use Rattle.std.specs.Prelude.{◌≡◌, IfOk, IfErr, ◌∷◌, []};
 ghost use Rattle.dsr_tree.specs.Trees as shapes;
-ghost use Rattle.dsr_tree.specs.declared.tokens.Keyword.TheVariants as keyword;
 ghost use Rattle.dsr_text.specs.Grammar as grammar;
 ghost use Rattle.dsr_text.specs.Phrases.{in_turn};
 ghost use Rattle.dsr_text.specs.Syntax.{Many};
@@ -9,7 +8,7 @@ ghost use Rattle.dsr_text.specs.TreeTexts as texts;
 ghost use Rattle.dsr_parse.specs.Ends as ends;
 ghost use Rattle.dsr_parse.specs.Reading.{Reads, Halts, is_next, said_field, said_structure, said_length};
 
-use crate::reader::{Reader, Stop};
+use crate::reader::{Reader, Stop, both};
 use dsr_ir::Seq;
 use dsr_tree::{Content, Expr, Field, Keyword, NamedField, PlacedName, Sign, Structure, Width};
 
@@ -33,7 +32,7 @@ impl<'a> Reader<'a> {
     {
         let place = self.word(Keyword::Structure)?;
         let name = self.name()?;
-        let parent = self.parent()?;
+        let (name, parent) = both(name, self.parent())?;
         let fields = self.braced_fields()?;
         Ok(Structure {
             place,
@@ -51,8 +50,7 @@ impl<'a> Reader<'a> {
     {
         self.sign(Sign::OpenBrace)?;
         let fields = self.fields()?;
-        self.sign(Sign::CloseBrace)?;
-        Ok(fields)
+        self.ended(fields, Sign::CloseBrace)
     }
 
     fn parent(&mut self) -> Result<Option<PlacedName>, Stop>
@@ -114,8 +112,7 @@ impl<'a> Reader<'a> {
     {
         let place = self.starting_word(Keyword::Skip)?;
         let length = self.expr(0)?;
-        self.sign(Sign::Semicolon)?;
-        Ok(Field::Skip { place, length })
+        self.ended(Field::Skip { place, length }, Sign::Semicolon)
     }
 
     fn named_field(&mut self) -> Result<NamedField, Stop>
@@ -123,12 +120,10 @@ impl<'a> Reader<'a> {
             (texts.named_field_text (shapes.named_shape f)) self.old self.new) }
         ensures err { IfErr result (λ e. Halts (grammar.named_field ∷ []) self.old e) }
     {
-        let fixed = self.fixed();
+        let fixed = self.take_word(Keyword::Fixed);
         let width = self.width()?;
         let name = self.name()?;
-        let length = self.length()?;
-        let content = self.content()?;
-        self.sign(Sign::Semicolon)?;
+        let (length, content) = self.field_end()?;
         Ok(NamedField {
             fixed,
             width,
@@ -138,12 +133,15 @@ impl<'a> Reader<'a> {
         })
     }
 
-    // Reads `fixed` where it is next.
-    fn fixed(&mut self) -> Option<u64>
-        ensures { Reads (grammar.maybe (grammar.word keyword.Fixed))
-            (texts.maybe_text texts.fixed_text result) self.old self.new }
+    // Reads what stands behind the name of a field.
+    fn field_end(&mut self) -> Result<(Option<Expr>, Option<Content>), Stop>
+        ensures ok { IfOk result (λ f. Reads ends.field_end
+            (ends.field_end_text f.0 f.1) self.old self.new) }
+        ensures err { IfErr result (λ e. Halts (ends.field_end ∷ []) self.old e) }
     {
-        self.take_word(Keyword::Fixed)
+        let length = self.length()?;
+        let end = both(length, self.content())?;
+        self.ended(end, Sign::Semicolon)
     }
 
     fn width(&mut self) -> Result<Width, Stop>

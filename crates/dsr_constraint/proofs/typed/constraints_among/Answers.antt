@@ -1,15 +1,14 @@
-use Rattle.std.proofs.Common.{map}
-use Rattle.std.proofs.lemmas.Result.{err_from_is_err_and}
-use Rattle.dsr_names.specs.Tables.{known_of}
-use Rattle.dsr_tree.specs.Trees.{constraint_shape}
-use Rattle.dsr_typing.specs.Constraints.{constraints_faults}
-use Rattle.dsr_faults.proofs.Finding.{finds_same}
+use Rattle.std.proofs.Common.{◌≡◌, [], IfOk, IfErr, subst}
+use Rattle.dsr_faults.specs.Refusals.{Tells}
+use Rattle.dsr_constraint.specs.Scoped.{faults_of_all, typed_of_all}
 use Rattle.dsr_constraint.proofs.typed.constraints_among.Goals as goal
 
-pub returns-in_err-typed-clause-fault : goal.returns-in_err-typed-clause-fault
-returns-in_err-typed-clause-fault c = let p = err_from_is_err_and c.from_residual-in_err-typed.result c.from_residual-in_err-typed.ensures.1 in rw (p.1, p.2) tt
-
-pub returns-in-Some-clause-fault : goal.returns-in-Some-clause-fault
-returns-in-Some-clause-fault c =
-    c.in-Some.ensures.told (constraints_faults (known_of c.args.known.now) c.args.tree.now.rules (map constraint_shape c.args.tree.now.constraints))
-    (finds_same (λ i. constraints_faults (known_of c.args.known.now) (c.items-rules.ensures i) (map constraint_shape (c.items-items.ensures i))) c.in_ok-typed.ensures.found)
+pub returns : goal.returns
+returns c =
+    let known = c.args.known.now in
+    let found = c.constraints_with.result in
+    record {
+      no_fault = subst (λ fs. IfOk found (λ _. fs ≡ [])) (λ i. faults_of_all known (c.items-rules.ensures i) (c.items.ensures i)) c.constraints_with.ensures.no_fault;
+      constraints = subst (λ xs. IfOk found (λ cs. cs.items ≡ typed_of_all known xs)) c.items.ensures c.constraints_with.ensures.constraints;
+      fault = subst (λ fs. IfErr found (Tells fs)) (λ i. faults_of_all known (c.items-rules.ensures i) (c.items.ensures i)) c.constraints_with.ensures.fault;
+    }

@@ -10,5 +10,5 @@ use Rattle.dsr_struct.proofs.names.own_fields.Goals as goal
 
 pub loop-structure-preserved : goal.loop-structure-preserved
 loop-structure-preserved c =
-    map_next (get bytes_eq) (λ s. field_number (structure_shape s)) c.loop-structure.tables.items c.push.new.self.items c.in_ok-numbers_of.field-0 c.args.structures.now c.loop-structure.structure-index c.structure-item.result c.loop-structure-test.true c.structure-item.is c.loop-structure.invariant c.in_ok-push.ensures.items
-    (λ i q. (c.in_ok-numbers_of.ensures q ∙ field_numbers q c.items.result.now ∙ ap (λ fs. position_from (has_name q) 0 (map field_shape fs)) c.items.ensures) i)
+    map_next (get bytes_eq) (λ s. field_number (structure_shape s)) c.loop-structure.tables.items c.push.new.self.items c.in_ok-numbers.numbers c.args.structures.now c.loop-structure.structure-index c.structure-item.result c.loop-structure-test.true c.structure-item.is c.loop-structure.invariant c.in_ok-push.ensures.items
+    (λ i q. (c.in_ok-numbers.ensures q ∙ field_numbers q c.items.result.now ∙ ap (λ fs. position_from (has_name q) 0 (map field_shape fs)) c.items.ensures) i)

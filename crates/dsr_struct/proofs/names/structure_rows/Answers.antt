@@ -9,7 +9,7 @@ use Rattle.dsr_struct.proofs.names.structure_rows.Goals as goal
 
 pub returns : goal.returns
 returns c =
-    let number = get bytes_eq c.args.numbers.now.structures in
+    let number = get bytes_eq c.args.numbers.now in
     let structures = c.args.structures.now in
     record {
       fields = c.in_ok-fields.ensures;

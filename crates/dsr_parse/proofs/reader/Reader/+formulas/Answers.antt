@@ -1,8 +1,9 @@
 use Rattle.std.proofs.Common.{refl, sym, ap, ◌∙◌, arith}
-use Rattle.dsr_text.specs.TreeTexts.{unit_text, formula_text}
-use Rattle.dsr_tree.specs.Trees.{unit_shape, formula_shape}
+use Rattle.dsr_text.specs.TreeTexts.{unit_text, join_text, formula_text}
+use Rattle.dsr_tree.specs.Trees.{unit_shape, join_shape, formula_shape}
 use Rattle.std.proofs.lemmas.Result.{IfOk-weaker}
-use Rattle.dsr_parse.proofs.Passing.{passed_on, err_from, said_shorter, next_is, other_is, halts_first, halts_rest, halts_left, halts_right, reads_then, reads_left, reads_right, reads_unkept, reads_as, reads_within, says_within, unit_inside, unit_halts, formula_inside, formula_halts, items_none, items_more, items_halt}
+use Rattle.dsr_parse.proofs.Passing.{passed_on, err_from, said_shorter, next_is, other_is, halts_first, halts_rest, halts_left, halts_right, reads_then, reads_left, reads_right, reads_as, reads_within, says_within, unit_inside, unit_halts, formula_inside, formula_halts, items_none, items_more, items_halt}
+use Rattle.dsr_parse.proofs.Grouped.{behind_is, behind_stops}
 use Rattle.dsr_parse.proofs.Staying.{took, took_next, token_shorter}
 use Rattle.dsr_parse.proofs.TreeRows.{formula_made, join_made}
 use Rattle.dsr_parse.proofs.reader.Reader.+formulas.Goals as goal
@@ -13,11 +14,11 @@ formula-returns-in_err-first-clause-err t c = passed_on c.from_residual.result c
 pub formula-more_joins-requires : goal.formula-more_joins-requires
 formula-more_joins-requires t c = let w = reads_within c.in_ok-first.ensures.ok in (omega (arith, c.decreases), c.requires)
 
-pub formula-returns-in_err-rest-clause-err : goal.formula-returns-in_err-rest-clause-err
-formula-returns-in_err-rest-clause-err t c = passed_on c.from_residual-in_err-rest.result c.from_residual-in_err-rest.ensures.1 (halts_rest c.in_ok-first.ensures.ok c.in_err-rest.ensures.err)
+pub formula-returns-in_err-first-2-clause-err : goal.formula-returns-in_err-first-2-clause-err
+formula-returns-in_err-first-2-clause-err t c = passed_on c.from_residual-in_err-first-2.result c.from_residual-in_err-first-2.ensures.1 (halts_rest c.in_ok-first.ensures.ok (behind_stops _ c.more_joins.result c.in_err-first-2.ensures.err c.more_joins.ensures.err))
 
 pub formula-returns-clause-ok : goal.formula-returns-clause-ok
-formula-returns-clause-ok t c = reads_as (formula_made (record { first = c.in_ok-first.first; rest = c.in_ok-rest.rest })) (reads_then c.in_ok-first.ensures.ok c.in_ok-rest.ensures.ok)
+formula-returns-clause-ok t c = reads_as (formula_made (record { first = c.in_ok-first-2.first; rest = c.in_ok-first-2.rest })) (reads_then (reads_as (ap (λ f. join_text (join_shape f)) c.in_ok-first-2.ensures.ok.0) c.in_ok-first.ensures.ok) (behind_is _ c.more_joins.result c.in_ok-first-2.ensures.ok c.more_joins.ensures.ok))
 
 pub join-returns-in_err-first-clause-err : goal.join-returns-in_err-first-clause-err
 join-returns-in_err-first-clause-err t c = passed_on c.from_residual.result c.from_residual.ensures.1 (halts_first c.in_err-first.ensures.err)
@@ -25,11 +26,11 @@ join-returns-in_err-first-clause-err t c = passed_on c.from_residual.result c.fr
 pub join-more_units-requires : goal.join-more_units-requires
 join-more_units-requires t c = let w = reads_within c.in_ok-first.ensures.ok in (omega (arith, c.decreases), c.requires)
 
-pub join-returns-in_err-rest-clause-err : goal.join-returns-in_err-rest-clause-err
-join-returns-in_err-rest-clause-err t c = passed_on c.from_residual-in_err-rest.result c.from_residual-in_err-rest.ensures.1 (halts_rest c.in_ok-first.ensures.ok c.in_err-rest.ensures.err)
+pub join-returns-in_err-first-2-clause-err : goal.join-returns-in_err-first-2-clause-err
+join-returns-in_err-first-2-clause-err t c = passed_on c.from_residual-in_err-first-2.result c.from_residual-in_err-first-2.ensures.1 (halts_rest c.in_ok-first.ensures.ok (behind_stops _ c.more_units.result c.in_err-first-2.ensures.err c.more_units.ensures.err))
 
 pub join-returns-clause-ok : goal.join-returns-clause-ok
-join-returns-clause-ok t c = reads_as (join_made (record { first = c.in_ok-first.first; rest = c.in_ok-rest.rest })) (reads_then c.in_ok-first.ensures.ok c.in_ok-rest.ensures.ok)
+join-returns-clause-ok t c = reads_as (join_made (record { first = c.in_ok-first-2.first; rest = c.in_ok-first-2.rest })) (reads_then (reads_as (ap (λ u. unit_text (unit_shape u)) c.in_ok-first-2.ensures.ok.0) c.in_ok-first.ensures.ok) (behind_is _ c.more_units.result c.in_ok-first-2.ensures.ok c.more_units.ensures.ok))
 
 pub more_joins-loop-joins-init : goal.more_joins-loop-joins-init
 more_joins-loop-joins-init t c = items_none c.new-joins.ensures.items
@@ -140,10 +141,10 @@ group-formula-requires t c = let less = said_shorter c.in_ok-place.ensures.ok in
 pub group-returns-in_err-formula-clause-err : goal.group-returns-in_err-formula-clause-err
 group-returns-in_err-formula-clause-err t c = passed_on c.from_residual-in_err-formula.result c.from_residual-in_err-formula.ensures.1 (halts_rest c.in_ok-place.ensures.ok (halts_first (formula_halts c.in_err-formula.ensures.err)))
 
-pub group-returns-in_err-sign-clause-err : goal.group-returns-in_err-sign-clause-err
-group-returns-in_err-sign-clause-err t c = passed_on c.from_residual-in_err-sign.result c.from_residual-in_err-sign.ensures.1 (halts_rest c.in_ok-place.ensures.ok (halts_rest (formula_inside c.in_ok-formula.ensures.ok) c.in_err-sign.ensures.err))
+pub group-returns-in_err-formula-2-clause-err : goal.group-returns-in_err-formula-2-clause-err
+group-returns-in_err-formula-2-clause-err t c = passed_on c.from_residual-in_err-formula-2.result c.from_residual-in_err-formula-2.ensures.1 (halts_rest c.in_ok-place.ensures.ok (halts_rest (formula_inside c.in_ok-formula.ensures.ok) c.in_err-formula-2.ensures.err))
 
 pub group-returns-clause-ok : goal.group-returns-clause-ok
 group-returns-clause-ok t c =
-    let inner = ap (λ f. formula_text (formula_shape f)) c.in_ok-formula-2.ensures.ok in
-    reads_then c.in_ok-place.ensures.ok (reads_then (reads_as inner (formula_inside c.in_ok-formula.ensures.ok)) (reads_unkept c.in_ok-sign.ensures.ok))
+    let inner = ap (λ f. formula_text (formula_shape f)) (c.in_ok-formula-3.ensures.ok ∙ c.in_ok-formula-2.ensures.same) in
+    reads_then c.in_ok-place.ensures.ok (reads_then (reads_as inner (formula_inside c.in_ok-formula.ensures.ok)) c.in_ok-formula-2.ensures.ok)

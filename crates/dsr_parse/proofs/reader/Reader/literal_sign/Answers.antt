@@ -1,6 +1,16 @@
 use Rattle.std.proofs.Common.{sym}
-use Rattle.dsr_parse.proofs.Passing.{counted_after, err_from}
+use Rattle.std.proofs.lemmas.Result.{IfOk-weaker}
+use Rattle.dsr_parse.proofs.Passing.{counted_after, counted_reads, counted_stops, err_from, expected_halts, passed_on}
 use Rattle.dsr_parse.proofs.reader.Reader.literal_sign.Goals as goal
+
+pub returns-then-not-is_sign-clause-err : goal.returns-then-not-is_sign-clause-err
+returns-then-not-is_sign-clause-err c = expected_halts c.expected.ensures (sym c.if-not-is_sign.ensures)
+
+pub returns-in_err-count-clause-err : goal.returns-in_err-count-clause-err
+returns-in_err-count-clause-err c = passed_on c.from_residual.result c.from_residual.ensures.1 (counted_stops c.in_err-count.ensures.past (sym c.if-not-is_sign.ensures))
+
+pub returns-clause-ok : goal.returns-clause-ok
+returns-clause-ok c = IfOk-weaker c.sign.result _ _ (λ p r. counted_reads c.in_ok-count.ensures.below c.in_ok-count.ensures.rest c.in_ok-count.ensures.counted (sym c.if-not-is_sign.ensures) r) c.sign.ensures.ok
 
 pub returns-clause-err : goal.returns-clause-err
 returns-clause-err c = err_from c.sign.result (λ e h. counted_after c.in_ok-count.ensures.below c.in_ok-count.ensures.rest c.in_ok-count.ensures.counted (sym c.if-not-is_sign.ensures) h) c.sign.ensures.err

@@ -1,4 +1,7 @@
-use Rattle.dsr_parse.proofs.Passing.{passed_on, halts_first, halts_rest, reads_then, reads_unkept}
+use Rattle.dsr_parse.proofs.Grouped.{behind_is, behind_stops}
+use Rattle.dsr_parse.proofs.Passing.{halts_first, halts_rest, passed_on, reads_as, reads_then}
+use Rattle.dsr_text.specs.TreeTexts.{term_text}
+use Rattle.std.proofs.Common.{ap, ◌∙◌}
 use Rattle.dsr_parse.proofs.reader.Reader.pair_inclusion.Goals as goal
 
 pub returns-in_err-place-clause-err : goal.returns-in_err-place-clause-err
@@ -7,11 +10,11 @@ returns-in_err-place-clause-err c = passed_on c.from_residual.result c.from_resi
 pub returns-in_err-term-clause-err : goal.returns-in_err-term-clause-err
 returns-in_err-term-clause-err c = passed_on c.from_residual-in_err-term.result c.from_residual-in_err-term.ensures.1 (halts_rest c.in_ok-place.ensures.ok (halts_first c.in_err-term.ensures.err))
 
-pub returns-in_err-sign-clause-err : goal.returns-in_err-sign-clause-err
-returns-in_err-sign-clause-err c = passed_on c.from_residual-in_err-sign.result c.from_residual-in_err-sign.ensures.1 (halts_rest c.in_ok-place.ensures.ok (halts_rest c.in_ok-term.ensures.ok (halts_first c.in_err-sign.ensures.err)))
+pub returns-in_err-term-2-clause-err : goal.returns-in_err-term-2-clause-err
+returns-in_err-term-2-clause-err c = passed_on c.from_residual-in_err-term-2.result c.from_residual-in_err-term-2.ensures.1 (halts_rest c.in_ok-place.ensures.ok (halts_rest c.in_ok-term.ensures.ok (halts_first c.in_err-term-2.ensures.err)))
 
-pub returns-in_err-path-clause-err : goal.returns-in_err-path-clause-err
-returns-in_err-path-clause-err c = passed_on c.from_residual-in_err-path.result c.from_residual-in_err-path.ensures.1 (halts_rest c.in_ok-place.ensures.ok (halts_rest c.in_ok-term.ensures.ok (halts_rest c.in_ok-sign.ensures.ok c.in_err-path.ensures.err)))
+pub returns-in_err-term-3-clause-err : goal.returns-in_err-term-3-clause-err
+returns-in_err-term-3-clause-err c = passed_on c.from_residual-in_err-term-3.result c.from_residual-in_err-term-3.ensures.1 (halts_rest c.in_ok-place.ensures.ok (halts_rest c.in_ok-term.ensures.ok (halts_rest c.in_ok-term-2.ensures.ok (behind_stops _ c.pair_end.result c.in_err-term-3.ensures.err c.pair_end.ensures.err))))
 
 pub returns-clause-ok : goal.returns-clause-ok
-returns-clause-ok c = reads_then c.in_ok-place.ensures.ok (reads_then c.in_ok-term.ensures.ok (reads_then (reads_unkept c.in_ok-sign.ensures.ok) c.in_ok-path.ensures.ok))
+returns-clause-ok c = reads_then c.in_ok-place.ensures.ok (reads_then (reads_as (ap term_text (c.in_ok-term-3.ensures.ok.0 ∙ c.in_ok-term-2.ensures.same)) c.in_ok-term.ensures.ok) (reads_then c.in_ok-term-2.ensures.ok (behind_is _ c.pair_end.result c.in_ok-term-3.ensures.ok c.pair_end.ensures.ok)))

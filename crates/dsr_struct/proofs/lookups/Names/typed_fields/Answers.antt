@@ -8,4 +8,4 @@ pub typed_field-requires-clause-legal : goal.typed_field-requires-clause-legal
 typed_field-requires-clause-legal c = item_has field_shape HasLegalWidth c.args.fields.now c.loop-field.field-index c.field-item.result c.loop-field-test.true c.field-item.is c.requires.legal
 
 pub loop-field-preserved : goal.loop-field-preserved
-loop-field-preserved c = made_next field_shape (typed_field (known_of c.args.self.now)) c.args.fields.now c.loop-field.field-index c.field-item.result c.loop-field.typed.items c.push.new.self.items c.in_ok-typed_field.field-0 c.loop-field-test.true c.field-item.is c.loop-field.invariant c.in_ok-push.ensures.items c.in_ok-typed_field.ensures
+loop-field-preserved c = made_next field_shape (typed_field (known_of c.args.self.now)) c.args.fields.now c.loop-field.field-index c.field-item.result c.loop-field.typed.items c.push.new.self.items c.in_ok-entry.entry c.loop-field-test.true c.field-item.is c.loop-field.invariant c.in_ok-push.ensures.items c.in_ok-entry.ensures

@@ -5,4 +5,4 @@ use Rattle.dsr_struct.proofs.Mapped.{made_next}
 use Rattle.dsr_struct.proofs.lookups.Names.typed_pools.Goals as goal
 
 pub loop-pool-preserved : goal.loop-pool-preserved
-loop-pool-preserved c = made_next pool_shape (typed_pool (known_of c.args.self.now)) c.items-pool-items.result.now c.loop-pool.pool-index c.pool-item.result c.loop-pool.typed.items c.push.new.self.items c.in_ok-typed_pool.field-0 c.loop-pool-test.true c.pool-item.is c.loop-pool.invariant c.in_ok-push.ensures.items c.in_ok-typed_pool.ensures
+loop-pool-preserved c = made_next pool_shape (typed_pool (known_of c.args.self.now)) c.items-pool-items.result.now c.loop-pool.pool-index c.pool-item.result c.loop-pool.typed.items c.push.new.self.items c.in_ok-entry.entry c.loop-pool-test.true c.pool-item.is c.loop-pool.invariant c.in_ok-push.ensures.items c.in_ok-entry.ensures

@@ -9,4 +9,4 @@ pub typed_structure-requires-clause-legal : goal.typed_structure-requires-clause
 typed_structure-requires-clause-legal c = item_has structure_shape HasLegalWidths c.items-structure-items.result.now c.loop-structure.structure-index c.structure-item.result c.loop-structure-test.true c.structure-item.is (subst (λ ss. All HasLegalWidths (map structure_shape ss)) (sym c.items-structure-items.ensures) c.requires.legal)
 
 pub loop-structure-preserved : goal.loop-structure-preserved
-loop-structure-preserved c = made_next structure_shape (typed_structure (known_of c.args.self.now)) c.items-structure-items.result.now c.loop-structure.structure-index c.structure-item.result c.loop-structure.typed.items c.push.new.self.items c.in_ok-typed_structure.field-0 c.loop-structure-test.true c.structure-item.is c.loop-structure.invariant c.in_ok-push.ensures.items c.in_ok-typed_structure.ensures
+loop-structure-preserved c = made_next structure_shape (typed_structure (known_of c.args.self.now)) c.items-structure-items.result.now c.loop-structure.structure-index c.structure-item.result c.loop-structure.typed.items c.push.new.self.items c.in_ok-entry.entry c.loop-structure-test.true c.structure-item.is c.loop-structure.invariant c.in_ok-push.ensures.items c.in_ok-entry.ensures

@@ -9,6 +9,23 @@ fn push(list: &mut Functional, first: u32, second: u64) {
     }
 }
 
+// Whether (2, 5), (63, 0) and (64, the greatest number) are found.
+fn has_all(list: &Functional) -> bool {
+    list.has(2, 5)
+        && !list.has(2, 4)
+        && !list.has(62, 1)
+        && !list.has(70, 1)
+        && list.count_of(2) == 1
+        && list.count_of(62) == 0
+        && list.count_of(70) == 0
+        && list.first() == Some((2, 5))
+        && list.next(3) == Some((63, 0))
+        && list.next(2) == Some((2, 5))
+        && list.next(65).is_none()
+        && list.greatest_of(2) == Some(5)
+        && list.greatest_of(3).is_none()
+}
+
 #[test]
 fn seconds_are_asked_in_order(rt: HostRuntime) -> Result<(), Fail> {
     let mut list = Functional::new(rt.alloc(), 70)?;
@@ -19,14 +36,24 @@ fn seconds_are_asked_in_order(rt: HostRuntime) -> Result<(), Fail> {
     push(&mut list, 64, 18_446_744_073_709_551_615);
     push(&mut list, 70, 1);
     list.rises();
-    assert!(rt; list.has(2, 5) && !list.has(2, 4) && !list.has(62, 1) && !list.has(70, 1));
-    assert!(rt; list.count_of(2) == 1 && list.count_of(62) == 0 && list.count_of(70) == 0);
-    assert!(rt; list.first() == Some((2, 5)) && list.next(3) == Some((63, 0)));
-    assert!(rt; list.next(2) == Some((2, 5)) && list.next(65).is_none());
-    assert!(rt; list.greatest_of(2) == Some(5) && list.greatest_of(3).is_none());
+    assert!(rt; has_all(&list));
     list.clear();
     assert!(rt; list.room() == 70 && list.first().is_none() && !list.has(2, 5));
     Ok(())
+}
+
+// Whether what follows (2, 5) and (64, 7) is found.
+fn has_next_pairs(list: &Functional) -> bool {
+    list.after(0, 9) == Some((2, 5))
+        && list.after(2, 4) == Some((2, 5))
+        && list.after(2, 5) == Some((64, 7))
+        && list.after(2, 6) == Some((64, 7))
+        && list.after(64, 7).is_none()
+        && list.after(u32::MAX, 0).is_none()
+        && list.next_of(2, 0) == Some(5)
+        && list.next_of(2, 5) == Some(5)
+        && list.next_of(2, 6).is_none()
+        && list.next_of(3, 0).is_none()
 }
 
 #[test]
@@ -34,10 +61,6 @@ fn next_pairs_are_found(rt: HostRuntime) -> Result<(), Fail> {
     let mut list = Functional::new(rt.alloc(), 70)?;
     push(&mut list, 2, 5);
     push(&mut list, 64, 7);
-    assert!(rt; list.after(0, 9) == Some((2, 5)) && list.after(2, 4) == Some((2, 5)));
-    assert!(rt; list.after(2, 5) == Some((64, 7)) && list.after(2, 6) == Some((64, 7)));
-    assert!(rt; list.after(64, 7).is_none() && list.after(u32::MAX, 0).is_none());
-    assert!(rt; list.next_of(2, 0) == Some(5) && list.next_of(2, 5) == Some(5));
-    assert!(rt; list.next_of(2, 6).is_none() && list.next_of(3, 0).is_none());
+    assert!(rt; has_next_pairs(&list));
     Ok(())
 }

@@ -2,7 +2,21 @@
 ghost use Rattle.std.specs.Prelude.{◌≡◌, ◌≤◌, ◌+◌, ◌++◌, ◌∷◌, [], false, true, length};
 
 use dsr_related::Relation;
+use std::alloc::{AllocError, Global};
 use std::test::Fail;
+
+// Whether (0, 2), (3, 0) and (3, 1) are found.
+fn has_targets(relation: &Relation) -> bool
+    requires { relation.now.pairs.ordered ≡ true }
+{
+    relation.has(3, 1)
+        && !relation.has(1, 3)
+        && relation.targets_of(3) == 2
+        && relation.first() == Some((0, 2))
+        && relation.after(0, 2) == Some((3, 0))
+        && relation.greatest_target(3) == Some(1)
+        && relation.greatest_target(1).is_none()
+}
 
 #[test]
 fn targets_are_counted(rt: HostRuntime) -> Result<(), Fail> {
@@ -12,9 +26,7 @@ fn targets_are_counted(rt: HostRuntime) -> Result<(), Fail> {
     relation.push(3, 0);
     relation.push(3, 1);
     relation.finish();
-    assert!(rt; relation.has(3, 1) && !relation.has(1, 3) && relation.targets_of(3) == 2);
-    assert!(rt; relation.first() == Some((0, 2)) && relation.after(0, 2) == Some((3, 0)));
-    assert!(rt; relation.greatest_target(3) == Some(1) && relation.greatest_target(1).is_none());
+    assert!(rt; has_targets(&relation));
     relation.clear();
     Ok(())
 }
@@ -48,17 +60,42 @@ fn has_sources(relation: &Relation) -> bool
         && relation.greatest_source(9).is_none()
 }
 
+// Whether they are found where the sources of the first three targets are counted.
+fn finds_counted_sources(alloc: Global) -> Result<bool, AllocError> {
+    let mut relation = Relation::new(alloc, 5, 3)?;
+    push_all(&mut relation);
+    relation.finish();
+    Ok(has_sources(&relation))
+}
+
+// Whether they are found where none are counted.
+fn finds_sources(alloc: Global) -> Result<bool, AllocError> {
+    let mut relation = Relation::new(alloc, 5, 0)?;
+    push_all(&mut relation);
+    relation.finish();
+    Ok(has_sources(&relation))
+}
+
 #[test]
 fn sources_are_those_of_pairs(rt: HostRuntime) -> Result<(), Fail> {
-    let mut counted = Relation::new(rt.alloc(), 5, 3)?;
-    push_all(&mut counted);
-    counted.finish();
-    assert!(rt; has_sources(&counted));
-    let mut other = Relation::new(rt.alloc(), 5, 0)?;
-    push_all(&mut other);
-    other.finish();
-    assert!(rt; has_sources(&other));
+    assert!(rt; finds_counted_sources(rt.alloc())?);
+    assert!(rt; finds_sources(rt.alloc())?);
     Ok(())
+}
+
+// Whether what follows the pairs above is found, near any place.
+fn has_next_pairs(relation: &Relation) -> bool
+    requires { relation.now.pairs.ordered ≡ true }
+{
+    relation.after_near(3, 0, 1) == Some((3, 2))
+        && relation.after_near(3, 0, 0) == Some((3, 2))
+        && relation.after_near(3, 0, 4) == Some((3, 2))
+        && relation.after_near(7, 2, 3).is_none()
+        && relation.after_near(7, 2, 9).is_none()
+        && relation.next_target(3, 0) == Some(0)
+        && relation.next_target(3, 1) == Some(2)
+        && relation.next_target(3, 3).is_none()
+        && relation.next_target(1, 0).is_none()
 }
 
 #[test]
@@ -66,12 +103,7 @@ fn next_pairs_and_targets_are_found(rt: HostRuntime) -> Result<(), Fail> {
     let mut relation = Relation::new(rt.alloc(), 5, 0)?;
     push_all(&mut relation);
     relation.finish();
-    assert!(rt; relation.after_near(3, 0, 1) == Some((3, 2)));
-    assert!(rt; relation.after_near(3, 0, 0) == Some((3, 2)));
-    assert!(rt; relation.after_near(3, 0, 4) == Some((3, 2)));
-    assert!(rt; relation.after_near(7, 2, 3).is_none() && relation.after_near(7, 2, 9).is_none());
-    assert!(rt; relation.next_target(3, 0) == Some(0) && relation.next_target(3, 1) == Some(2));
-    assert!(rt; relation.next_target(3, 3).is_none() && relation.next_target(1, 0).is_none());
+    assert!(rt; has_next_pairs(&relation));
     Ok(())
 }
 
@@ -113,17 +145,27 @@ fn has_some_sources(relation: &Relation) -> bool
         && relation.greatest_source(1).is_none()
 }
 
+// Whether they are found where the sources of the first three targets are counted.
+fn finds_some_counted(alloc: Global) -> Result<bool, AllocError> {
+    let mut relation = Relation::functional(alloc, 8, 3)?;
+    push_some(&mut relation);
+    relation.finish();
+    Ok(has_some(&relation) && has_some_sources(&relation))
+}
+
+// Whether they are found where none are counted, and then taken away.
+fn finds_some(alloc: Global) -> Result<bool, AllocError> {
+    let mut relation = Relation::functional(alloc, 8, 0)?;
+    push_some(&mut relation);
+    relation.finish();
+    let found = has_some(&relation) && has_some_sources(&relation);
+    relation.clear();
+    Ok(found && !relation.has(3, 0))
+}
+
 #[test]
 fn each_source_has_one_target(rt: HostRuntime) -> Result<(), Fail> {
-    let mut counted = Relation::functional(rt.alloc(), 8, 3)?;
-    push_some(&mut counted);
-    counted.finish();
-    assert!(rt; has_some(&counted) && has_some_sources(&counted));
-    let mut other = Relation::functional(rt.alloc(), 8, 0)?;
-    push_some(&mut other);
-    other.finish();
-    assert!(rt; has_some(&other) && has_some_sources(&other));
-    other.clear();
-    assert!(rt; !other.has(3, 0));
+    assert!(rt; finds_some_counted(rt.alloc())?);
+    assert!(rt; finds_some(rt.alloc())?);
     Ok(())
 }

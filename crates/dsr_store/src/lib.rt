@@ -9,7 +9,4 @@ mod system;
 
 pub use memory::{MemoryShelf, MemorySink, SureShelf, SureSink};
 pub use outside::{Content, Held, Label, Missed, Shelf, ShelfFault, Sink, SinkFault};
-pub use system::{FileShelf, StdSink};
-
-#[cfg(test)]
-mod tests;
+pub use system::{FileShelf, StdSink, read_front};

@@ -22,7 +22,8 @@ fn fault_of(error: &io::Error) -> ShelfFault
 }
 
 /// The first bytes that a reader gives, at most `cap`. A read that gives nothing is its end, and one
-/// that is interrupted is tried again.
+/// that is interrupted is tried again. `NoMemory` is want of memory, here or as a read tells it,
+/// `Failed` any other failure of a read.
 pub fn read_front<F: Read>(alloc: Global, file: &mut F, cap: u64) -> Result<Vec<u8>, ShelfFault>
     ensures capped { IfOk result (λ bytes. vec_len bytes ≤ cap) }
     ensures front { IfOk result

@@ -1,7 +1,5 @@
-// Reads that the system interrupts. What all callers see is tested in `dsr_store_cases`; this reads by
-// a function that only the crate itself has.
-use crate::outside::ShelfFault;
-use crate::system::read_front;
+// Reads that the system interrupts.
+use dsr_store::{ShelfFault, read_front};
 use std::alloc::{AllocError, Global};
 use std::io::{self, ErrorKind, Read};
 use std::test::Fail;

@@ -14,4 +14,5 @@ pub mod Asking
 pub mod Touched
 pub mod Tagged
 pub mod Apart
+pub mod Gaining
 pub mod ReadParts

@@ -1,7 +1,9 @@
 // What the updates of a constraint are judged by.
-ghost use Rattle.std.specs.Prelude.{◌≡◌, ◌<◌, ◌↔◌, ℕ, [], IfOk, IsTrue, Some, false, length, slice_index_or, unwrap_or};
+ghost use Rattle.std.specs.Prelude.{◌≡◌, ◌<◌, ◌↔◌, ℕ, [], IfOk, IsTrue, Some, false, length, slice_get, slice_index_or, unwrap_or};
 ghost use Rattle.dsr_effect.specs.Contexts.{IsApartFrom, IsContextOf, IsSound, change_for, change_in};
-ghost use Rattle.dsr_effect.specs.Told.{IsTold, change_of};
+ghost use Rattle.dsr_effect.specs.Told.{ChangesAtW, IsTold, change_of};
+ghost use Rattle.dsr_ir.specs.declared.rules.Rule.{Rule as RuleOf};
+ghost use Rattle.dsr_updating.specs.declared.effects.Way.TheVariants.{Gain};
 ghost use Rattle.dsr_goal.specs.Knowing.{known_by};
 ghost use Rattle.dsr_effect.specs.Table.{symbol_count};
 ghost use Rattle.dsr_ir.specs.declared.updates.Goal.{Goal as GoalOf};
@@ -24,6 +26,9 @@ use dsr_goal::Known;
 use dsr_ir::{Goal, NoMemory, Place, Pool, Quant, Spec, Update, Var};
 use dsr_updating::Effect;
 use std::alloc::Global;
+
+// The most rules of a specification.
+const MOST_RULES: usize = 128;
 
 /// A specification with the quantifier of a constraint and the facts that the constraint uses.
 #[derive(Drop)]
@@ -123,6 +128,23 @@ impl<'a> Context<'a> {
             fresh,
             avoided,
         }
+    }
+
+    /// For each rule whether the update may make it give something new at the written record.
+    pub fn gaining_rules(&self, goal: Goal, update: &Update) -> [bool; MOST_RULES]
+        requires sound { IsSound self.now }
+        ensures { (number : ℕ) (rule : RuleOf)
+            → slice_get self.now.spec.now.rules number ≡ Some rule
+            → IsTrue (slice_index_or result number false)
+            ↔ ChangesAtW (change_in self.now goal update.now) rule Gain }
+    {
+        let change = self.change(goal, update);
+        let rules = self.spec.rules.items();
+        let mut gaining = [false; MOST_RULES];
+        for number in 0..rules.len() {
+            gaining[number] = change.gains_at_w(&rules[number]);
+        }
+        gaining
     }
 
     /// What the update may change, for this goal; that of an update of a template for exactly one

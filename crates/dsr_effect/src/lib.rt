@@ -16,4 +16,7 @@ mod tags;
 mod touching;
 mod values;
 
+pub use avoided::avoided_sets;
 pub use context::{Context, effect};
+pub use fields::{are_related, place_pool, pool_at};
+pub use rows::{may_change, tags_of};

@@ -1,5 +1,5 @@
 // The table of an effect, a row for each symbol's gains and one for its losses.
-ghost use Rattle.std.specs.Prelude.{◌≡◌, ◌<◌, ◌+◌, ◌⊎◌, ◌↔◌, ◌++◌, ℕ, [], ◌∷◌, IfOk, IsTrue, Some, length};
+ghost use Rattle.std.specs.Prelude.{◌≡◌, ◌<◌, ◌+◌, ◌⊎◌, ◌↔◌, ◌++◌, ℕ, [], ◌∷◌, Decides, IfOk, IsTrue, Some, length};
 ghost use Rattle.dsr_effect.specs.Rows.{has_row_tag};
 ghost use Rattle.dsr_effect.specs.Table as table;
 ghost use Rattle.dsr_effect.specs.Table.{AreRuleFlows, IsChangedBy, IsPassing, row_number};
@@ -11,7 +11,7 @@ ghost use Rattle.dsr_meaning.specs.Counting.{IsIn};
 ghost use Rattle.dsr_meaning.specs.Lists.{each_at};
 ghost use Rattle.dsr_meaning.specs.Typed.{AreTyped};
 ghost use Rattle.dsr_updating.specs.Effects as said;
-ghost use Rattle.dsr_updating.specs.Effects.{InTable, IsDeclared, MayChange, changes};
+ghost use Rattle.dsr_updating.specs.Effects.{InTable, IsDeclared, MayChange, changes, has_tag};
 ghost use Rattle.dsr_updating.specs.declared.effects.Tag.{Tag as TagOf};
 ghost use Rattle.dsr_updating.specs.declared.effects.Way.{Way as WayOf};
 ghost use Rattle.dsr_updating.specs.declared.effects.Way.TheVariants.{Gain, Loss};
@@ -19,7 +19,7 @@ ghost use Rattle.dsr_updating.specs.declared.effects.Way.TheVariants.{Gain, Loss
 use crate::changes::Change;
 use crate::flows::{Flow, settle};
 use crate::readings::Reading;
-use crate::tags::{NO_TAGS, joined};
+use crate::tags::{NO_TAGS, is_some, joined};
 use crate::touching::{Touch, is_own};
 use dsr_ir::{NoMemory, Rule, Seq, SetDecl, Structures, Symbol};
 use dsr_updating::{Effect, Tags, Way};
@@ -194,6 +194,30 @@ fn push_complements(structures: &Structures, flows: &mut Vec<Flow>) -> Result<()
         push_complement(structures, flows, set as u32, declared)?;
     }
     Ok(())
+}
+
+/// Of which records the symbol may gain or lose facts by the table.
+pub fn tags_of(base: &Structures, effect: &Effect, way: Way, symbol: Symbol) -> Tags
+    requires typed { AreTyped base.now }
+    ensures { (tag : TagOf) → has_tag tag result ≡ changes base.now effect.now way symbol tag }
+{
+    let rows = match way {
+        Way::Gain => effect.gains.items(),
+        Way::Loss => effect.losses.items(),
+    };
+    match rows.get(symbol_number(base, symbol)) {
+        Some(tags) => *tags,
+        None => NO_TAGS,
+    }
+}
+
+/// Whether the symbol may gain or lose facts by the table, of whatever record.
+pub fn may_change(base: &Structures, effect: &Effect, way: Way, symbol: Symbol) -> bool
+    requires typed { AreTyped base.now }
+    ensures { Decides result
+        ((tag : TagOf) × IsTrue (changes base.now effect.now way symbol tag)) }
+{
+    is_some(tags_of(base, effect, way, symbol))
 }
 
 /// The least table.

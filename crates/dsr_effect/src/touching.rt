@@ -7,6 +7,7 @@ ghost use Rattle.dsr_updating.specs.Effects.{MayChange, has_tag};
 ghost use Rattle.dsr_updating.specs.Givers as givers;
 ghost use Rattle.dsr_updating.specs.Touching.{IsKeptApartBy, IsTouchedAtF, IsTouchedAtW};
 ghost use Rattle.dsr_updating.specs.declared.effects.Tag.{Tag as TagOf};
+ghost use Rattle.dsr_updating.specs.declared.effects.Way.TheVariants.{Gain};
 
 use crate::avoided::is_marked;
 use crate::changes::Change;
@@ -182,6 +183,15 @@ impl<'a> Change<'a> {
         } else {
             NO_TAGS
         }
+    }
+
+    /// Whether the rule may give something new at the written record.
+    pub fn gains_at_w(&self, rule: &Rule) -> bool
+        requires told { IsTold self.now }
+        requires among { IsIn rule.now self.now.spec.now.rules }
+        ensures { Decides result (ChangesAtW (change_of self.now) rule.now Gain) }
+    {
+        self.changes_at_w(rule, self.touch(rule), Way::Gain)
     }
 
     /// What instances of the rule at the written and at the fresh record may gain or lose.

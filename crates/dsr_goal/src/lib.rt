@@ -17,5 +17,7 @@ mod supplies;
 mod values;
 
 pub use fields::declared_field;
+pub use guards::guard_write;
 pub use known::Known;
 pub use raw_templates::raw;
+pub use removing::counted_symbol;

@@ -172,7 +172,8 @@ pub fn removals(
     templates(alloc, goal, &removals)
 }
 
-fn counted_symbol(measure: &Measure) -> Symbol
+/// The set or relation whose facts a size counts.
+pub fn counted_symbol(measure: &Measure) -> Symbol
     ensures { result ≡ updating.counted_symbol measure.now }
 {
     match *measure {

@@ -79,6 +79,20 @@ fn add_template(
     Ok(())
 }
 
+fn add_templates(
+    lines: &mut Lines,
+    alloc: Global,
+    context: &Context,
+    templates: &[Template],
+) -> anyhow::Result<()>
+    requires sound { IsSound context.now }
+{
+    for template in templates {
+        add_template(lines, alloc, context, template)?;
+    }
+    Ok(())
+}
+
 fn add_literal(
     lines: &mut Lines,
     alloc: Global,
@@ -100,10 +114,7 @@ fn add_literal(
     lines.part("    literal ", u64::from(conj) + 1);
     lines.part(".", u64::from(literal) + 1);
     lines.word("\n");
-    for template in &templates {
-        add_template(lines, alloc, context, template)?;
-    }
-    Ok(())
+    add_templates(lines, alloc, context, &templates)
 }
 
 fn add_conj(
@@ -124,6 +135,23 @@ fn add_conj(
     Ok(())
 }
 
+fn add_conjs(
+    lines: &mut Lines,
+    alloc: Global,
+    spec: &Spec,
+    context: &Context,
+    number: u32,
+    conjs: &[Conj],
+) -> anyhow::Result<()>
+    requires typed { IsTyped spec.now }
+    requires sound { IsSound context.now }
+{
+    for (conj, literals) in conjs.iter().enumerate() {
+        add_conj(lines, alloc, spec, context, number, conj, literals)?;
+    }
+    Ok(())
+}
+
 /// What the updates for each literal of a constraint may change.
 pub fn add_literals(
     lines: &mut Lines,
@@ -140,8 +168,12 @@ pub fn add_literals(
         bail!("no memory");
     };
     let context = Context::new(spec, &facts, &constraint.quant);
-    for (conj, literals) in constraint.conjs.items().iter().enumerate() {
-        add_conj(lines, alloc, spec, &context, number, conj, literals)?;
-    }
-    Ok(())
+    add_conjs(
+        lines,
+        alloc,
+        spec,
+        &context,
+        number,
+        constraint.conjs.items(),
+    )
 }

@@ -12,8 +12,7 @@ mod effects;
 use anyhow::bail;
 use dsr_ir::Spec;
 use dsr_lines::Lines;
-use dsr_parse::parse;
-use dsr_spec::spec;
+use dsr_read::specification;
 use effects::add_literals;
 use std::alloc::Global;
 use std::io;
@@ -30,25 +29,29 @@ fn add_constraint(lines: &mut Lines, alloc: Global, spec: &Spec, number: u32) ->
     add_literals(lines, alloc, spec, number)
 }
 
-fn add_case(lines: &mut Lines, alloc: Global, part: &str) -> anyhow::Result<()> {
-    let Some((name, text)) = part.split_once('\n') else {
-        bail!("a heading without its line feed: {part}");
-    };
-    let Ok(tree) = parse(alloc, text.as_bytes()) else {
-        bail!("{name} isn't a text of the grammar");
-    };
-    let Ok(spec) = spec(alloc, &tree) else {
-        bail!("{name} is no specification");
-    };
+fn add_spec(lines: &mut Lines, alloc: Global, name: &str, spec: &Spec) -> anyhow::Result<()>
+    requires typed { IsTyped spec.now }
+{
     lines.word(name);
     lines.word("\n");
     for number in 0..spec.constraints.items().len() {
         let Ok(number) = u32::try_from(number) else {
             bail!("more constraints than there are numbers");
         };
-        add_constraint(lines, alloc, &spec, number)?;
+        add_constraint(lines, alloc, spec, number)?;
     }
     Ok(())
+}
+
+fn add_case(lines: &mut Lines, alloc: Global, part: &str) -> anyhow::Result<()> {
+    let Some((name, text)) = part.split_once('\n') else {
+        bail!("a heading without its line feed: {part}");
+    };
+    match specification(alloc, text.as_bytes()) {
+        Ok(Some(spec)) => add_spec(lines, alloc, name, &spec),
+        Ok(None) => bail!("{name} is no specification"),
+        Err(_) => bail!("no memory"),
+    }
 }
 
 fn main(rt: HostRuntime) -> anyhow::Result<()> {

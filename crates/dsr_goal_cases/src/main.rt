@@ -6,7 +6,6 @@
 //! Fields stand as the numbers of their structure and their place there.
 #![tactic(auto)]
 
-ghost use Rattle.std.specs.Prelude.{IfOk};
 ghost use Rattle.dsr_meaning.specs.Typed.{IsTyped};
 
 mod facts;
@@ -15,9 +14,7 @@ mod templates;
 use anyhow::bail;
 use dsr_ir::Spec;
 use dsr_lines::Lines;
-use dsr_parse::parse;
-use dsr_spec::spec;
-use dsr_tree::Tree;
+use dsr_read::specification;
 use facts::add_facts;
 use std::alloc::Global;
 use std::io;
@@ -56,35 +53,15 @@ fn add_spec(lines: &mut Lines, alloc: Global, name: &str, spec: &Spec) -> anyhow
     add_constraints(lines, alloc, spec)
 }
 
-fn tree_of(alloc: Global, name: &str, text: &str) -> anyhow::Result<Tree> {
-    match parse(alloc, text.as_bytes()) {
-        Ok(tree) => Ok(tree),
-        Err(_) => bail!("{name} isn't a text of the grammar"),
-    }
-}
-
-fn meant(alloc: Global, name: &str, tree: &Tree) -> anyhow::Result<Spec>
-    ensures typed { IfOk result IsTyped }
-{
-    match spec(alloc, tree) {
-        Ok(spec) => Ok(spec),
-        Err(_) => bail!("{name} is no specification"),
-    }
-}
-
-fn spec_of(alloc: Global, name: &str, text: &str) -> anyhow::Result<Spec>
-    ensures typed { IfOk result IsTyped }
-{
-    let tree = tree_of(alloc, name, text)?;
-    meant(alloc, name, &tree)
-}
-
 fn add_case(lines: &mut Lines, alloc: Global, part: &str) -> anyhow::Result<()> {
     let Some((name, text)) = part.split_once('\n') else {
         bail!("a heading without its line feed: {part}");
     };
-    let spec = spec_of(alloc, name, text)?;
-    add_spec(lines, alloc, name, &spec)
+    match specification(alloc, text.as_bytes()) {
+        Ok(Some(spec)) => add_spec(lines, alloc, name, &spec),
+        Ok(None) => bail!("{name} is no specification"),
+        Err(_) => bail!("no memory"),
+    }
 }
 
 fn main(rt: HostRuntime) -> anyhow::Result<()> {

@@ -1,54 +1,78 @@
-// What is told of rules and constraints over an image.
-use crate::building::{image_of, spec_of, told_of};
-use crate::instance_tables::{
-    COUNT_FIRST, FIRST, LONG_ARRAYS, NO_INDEX, NO_RECORDS, QUANTIFIERS, RULES, SECOND,
-};
-use crate::rule_tables::{CODE_FIRST, COMPARISONS, LISTS, PLACES, Row, SIZES, Table};
+// Rules as lines give them.
+use crate::words::Words;
+use dsr_ir::{FieldRef, Inc, Path, Rule, Seq, Span};
 use std::alloc::Global;
-use std::test::Fail;
 
-fn told(alloc: Global, text: &str, image: &[u8], row: &Row) -> Result<String, Fail> {
-    let (rules, constraints, _) = *row;
-    match spec_of(alloc, text, rules, constraints)? {
-        Some(spec) => told_of(alloc, &spec, image),
-        None => Ok(format!(in alloc; "untyped")?),
+/// A field by the numbers of its structure and its place there.
+pub fn field_of(words: &mut Words) -> FieldRef {
+    let (structure, field) = words.pair();
+    FieldRef { structure, field }
+}
+
+// A field, or behind `entry` that of an array at the index.
+fn path_of(words: &mut Words) -> Path {
+    let indexed = match words.word() {
+        "field" => false,
+        "entry" => true,
+        _ => {
+            words.refuse();
+            false
+        }
+    };
+    Path {
+        field: field_of(words),
+        indexed,
     }
 }
 
-// The first row of which something else is told, with that; nothing where there is none.
-fn first_wrong(alloc: Global, table: &Table) -> Result<String, Fail> {
-    let image = image_of(alloc, table.front, table.zeros)?;
-    for (number, row) in table.rows.iter().enumerate() {
-        let found = told(alloc, table.text, &image, row)?;
-        if found.as_str() != row.2 {
-            return Ok(format!(in alloc; "{} row {number} gives {found}", table.text)?);
+fn span_of(words: &mut Words) -> Span {
+    match words.word() {
+        "single" => Span::Single,
+        "array" => Span::Array(field_of(words)),
+        "slots" => Span::Slots(words.number()),
+        _ => {
+            words.refuse();
+            Span::Single
         }
     }
-    Ok(String::new(alloc))
 }
 
-const TABLES: [&Table; 12] = [
-    &SIZES,
-    &COMPARISONS,
-    &PLACES,
-    &CODE_FIRST,
-    &COUNT_FIRST,
-    &RULES,
-    &LONG_ARRAYS,
-    &NO_INDEX,
-    &NO_RECORDS,
-    &QUANTIFIERS,
-    &SECOND,
-    &FIRST,
-];
+// The number of a pool, behind that word.
+fn pool_of(words: &mut Words) -> u32 {
+    words.skip("pool");
+    words.number()
+}
 
-#[test]
-fn what_is_told_of_rules(rt: HostRuntime) -> Result<(), Fail> {
-    for table in &LISTS {
-        assert_eq!(rt; first_wrong(rt.alloc(), table)?.as_str(), "");
+// What a rule gives: the number of the set or the relation, then the pool, then the path.
+fn inclusion_of(words: &mut Words) -> Inc {
+    let kind = words.word();
+    let symbol = words.number();
+    match kind {
+        "own" => Inc::Own(symbol),
+        "target" => Inc::Target(symbol, path_of(words)),
+        "slot" => Inc::Slot(symbol, pool_of(words)),
+        "own-pair" => Inc::OwnPair(symbol, path_of(words)),
+        "slot-pair" => Inc::SlotPair(symbol, pool_of(words), path_of(words)),
+        _ => {
+            words.refuse();
+            Inc::Own(symbol)
+        }
     }
-    for table in &TABLES {
-        assert_eq!(rt; first_wrong(rt.alloc(), table)?.as_str(), "");
-    }
-    Ok(())
+}
+
+/// A rule without guards.
+pub fn rule_of(alloc: Global, line: &str) -> anyhow::Result<Rule> {
+    let mut words = Words::new(line);
+    words.skip("premise");
+    let premise = words.option();
+    let span = span_of(&mut words);
+    words.skip("gives");
+    let inc = inclusion_of(&mut words);
+    words.end()?;
+    Ok(Rule {
+        premise,
+        span,
+        guards: Seq::new(Vec::new(alloc)),
+        inc,
+    })
 }

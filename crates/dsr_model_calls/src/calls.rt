@@ -7,15 +7,14 @@ ghost use Rattle.dsr_meaning.specs.Typed.{IsTyped};
 ghost use Rattle.dsr_members.specs.Sets.{HasSlot, empty_sets};
 ghost use Rattle.dsr_model.specs.Views.{IsLayoutFor, IsOfPairs};
 
-use crate::models::model_of;
+use dsr_found::model_of;
 use dsr_given::Given;
 use dsr_ir::{Element, Fact, Instance, Layout, NoMemory, Spec, Target};
 use dsr_layout::record_count;
 use dsr_members::Members;
 use dsr_model::Model;
-use dsr_parse::parse;
+use dsr_read::specification;
 use dsr_related::Relation;
-use dsr_spec::spec;
 use std::alloc::Global;
 use std::test::Fail;
 
@@ -24,6 +23,18 @@ const TEXT: &[u8] =
     pool recs : Rec[n] at 1 codes 1 step 1 none 0; set All of recs; relation Value : recs -> number; \
     rule head, k in pool recs => recs[k] in All; rule x in All => <x, x.value> in Value; \
     constraint filled : size(All) >= 1;";
+
+// Whether the calls on a model answer as they should: those on pairs, and those on what waits.
+#[derive(Drop)]
+struct Told {
+    pairs: bool,
+    waiting: bool,
+}
+
+const NO_MODEL: Told = Told {
+    pairs: false,
+    waiting: false,
+};
 
 // The pair with a number that an instance gives, if any.
 fn given_number(model: &Model, instance: &Instance) -> Option<Fact>
@@ -91,56 +102,117 @@ fn is_member(members: &Members, set: u32, elem: Element) -> bool {
     members.has_element(set, elem) && members.has(set, elem.slot)
 }
 
-#[test]
-fn pairs_are_collected_and_forgotten(rt: HostRuntime) -> Result<(), Fail> {
-    let alloc = rt.alloc();
-    let tree = parse(alloc, TEXT)?;
-    let spec = spec(alloc, &tree)?;
-    let found = model_of(alloc, &spec, Vec::from_slice(alloc, &[2, 7, 9])?);
-    assert!(rt; found.is_some());
-    let Some(mut found) = found else {
-        return Ok(());
-    };
+// Whether the pair of the instance is collected, and no other.
+fn is_collected(
+    alloc: Global,
+    spec: &Spec,
+    layout: &Layout,
+    instance: &Instance,
+    fact: &Fact,
+) -> Result<bool, NoMemory>
+    requires typed { IsTyped spec.now }
+    requires layout { IsLayoutFor spec.now layout.now }
+    requires gives { Gives (rule_shapes spec.now layout.now) instance.now fact.now }
+{
+    let relation = collected(alloc, spec, layout, instance, fact)?;
+    Ok(relation.has(1, 9) && !relation.has(1, 7) && relation.targets_of(0) == 0)
+}
+
+// Whether the model has a fact until the instance that gives it is forgotten.
+fn is_forgotten(model: &mut Model, instance: &Instance, fact: &Fact) -> bool
+    requires ordered { model.old.ordered ≡ true }
+    requires pairs { IsOfPairs model.old.given.rules instance.now }
+{
+    if !model.has(fact) {
+        return false;
+    }
+    model.forget(instance);
+    model.order();
+    model.fact(instance).is_none() && !model.has(fact)
+}
+
+// Whether a pair is given, collected and forgotten, and its record is a member, as the head isn't.
+fn are_pairs_right(
+    alloc: Global,
+    spec: &Spec,
+    layout: &Layout,
+    model: &mut Model,
+) -> Result<bool, NoMemory>
+    requires typed { IsTyped spec.now }
+    requires layout { IsLayoutFor spec.now layout.now }
+    requires rules { model.old.given.rules ≡ rule_shapes spec.now layout.now }
+    requires ordered { model.old.ordered ≡ true }
+{
     let elem = Element { pool: 1, slot: 1 };
+    let head = Element { pool: 0, slot: 0 };
     let instance = Instance {
         rule: 1,
         elem,
         index: 0,
     };
-    let fact = given_number(&found.model, &instance);
-    assert!(rt; fact == Some(Fact::Pair(0, elem, Target::Num(9))));
-    let Some(fact) = fact else {
-        return Ok(());
+    let Some(fact) = given_number(model, &instance) else {
+        return Ok(false);
     };
-    let relation = collected(alloc, &spec, &found.layout, &instance, &fact)?;
-    assert!(rt; relation.has(1, 9) && !relation.has(1, 7) && relation.targets_of(0) == 0);
-    let head = Element { pool: 0, slot: 0 };
-    assert!(rt;
-        is_member(found.model.members(), 0, elem) && !is_member(found.model.members(), 0, head)
-    );
-    assert!(rt; found.model.has(&fact));
-    found.model.forget(&instance);
-    found.model.order();
-    assert!(rt; found.model.fact(&instance).is_none() && !found.model.has(&fact));
+    let is_given = fact == Fact::Pair(0, elem, Target::Num(9));
+    let is_alone = is_collected(alloc, spec, layout, &instance, &fact)?;
+    let is_in = is_member(model.members(), 0, elem) && !is_member(model.members(), 0, head);
+    Ok(is_given && is_alone && is_in && is_forgotten(model, &instance, &fact))
+}
+
+// Whether a member waits exactly where it is to.
+fn is_waiting_right(alloc: Global, spec: &Spec, layout: &Layout) -> Result<bool, NoMemory>
+    requires typed { IsTyped spec.now }
+    requires legal { IsLegalLayout layout.now }
+{
+    if !has_slot(spec, layout, 0, 1) {
+        return Ok(false);
+    }
+    let asked = waits_alone(alloc, spec, layout, 0, 1, true)?;
+    let unasked = waits_alone(alloc, spec, layout, 0, 1, false)?;
+    Ok(asked && !unasked)
+}
+
+fn told_by(alloc: Global, spec: &Spec, layout: &Layout, model: &mut Model) -> Result<Told, NoMemory>
+    requires typed { IsTyped spec.now }
+    requires layout { IsLayoutFor spec.now layout.now }
+    requires legal { IsLegalLayout layout.now }
+    requires rules { model.old.given.rules ≡ rule_shapes spec.now layout.now }
+    requires ordered { model.old.ordered ≡ true }
+{
+    let waiting = is_waiting_right(alloc, spec, layout)?;
+    let pairs = are_pairs_right(alloc, spec, layout, model)?;
+    Ok(Told { pairs, waiting })
+}
+
+// What the calls on the model of an image with two records tell.
+fn told_under(alloc: Global, spec: &Spec) -> Result<Told, NoMemory>
+    requires { IsTyped spec.now }
+{
+    let image = Vec::from_slice(alloc, &[2, 7, 9])?;
+    match model_of(alloc, spec, image) {
+        Some(mut found) => told_by(alloc, spec, &found.layout, &mut found.model),
+        None => Ok(NO_MODEL),
+    }
+}
+
+// One function has all that is dropped, so that no test has a specification or a model alive.
+fn all_told(alloc: Global) -> Result<Told, NoMemory> {
+    match specification(alloc, TEXT)? {
+        Some(spec) => told_under(alloc, &spec),
+        None => Ok(NO_MODEL),
+    }
+}
+
+#[test]
+fn pairs_are_collected_and_forgotten(rt: HostRuntime) -> Result<(), Fail> {
+    let told = all_told(rt.alloc())?;
+    assert!(rt; told.pairs);
     Ok(())
 }
 
 #[test]
 fn members_wait_that_are_to(rt: HostRuntime) -> Result<(), Fail> {
-    let alloc = rt.alloc();
-    let tree = parse(alloc, TEXT)?;
-    let spec = spec(alloc, &tree)?;
-    let found = model_of(alloc, &spec, Vec::from_slice(alloc, &[2, 7, 9])?);
-    assert!(rt; found.is_some());
-    let Some(found) = found else {
-        return Ok(());
-    };
-    let may_be_member = has_slot(&spec, &found.layout, 0, 1);
-    assert!(rt; may_be_member);
-    if may_be_member {
-        let asked = waits_alone(alloc, &spec, &found.layout, 0, 1, true)?;
-        let unasked = waits_alone(alloc, &spec, &found.layout, 0, 1, false)?;
-        assert!(rt; asked && !unasked);
-    }
+    let told = all_told(rt.alloc())?;
+    assert!(rt; told.waiting);
     Ok(())
 }

@@ -1,15 +1,17 @@
 // What instances give, in words.
-ghost use Rattle.std.specs.Prelude.{IsSome, slice_get};
+ghost use Rattle.std.specs.Prelude.{◌≡◌, true, IsSome, slice_get};
+ghost use Rattle.dsr_fixpoint.specs.Models.{IsModelOf};
+ghost use Rattle.dsr_meaning.specs.Typed.{IsTyped};
 
-use crate::lines::Lines;
 use crate::lookups::add_lookups;
-use crate::models::{Found, model_of};
 use crate::tuples::{add_element, add_fact};
-use dsr_ir::{Element, Instance, Rule, Spec};
+use dsr_fixpoint::deriver;
+use dsr_found::{Found, model_of};
+use dsr_ir::{Element, Fact, Instance, Rule, Spec};
 use dsr_layout::{index_count, premise_pool, record_count};
+use dsr_lines::Lines;
 use dsr_members::Members;
-use dsr_parse::parse;
-use dsr_spec::spec;
+use dsr_read::specification;
 use std::alloc::Global;
 
 fn add_name(lines: &mut Lines, word: &str, instance: Instance) {
@@ -81,26 +83,40 @@ fn add_rules(lines: &mut Lines, spec: &Spec, found: &Found) {
     }
 }
 
+// The instance by which the first slot is in the first set.
+fn add_deriver(lines: &mut Lines, spec: &Spec, found: &Found)
+    requires { IsModelOf spec.now found.now.layout found.now.image found.now.model }
+{
+    let fact = Fact::Member(0, Element { pool: 1, slot: 0 });
+    if let Some(first) = deriver(&found.model, spec, &found.layout, &found.image, &fact) {
+        add_name(lines, "\n  S0 1.0 by ", first);
+    }
+}
+
+fn add_found(lines: &mut Lines, spec: &Spec, found: &Found)
+    requires ordered { found.now.model.ordered ≡ true }
+    requires model { IsModelOf spec.now found.now.layout found.now.image found.now.model }
+{
+    add_rules(lines, spec, found);
+    add_sets(lines, found.model.members());
+    add_lookups(lines, spec, &found.model);
+    add_deriver(lines, spec, found);
+}
+
+fn add_model(lines: &mut Lines, alloc: Global, spec: &Spec, image: Vec<u8>)
+    requires { IsTyped spec.now }
+{
+    match model_of(alloc, spec, image) {
+        Some(found) => add_found(lines, spec, &found),
+        None => lines.word(" has no model"),
+    }
+}
+
 /// All facts of the model of an image, each by the instances that give it.
 pub fn add_facts(lines: &mut Lines, alloc: Global, text: &[u8], image: Vec<u8>) {
-    let Ok(tree) = parse(alloc, text) else {
-        lines.word(" has no syntax\n");
-        return;
-    };
-    let Ok(spec) = spec(alloc, &tree) else {
-        lines.word(" has no meaning\n");
-        return;
-    };
-    match model_of(alloc, &spec, image) {
-        Some(found) => {
-            add_rules(lines, &spec, &found);
-            add_sets(lines, found.model.members());
-            add_lookups(lines, &spec, &found.model);
-            if let Some(first) = found.deriver {
-                add_name(lines, "\n  S0 1.0 by ", first);
-            }
-        }
-        None => lines.word(" has no model"),
+    match specification(alloc, text) {
+        Ok(Some(spec)) => add_model(lines, alloc, &spec, image),
+        Ok(None) | Err(_) => lines.word(" has no specification"),
     }
     lines.word("\n");
 }

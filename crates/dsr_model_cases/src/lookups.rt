@@ -2,9 +2,9 @@
 ghost use Rattle.std.specs.Prelude.{◌≡◌, true};
 ghost use Rattle.dsr_meaning.specs.Truth.{HasVariable};
 
-use crate::lines::Lines;
 use crate::tuples::{add_element, add_target};
 use dsr_ir::{Binding, Element, Fact, Measure, Spec, Symbol, Target, Var};
+use dsr_lines::Lines;
 use dsr_model::Model;
 
 // How many members, targets or sources there are, and the greatest of them.

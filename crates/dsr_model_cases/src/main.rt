@@ -13,14 +13,12 @@
 #![tactic(auto)]
 
 mod facts;
-mod lines;
 mod lookups;
-mod models;
 mod tuples;
 
 use anyhow::bail;
+use dsr_lines::Lines;
 use facts::add_facts;
-use lines::Lines;
 use std::alloc::Global;
 use std::io;
 

@@ -1,6 +1,6 @@
 // Records, targets and facts in words.
-use crate::lines::Lines;
 use dsr_ir::{Element, Fact, Target};
+use dsr_lines::Lines;
 
 pub fn add_element(lines: &mut Lines, elem: Element) {
     lines.part(" ", u64::from(elem.pool));

@@ -3,13 +3,11 @@ ghost use Rattle.dsr_fixpoint.specs.Models.{IsLaidOut, IsPreparedFor};
 ghost use Rattle.dsr_meaning.specs.Typed.{IsTyped};
 
 use dsr_fixpoint::rebuild;
+use dsr_found::prepared;
 use dsr_image::Whole;
 use dsr_ir::{Layout, Spec};
-use dsr_layout::layout;
-use dsr_meaning::typed_specifications_are_placeable;
 use dsr_model::Model;
-use dsr_parse::parse;
-use dsr_spec::spec;
+use dsr_read::specification;
 use std::alloc::Global;
 
 fn build(model: &mut Model, spec: &Spec, layout: &Layout, image: &Whole, count: u32)
@@ -25,28 +23,19 @@ fn build(model: &mut Model, spec: &Spec, layout: &Layout, image: &Whole, count: 
 fn build_all(alloc: Global, spec: &Spec, image: Vec<u8>, count: u32) -> bool
     requires typed { IsTyped spec.now }
 {
-    typed_specifications_are_placeable();
-    if image.len() > 67_108_864 {
-        return false;
+    match prepared(alloc, spec, image) {
+        Some(mut found) => {
+            build(&mut found.model, spec, &found.layout, &found.image, count);
+            true
+        }
+        None => false,
     }
-    let Ok(layout) = layout(alloc, spec, &image) else {
-        return false;
-    };
-    let Ok(mut model) = Model::prepare(alloc, spec, &layout) else {
-        return false;
-    };
-    let image = Whole::new(image);
-    build(&mut model, spec, &layout, &image, count);
-    true
 }
 
 /// Builds the model so many times. Answers false where the text has no specification, or the image no layout.
 pub fn turn(alloc: Global, text: &[u8], image: Vec<u8>, count: u32) -> bool {
-    let Ok(tree) = parse(alloc, text) else {
-        return false;
-    };
-    let Ok(spec) = spec(alloc, &tree) else {
-        return false;
-    };
-    build_all(alloc, &spec, image, count)
+    match specification(alloc, text) {
+        Ok(Some(spec)) => build_all(alloc, &spec, image, count),
+        Ok(None) | Err(_) => false,
+    }
 }

@@ -1,109 +1,95 @@
-// What is told of each text.
-use crate::specifications::SPECIFICATIONS;
-use crate::tables::{FAULTS, LIMITS, PRODUCTIONS, Part};
-use dsr_parse::{SyntaxFault, faults_are_unique, parse, print, trees_are_unique};
-use dsr_tree::TryCloneTree;
-use std::alloc::{AllocError, Global};
-use std::test::Fail;
+// What is told of texts.
+use dsr_ir::NoMemory;
+use dsr_lines::Lines;
+use dsr_parse::{SyntaxFault, parse, print};
+use dsr_tree::{Tree, TryCloneTree};
+use std::alloc::Global;
+use std::str;
 
-// The canonical text, or the kind and the place of the fault.
-fn told(alloc: Global, text: &[u8]) -> Result<String, Fail> {
-    match parse(alloc, text) {
-        Ok(tree) => match print(alloc, &tree) {
-            Ok(text) => Ok(String::from_utf8(text)?),
-            Err(_) => Err(AllocError.into()),
-        },
-        Err(SyntaxFault::Token(place)) => Ok(format!(in alloc; "syntax 1 {place}")?),
-        Err(SyntaxFault::Expected(place)) => Ok(format!(in alloc; "syntax 2 {place}")?),
-        Err(SyntaxFault::Limit(place)) => Ok(format!(in alloc; "syntax 3 {place}")?),
-        Err(SyntaxFault::NoMemory) => Err(AllocError.into()),
-    }
+// The canonical text of a tree, and that of its copy.
+#[derive(Drop)]
+struct Texts {
+    text: Result<Vec<u8>, NoMemory>,
+    copied: Result<Vec<u8>, NoMemory>,
 }
 
-#[test]
-fn productions_are_printed_back(rt: HostRuntime) -> Result<(), Fail> {
-    for (text, wanted) in PRODUCTIONS {
-        let found = told(rt.alloc(), text.as_bytes())?;
-        assert_eq!(rt; found.as_str(), wanted);
-    }
-    Ok(())
+fn printed_copy(alloc: Global, tree: &Tree) -> Result<Vec<u8>, NoMemory> {
+    let copy = TryCloneTree::clone(tree, alloc)?;
+    print(alloc, &copy)
 }
 
-#[test]
-fn specifications_are_printed_back(rt: HostRuntime) -> Result<(), Fail> {
-    for (text, wanted) in SPECIFICATIONS {
-        let found = told(rt.alloc(), text.as_bytes())?;
-        assert_eq!(rt; found.as_str(), wanted);
-        let again = told(rt.alloc(), found.as_bytes())?;
-        assert_eq!(rt; again.as_str(), wanted);
-    }
-    Ok(())
-}
-
-// The canonical text of a copy of a text's tree.
-fn copied(alloc: Global, text: &[u8]) -> Result<String, Fail> {
+fn printed(alloc: Global, text: &[u8]) -> Result<Texts, SyntaxFault> {
     let tree = parse(alloc, text)?;
-    let Ok(copy) = TryCloneTree::clone(&tree, alloc) else {
-        return Err(AllocError.into());
+    let text = print(alloc, &tree);
+    let copied = printed_copy(alloc, &tree);
+    Ok(Texts { text, copied })
+}
+
+fn add_fault(lines: &mut Lines, fault: SyntaxFault) {
+    match fault {
+        SyntaxFault::Token(place) => lines.part(" syntax 1 ", place),
+        SyntaxFault::Expected(place) => lines.part(" syntax 2 ", place),
+        SyntaxFault::Limit(place) => lines.part(" syntax 3 ", place),
+        SyntaxFault::NoMemory => lines.word(" no memory"),
+    }
+    lines.word("\n");
+}
+
+fn add_bytes(lines: &mut Lines, bytes: &[u8]) {
+    match str::from_utf8(bytes) {
+        Ok(text) => lines.word(text),
+        Err(_) => lines.word("no text\n"),
+    }
+}
+
+fn is_same(found: &Result<Vec<u8>, NoMemory>, wanted: &[u8]) -> bool {
+    match found {
+        Ok(bytes) => bytes.as_slice() == wanted,
+        Err(_) => false,
+    }
+}
+
+// Whether the canonical text, when it is read again, is printed as it is.
+fn is_printed_again(alloc: Global, text: &[u8]) -> bool {
+    match printed(alloc, text) {
+        Ok(again) => is_same(&again.text, text),
+        Err(_) => false,
+    }
+}
+
+fn add_same(lines: &mut Lines, word: &str, is_same: bool) {
+    lines.word(word);
+    lines.word(if is_same {
+        "the same\n"
+    } else {
+        "another text\n"
+    });
+}
+
+// A canonical text, and whether it is printed again for a copy of its tree and for itself.
+fn add_printed(lines: &mut Lines, alloc: Global, printed: &Texts) {
+    let Ok(text) = &printed.text else {
+        lines.word(" no memory\n");
+        return;
     };
-    match print(alloc, &copy) {
-        Ok(text) => Ok(String::from_utf8(text)?),
-        Err(_) => Err(AllocError.into()),
+    lines.word(" text\n");
+    add_bytes(lines, text);
+    add_same(lines, "  copied: ", is_same(&printed.copied, text));
+    add_same(lines, "  read again: ", is_printed_again(alloc, text));
+}
+
+/// What is told of a text: its canonical text, or the fault.
+pub fn add_text(lines: &mut Lines, alloc: Global, text: &[u8]) {
+    match printed(alloc, text) {
+        Ok(printed) => add_printed(lines, alloc, &printed),
+        Err(fault) => add_fault(lines, fault),
     }
 }
 
-#[test]
-fn trees_are_copied(rt: HostRuntime) -> Result<(), Fail> {
-    for (text, wanted) in SPECIFICATIONS {
-        let found = copied(rt.alloc(), text.as_bytes())?;
-        assert_eq!(rt; found.as_str(), wanted);
+/// The fault of a text, where it has one.
+pub fn add_fault_of(lines: &mut Lines, alloc: Global, text: &[u8]) {
+    match printed(alloc, text) {
+        Ok(_) => lines.word(" no fault\n"),
+        Err(fault) => add_fault(lines, fault),
     }
-    for (text, wanted) in PRODUCTIONS {
-        let found = copied(rt.alloc(), text.as_bytes())?;
-        assert_eq!(rt; found.as_str(), wanted);
-    }
-    Ok(())
-}
-
-#[test]
-fn faults_are_told(rt: HostRuntime) -> Result<(), Fail> {
-    for (text, wanted) in FAULTS {
-        let found = told(rt.alloc(), text.as_bytes())?;
-        assert_eq!(rt; found.as_str(), wanted);
-    }
-    let bytes = b"version 1;# \xff\xc3 rule\r\norder\tbig;# \x80";
-    let found = told(rt.alloc(), bytes)?;
-    assert_eq!(rt; found.as_str(), "version 1 ;\norder big ;\n");
-    Ok(())
-}
-
-fn repeated(alloc: Global, parts: &[Part]) -> Result<String, Fail> {
-    let mut text = String::new(alloc);
-    for part in parts {
-        for _ in 0..part.times {
-            text.push_str(part.text)?;
-        }
-    }
-    Ok(text)
-}
-
-#[test]
-fn limits_are_kept(rt: HostRuntime) -> Result<(), Fail> {
-    for (parts, wanted) in LIMITS {
-        let text = repeated(rt.alloc(), parts)?;
-        let found = told(rt.alloc(), text.as_bytes())?;
-        let fault = if found.starts_with("syntax") {
-            found.as_str()
-        } else {
-            ""
-        };
-        assert_eq!(rt; fault, wanted);
-    }
-    Ok(())
-}
-
-#[test]
-fn laws_are_called() {
-    faults_are_unique();
-    trees_are_unique();
 }

@@ -1,9 +1,10 @@
 // What is said of a text.
-use crate::lines::Lines;
-use crate::tables::add_tables;
+use crate::clauses::{constraint_lines, rule_lines};
 use dsr_ir::Spec;
+use dsr_lines::Lines;
 use dsr_parse::{SyntaxFault, parse};
 use dsr_spec::{SpecFault, spec};
+use dsr_tables::add_declarations;
 use std::alloc::Global;
 
 /// What is said of a text: its specification, or why it has none.
@@ -32,11 +33,19 @@ fn answer_to(alloc: Global, text: &[u8]) -> Answer {
         Ok(tree) => tree,
         Err(fault) => return of_syntax(fault),
     };
-    match spec(alloc, &tree) {
+    let meant = spec(alloc, &tree);
+    match meant {
         Ok(spec) => Answer::Accepted(spec),
         Err(SpecFault::At { kind, place }) => Answer::Refused { kind, place },
         Err(SpecFault::NoMemory) => Answer::NoMemory,
     }
+}
+
+// The lines of a specification's tables.
+fn add_tables(lines: &mut Lines, spec: &Spec) {
+    add_declarations(lines, &spec.base);
+    rule_lines(lines, spec.rules.items());
+    constraint_lines(lines, spec.constraints.items());
 }
 
 /// What is said of a text, behind its name, and the tables where they are wanted.

@@ -1,9 +1,9 @@
 // Rules and constraints, a line for each part.
-use crate::lines::Lines;
 use dsr_ir::{
     Atom, Bound, Conj, Constraint, FieldRef, Guard, Inc, Literal, Measure, Op, Path, Quant, Rule,
     Span, Test, Var,
 };
+use dsr_lines::Lines;
 
 fn op_word(op: Op) -> &'static str {
     match op {

@@ -10,12 +10,10 @@
 mod answers;
 mod cases;
 mod clauses;
-mod lines;
-mod tables;
 
 use answers::add_answer;
 use cases::{Case, Wanted, case_of};
-use lines::Lines;
+use dsr_lines::Lines;
 use std::alloc::Global;
 use std::io;
 

@@ -19,5 +19,6 @@ mod values;
 pub use fields::declared_field;
 pub use guards::guard_write;
 pub use known::Known;
-pub use raw_templates::raw;
+pub use raw_templates::{raw, raw_of};
 pub use removing::counted_symbol;
+pub use values::only_giver;

@@ -19,8 +19,9 @@ fn literal_at(constraint: &Constraint, conj: u32, literal: u32) -> Option<Litera
     conj.literals.items().get(literal as usize).copied()
 }
 
-// The updates for a literal of the constraint, of whose variables this is known.
-fn of_constraint(
+/// The updates that are tried for the literal with these numbers of the constraint, of whose
+/// variables this is known; none where there is no such literal.
+pub fn raw_of(
     alloc: Global,
     spec: &Spec,
     known: &Known,
@@ -54,5 +55,5 @@ pub fn raw(
         return Ok(Vec::new(alloc));
     };
     let known = Known::new(spec, &constraint.quant);
-    of_constraint(alloc, spec, &known, constraint, conj, literal)
+    raw_of(alloc, spec, &known, constraint, conj, literal)
 }

@@ -1,0 +1,14 @@
+-- What is known of an update when it is asked whether it serves.
+use Rattle.std.specs.Prelude.{◌↔◌, IsTrue}
+use Rattle.dsr_ir.specs.declared.updates.Symbol.{Symbol}
+use Rattle.dsr_updating.specs.Changes.{Change}
+use Rattle.dsr_updating.specs.Effects.{InTable, IsDeclared, changes}
+use Rattle.dsr_updating.specs.declared.effects.Effect.{Effect}
+use Rattle.dsr_updating.specs.declared.effects.Tag.{Tag}
+use Rattle.dsr_updating.specs.declared.effects.Way.{Way}
+
+-- the effect is exactly what the update may change
+abbrev pub IsEffectOf : Change → Effect → Type 0
+IsEffectOf c effect =
+    (way : Way) (symbol : Symbol) (tag : Tag) → IsDeclared c.spec.base symbol
+    → IsTrue (changes c.spec.base effect way symbol tag) ↔ InTable c way symbol tag

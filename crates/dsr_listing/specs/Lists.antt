@@ -1,12 +1,13 @@
 -- The templates that are listed for a literal.
-use Rattle.std.specs.Prelude.{◌≡◌, ℕ, List, [], ◌∷◌, ◌++◌, map, take, Some, MatchOption, None, Option}
+use Rattle.std.specs.Prelude.{◌≡◌, ℕ, zero, suc, List, [], ◌∷◌, ◌++◌, map, Some, MatchOption, None, Option}
 use Rattle.std.specs.List.{flat_map}
 use Rattle.dsr_ir.specs.declared.constraints.Atom.{Atom}
 use Rattle.dsr_ir.specs.declared.constraints.Literal.{Literal}
 use Rattle.dsr_ir.specs.declared.updates.Template.{Template}
 use Rattle.dsr_ir.specs.declared.updates.Update.{Update}
 use Rattle.dsr_ir.specs.declared.updates.Write.{Write}
-use Rattle.dsr_updating.specs.Templates.{AreOnce, AreRawOf, literal_at}
+use Rattle.dsr_meaning.specs.Counting.{IsIn}
+use Rattle.dsr_updating.specs.Templates.{AreRawOf, literal_at}
 use Rattle.dsr_listing.specs.Candidates.{AreCompensations}
 use Rattle.dsr_listing.specs.Owners.{Owner}
 use Rattle.dsr_listing.specs.Sides.{IsKept}
@@ -47,28 +48,30 @@ pub data AreCompensable (owner : Owner) : List Template → List Compensable →
       → AreCompensations owner template writes → AreCompensable owner rest pairs
       → AreCompensable owner (template ∷ rest) ((template, writes) ∷ pairs)
 
--- those that are kept, in order
-pub data AreKept (owner : Owner) (atom : Atom) : List Template → List Template → Type 0 where
-  done : AreKept owner atom [] []
-  kept :
-      {all rest : List Template} → (template : Template) → IsKept owner atom template
-      → AreKept owner atom all rest → AreKept owner atom (template ∷ all) (template ∷ rest)
+-- The first so many of the templates in a list that are kept, each once: those that were taken before are not taken again, and
+-- those that are not kept are left out.
+pub data AreTaken (owner : Owner) (atom : Atom) : ℕ → List Template → List Template → List Template → Type 0 where
+  no_more : {n : ℕ} {before : List Template} → AreTaken owner atom n before [] []
+  enough : {before all : List Template} → AreTaken owner atom zero before all []
+  again :
+      {n : ℕ} {before all rest : List Template} → (template : Template) → IsIn template before
+      → AreTaken owner atom n before all rest → AreTaken owner atom n before (template ∷ all) rest
   left_out :
-      {all rest : List Template} → (template : Template) → (IsKept owner atom template → ⊥)
-      → AreKept owner atom all rest → AreKept owner atom (template ∷ all) rest
+      {n : ℕ} {before all rest : List Template} → (template : Template) → (IsKept owner atom template → ⊥)
+      → AreTaken owner atom n before all rest → AreTaken owner atom n before (template ∷ all) rest
+  taken :
+      {n : ℕ} {before all rest : List Template} → (template : Template) → (IsIn template before → ⊥)
+      → IsKept owner atom template → AreTaken owner atom n (before ++ template ∷ []) all rest
+      → AreTaken owner atom (suc n) before (template ∷ all) (template ∷ rest)
 
--- The templates that are listed for the literal with these numbers: those that are tried for it, without and with
--- compensations, of equal ones the first, without those that are left out, and of these the first 64.
+-- The templates that are listed for the literal with these numbers: of those that are tried for it, without and with
+-- compensations, the first 64 that are kept, of equal ones the first.
 pub record AreListed (owner : Owner) (conj literal : ℕ) (atom : Atom) (templates : List Template) : Type 0 where
   pub tried : List Template
   pub are_tried : AreRawOf owner.spec owner.constraint conj literal tried
   pub compensable : List Compensable
   pub are_compensable : AreCompensable owner tried compensable
-  pub once : List Template
-  pub are_once : AreOnce [] (all_of compensable) once
-  pub kept : List Template
-  pub are_kept : AreKept owner atom once kept
-  pub templates_are : templates ≡ take 64 kept
+  pub are_taken : AreTaken owner atom 64 [] (all_of compensable) templates
 
 -- none where there is no such literal
 abbrev pub AreListedOf : Owner → ℕ → ℕ → List Template → Type 0

@@ -1,0 +1,6 @@
+use Rattle.std.proofs.Common.{◌≡◌, map, take}
+use Rattle.dsr_listing.specs.Lists.{with_writes}
+use Rattle.dsr_compensate.proofs.combining.compensated_by.Given as goal
+
+abbrev pub invariant-loop-update : goal.invariant-loop-update
+invariant-loop-update l = l.updates.items ≡ map (with_writes l.more) (take l.update-index l.update-items)

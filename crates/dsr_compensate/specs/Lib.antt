@@ -1,0 +1,2 @@
+pub mod Preventing
+pub mod Taking

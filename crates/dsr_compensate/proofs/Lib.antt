@@ -5,3 +5,4 @@ pub mod Taken
 pub mod Pairs
 pub mod GoneOver
 pub mod Whole
+pub mod FirstKept

@@ -10,6 +10,7 @@ ghost use Rattle.dsr_meaning.specs.Typed.{IsTyped};
 mod literals;
 
 use anyhow::bail;
+use dsr_compensate::the_first_kept_are_taken;
 use dsr_ir::Spec;
 use dsr_lines::Lines;
 use dsr_read::specification;
@@ -43,6 +44,7 @@ fn add_case(lines: &mut Lines, alloc: Global, part: &str) -> anyhow::Result<()> 
 }
 
 fn main(rt: HostRuntime) -> anyhow::Result<()> {
+    the_first_kept_are_taken();
     let alloc = rt.alloc();
     let input = io::read_to_string(alloc, rt.stdin())?;
     let mut lines = Lines::new(alloc);

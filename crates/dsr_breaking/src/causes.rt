@@ -1,0 +1,19 @@
+// What may turn a literal false, whatever the image.
+use dsr_ir::{Symbol, Var};
+
+/// What happens to a set or a relation by which a constraint may be broken.
+#[derive(Clone, Copy, PartialEq, Eq)]
+pub enum Reason {
+    /// It gains a member or a pair.
+    Gain(Symbol),
+    /// It loses one.
+    Loss(Symbol),
+}
+
+/// A reason, with the variable at whose record the set or the relation is read.
+#[derive(Clone, Copy, PartialEq, Eq)]
+pub struct Cause {
+    pub reason: Reason,
+    /// None where it is read of all records.
+    pub at: Option<Var>,
+}

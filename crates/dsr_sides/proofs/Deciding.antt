@@ -1,5 +1,5 @@
 -- What a negated answer decides, and the rule that alone gives a relation's pairs.
-use Rattle.std.proofs.Common.{◌≡◌, ◌≢◌, ◌↔◌, ◌⊎◌, ℕ, Bool, true, false, not, ◌||◌, IsTrue, List, [], Option, None, Some, IsSome, nat_eq, arith, unwrap_or, inl, inr, refl, sym, ap, subst, ◌∙◌}
+use Rattle.std.proofs.Common.{◌≡◌, ◌↔◌, ℕ, Bool, true, false, not, ◌||◌, IsTrue, List, [], Option, None, Some, IsSome, nat_eq, arith, unwrap_or, inl, inr, refl, sym, ap, subst, ◌∙◌}
 use Rattle.std.specs.Prelude.{IsSomeAnd}
 use Rattle.std.specs.Option.{option_and_then, option_eq}
 use Rattle.std.proofs.lemmas.Bool.Decides.{nat_tests}

@@ -7,3 +7,4 @@ mod owner;
 mod serving;
 
 pub use owner::Owner;
+pub use serving::is_functional;

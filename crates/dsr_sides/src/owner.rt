@@ -1,8 +1,9 @@
 // A constraint with what its updates are judged by.
 ghost use Rattle.std.specs.Prelude.{◌≡◌, ◌↔◌, ℕ, IfOk, IsTrue, Some, false, slice_get, slice_index_or};
 ghost use Rattle.dsr_effect.specs.Told.{ChangesAtW};
+ghost use Rattle.dsr_goal.specs.Knowing.{known_by};
 ghost use Rattle.dsr_ir.specs.declared.rules.Rule.{Rule as RuleOf};
-ghost use Rattle.dsr_updating.specs.Templates.{AreRawOf};
+ghost use Rattle.dsr_updating.specs.Templates.{AreRawOf, TellsKnown};
 ghost use Rattle.dsr_updating.specs.declared.effects.Way.TheVariants.{Gain};
 ghost use Rattle.dsr_listing.specs.Owners.{change_of};
 ghost use Rattle.dsr_meaning.specs.Typed.{IsTyped};
@@ -59,6 +60,22 @@ impl<'a> Owner<'a> {
         ensures { result.now ≡ (owner_of self.now).spec }
     {
         self.spec
+    }
+
+    /// The number of the constraint.
+    pub fn number(&self) -> u32
+        ensures { result ≡ (owner_of self.now).number }
+    {
+        self.number
+    }
+
+    /// Of which sets the constraint's variables are known to be members.
+    pub fn known(&self) -> &Known
+        requires sound { IsSound self.now }
+        ensures { TellsKnown (owner_of self.now).spec (owner_of self.now).constraint.quant
+            (known_by result.now) }
+    {
+        &self.known
     }
 
     /// The constraint.

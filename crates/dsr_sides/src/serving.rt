@@ -52,8 +52,8 @@ fn gives_once(rule: &Rule) -> bool
     }
 }
 
-// Whether one rule alone gives the relation's pairs, and gives each record one at most.
-fn is_functional(spec: &Spec, rel: u32) -> bool
+/// Whether one rule alone gives the relation's pairs, and gives each record one at most.
+pub fn is_functional(spec: &Spec, rel: u32) -> bool
     requires typed { IsTyped spec.now }
     ensures { result ≡ givers.is_functional spec.now rel }
 {

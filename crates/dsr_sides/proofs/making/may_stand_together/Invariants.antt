@@ -1,4 +1,3 @@
-use Rattle.std.proofs.Common.{◌≡◌}
 use Rattle.dsr_sides.proofs.Standing.{AreTogetherBefore}
 use Rattle.dsr_sides.proofs.making.may_stand_together.Given as goal
 

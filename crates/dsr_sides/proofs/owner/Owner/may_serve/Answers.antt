@@ -1,4 +1,4 @@
-use Rattle.std.proofs.Common.{◌≡◌, ◌↔◌, IsTrue, inl, inr, refl, sym, subst}
+use Rattle.std.proofs.Common.{◌↔◌, IsTrue, inl, inr, refl, sym, subst}
 use Rattle.dsr_ir.specs.declared.updates.Goal.TheVariants.{ExactlyOne}
 use Rattle.dsr_listing.specs.Owners.{change_of, goal_at}
 use Rattle.dsr_listing.specs.Sides.{MayServe}

@@ -1,0 +1,14 @@
+use Rattle.std.proofs.Common.{sym, ap, subst, ◌∙◌}
+use Rattle.dsr_graph.proofs.Found.{ways_listed, ways_only}
+use Rattle.dsr_graph.specs.Graphs.{templates_of}
+use Rattle.dsr_listing.specs.Lists.{AreListedOf}
+use Rattle.dsr_graph.proofs.asking.ways.Goals as goal
+
+pub returns : goal.returns
+returns c =
+    let told = c.templates.ensures ∙ ap templates_of c.listing_in.ensures in
+    record {
+      ways = told;
+      listed = λ owner in_graph. subst (AreListedOf owner c.args.conj c.args.literal) (sym told) (ways_listed c.args.graph.now c.args.constraint owner in_graph c.args.conj c.args.literal);
+      only = λ owner ts in_graph listed. ways_only c.args.graph.now c.args.constraint owner in_graph c.args.conj c.args.literal ts listed ∙ sym told;
+    }

@@ -1,0 +1,4 @@
+pub mod Paired
+pub mod Kinds
+pub mod Graphs
+pub mod Asking

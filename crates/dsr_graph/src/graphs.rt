@@ -1,0 +1,35 @@
+// The graph as it is kept.
+use crate::kinds::Kinds;
+use crate::listings::Listing;
+use dsr_ir::Seq;
+
+/// A constraint, with what is listed for its literals.
+pub struct Node {
+    pub kinds: Kinds,
+    /// For each kind of literals.
+    pub listings: Vec<Listing>,
+    /// The constraints on which it relies.
+    pub from: Seq<u32>,
+}
+
+impl Drop for Node {
+    fn drop(self) {
+        let Node {
+            kinds: _,
+            listings: _,
+            from: _,
+        } = self;
+    }
+}
+
+/// The repair dependence graph of a specification: what may come of each template that is listed for a
+/// literal, and which constraint relies on which.
+pub struct Graph {
+    pub(crate) nodes: Vec<Node>,
+}
+
+impl Drop for Graph {
+    fn drop(self) {
+        let Graph { nodes: _ } = self;
+    }
+}

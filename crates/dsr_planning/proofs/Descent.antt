@@ -5,7 +5,6 @@ use Rattle.std.proofs.lemmas.Bool.Decides.{nat_tests}
 use Rattle.dsr_ir.specs.declared.constraints.Constraint.{Constraint}
 use Rattle.dsr_ir.specs.declared.constraints.Literal.{Literal}
 use Rattle.dsr_ir.specs.declared.declarations.Spec.{Spec}
-use Rattle.dsr_meaning.specs.Counting.{IsIn}
 use Rattle.dsr_planning.specs.Plans.{Covers, IsPlan, IsRowOf, IsTested, IsWayFor, owner_at, way_at}
 use Rattle.dsr_planning.specs.Stuck.{IsHeld, IsStuck, MustTest, relied, uncovered}
 use Rattle.dsr_planning.specs.declared.choices.Choice.{Choice}
@@ -29,9 +28,9 @@ level_below [] n row is = absurd cc
 level_below (r ∷ rows) zero row is = let same : r ≡ row = cc in let levels = ap (λ x. x.level) same in omega (arith, levels)
 level_below (r ∷ rows) (suc n) row is = let less = level_below rows n row is in omega (arith, less)
 
-module _ (spec : Spec) (members : List ℕ) (choice : Choice) (stuck : IsStuck spec members) (plan : IsPlan spec choice) where
+module _ (spec : Spec) (Member : ℕ → Type 0) (choice : Choice) (stuck : IsStuck spec Member) (plan : IsPlan spec choice) where
   -- a member with its row
-  row_of : (n : ℕ) → IsIn n members → (constraint : Constraint) × (row : Row) × IsRowOf spec choice n constraint row
+  row_of : (n : ℕ) → Member n → (constraint : Constraint) × (row : Row) × IsRowOf spec choice n constraint row
   row_of n member =
       let less = stuck.declared n member in
       let many = plan.as_many in
@@ -41,12 +40,12 @@ module _ (spec : Spec) (members : List ℕ) (choice : Choice) (stuck : IsStuck s
 
   -- all members stand below the level
   AllBelow : ℕ → Type 0
-  AllBelow k = (n : ℕ) (constraint : Constraint) (row : Row) → IsIn n members → IsRowOf spec choice n constraint row → row.level < k
+  AllBelow k = (n : ℕ) (constraint : Constraint) (row : Row) → Member n → IsRowOf spec choice n constraint row → row.level < k
 
-  module _ (k : ℕ) (below : (n : ℕ) (constraint : Constraint) (row : Row) → IsIn n members → IsRowOf spec choice n constraint row → row.level < suc k) (n : ℕ) (constraint : Constraint) (row : Row) (here : IsRowOf spec choice n constraint row) (level_is : row.level ≡ k) where
+  module _ (k : ℕ) (below : (n : ℕ) (constraint : Constraint) (row : Row) → Member n → IsRowOf spec choice n constraint row → row.level < suc k) (n : ℕ) (constraint : Constraint) (row : Row) (here : IsRowOf spec choice n constraint row) (level_is : row.level ≡ k) where
     -- a literal that has to be tested is tested, since its template would break a member on a level that is too high
     tested : (conj literal : ℕ) (its : Literal) → slice_get constraint.conjs conj ≡ slice_get constraint.conjs conj → (way : Way) → way_at row conj literal ≡ Some way → IsWayFor (owner_at spec n constraint) conj literal its way
-        → (option_and_then (λ c. slice_get c.literals literal) (slice_get constraint.conjs conj) ≡ Some its) → MustTest (owner_at spec n constraint) members conj literal → IsTested row conj literal
+        → (option_and_then (λ c. slice_get c.literals literal) (slice_get constraint.conjs conj) ≡ Some its) → MustTest (owner_at spec n constraint) Member conj literal → IsTested row conj literal
     tested conj literal its same Test way_is fits literal_is must = way_is
     tested conj literal its same (By number template) way_is fits literal_is must =
         absurd (must (record {
@@ -64,7 +63,7 @@ module _ (spec : Spec) (members : List ℕ) (choice : Choice) (stuck : IsStuck s
               absurd (omega (arith, higher, lower, level_is));
         }))
 
-    covered : Covers constraint (MustTest (owner_at spec n constraint) members)
+    covered : Covers constraint (MustTest (owner_at spec n constraint) Member)
     covered truth =
         let passes = plan.covers n constraint row here truth in
         record {
@@ -77,7 +76,7 @@ module _ (spec : Spec) (members : List ℕ) (choice : Choice) (stuck : IsStuck s
               passes.passes l literal literal_is (tested passes.number l literal refl way.0 way.1 way.2 its must);
         }
 
-    not_there : IsHeld spec members n constraint → ⊥
+    not_there : IsHeld spec Member n constraint → ⊥
     not_there (relied m member relies) =
         let r = row_of m member in
         let higher = plan.relies m n r.0 constraint r.1 row r.2 here relies in
@@ -100,7 +99,7 @@ module _ (spec : Spec) (members : List ℕ) (choice : Choice) (stuck : IsStuck s
   descent zero below = below
   descent (suc k) below = descent k (step k below)
 
-  pub no_member : (n : ℕ) → IsIn n members → ⊥
+  pub no_member : (n : ℕ) → Member n → ⊥
   unfolding AllBelow
   no_member n member =
       let r = row_of n member in

@@ -8,6 +8,6 @@ ghost use Rattle.dsr_planning.specs.declared.choices.Choice.{Choice};
 
 /// Where a set of constraints is stuck, and has a member, no choice is a plan.
 pub fn stuck_sets_leave_no_plan()
-    ensures { (spec : Spec) (members : List ℕ) (choice : Choice) (n : ℕ) → IsStuck spec members
+    ensures { (spec : Spec) (members : List ℕ) (choice : Choice) (n : ℕ) → IsStuck spec (λ m. IsIn m members)
         → IsIn n members → IsPlan spec choice → ⊥ }
 {}

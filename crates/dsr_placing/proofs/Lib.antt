@@ -1,0 +1,4 @@
+pub mod Once
+pub mod Counted
+pub mod Left
+pub mod Marks

@@ -1,0 +1,10 @@
+//! Whether a constraint may be repaired before those that are left.
+#![tactic(auto)]
+
+mod placing;
+mod sparing;
+mod testing;
+
+pub use placing::may_be_first;
+pub use sparing::Position;
+pub use testing::way;

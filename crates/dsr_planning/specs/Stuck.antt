@@ -1,5 +1,5 @@
 -- Sets of constraints none of which can be repaired first.
-use Rattle.std.specs.Prelude.{◌≡◌, ◌<◌, ℕ, Some, length, slice_get}
+use Rattle.std.specs.Prelude.{◌≡◌, ◌<◌, ℕ, List, Some, length, slice_get}
 use Rattle.dsr_breaking.specs.Breaks.{Breaks, Relies}
 use Rattle.dsr_breaking.specs.declared.causes.Reason.{Reason}
 use Rattle.dsr_ir.specs.declared.constraints.Constraint.{Constraint}
@@ -7,6 +7,7 @@ use Rattle.dsr_ir.specs.declared.constraints.Literal.{Literal}
 use Rattle.dsr_ir.specs.declared.declarations.Spec.{Spec}
 use Rattle.dsr_ir.specs.declared.updates.Template.{Template}
 use Rattle.dsr_listing.specs.Owners.{Owner}
+use Rattle.dsr_meaning.specs.Counting.{IsIn}
 use Rattle.dsr_updating.specs.Templates.{literal_at}
 use Rattle.dsr_planning.specs.Plans.{Covers, MayRepair, owner_at}
 
@@ -48,3 +49,8 @@ pub record IsStuck (spec : Spec) (Member : ℕ → Type 0) : Type 0 where
   pub held :
       (n : ℕ) (constraint : Constraint) → Member n → slice_get spec.constraints n ≡ Some constraint
       → IsHeld spec Member n constraint
+
+-- a set that is stuck, and of which each one that is stuck is part
+pub record IsLargestStuck (spec : Spec) (members : List ℕ) : Type 0 where
+  pub stuck : IsStuck spec (λ m. IsIn m members)
+  pub all : (set : List ℕ) (n : ℕ) → IsStuck spec (λ m. IsIn m set) → IsIn n set → IsIn n members

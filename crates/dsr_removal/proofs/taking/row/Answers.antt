@@ -1,0 +1,18 @@
+use Rattle.std.proofs.Common.{◌≡◌, ◌∙◌, ◌-◌, map, sym, ap, subst, arith}
+use Rattle.dsr_placing.specs.Placing.{IsLeft}
+use Rattle.dsr_removal.proofs.Firsts.{row_by}
+use Rattle.dsr_removal.proofs.Staying.{left_many}
+use Rattle.dsr_removal.specs.Rounds.{is_late}
+use Rattle.dsr_removal.specs.Taking.{AreTakenWays}
+use Rattle.dsr_removal.proofs.taking.row.Goals as goal
+
+pub returns : goal.returns
+returns c = λ owner in_graph many same placed.
+    let rounds = c.args.placed.now.rounds.items in
+    let round = c.args.round in
+    let marks = c.deref-2.result.now in
+    let marks_are : marks ≡ map (is_late round) rounds = c.deref-2.ensures.value ∙ (c.in_ok-left.ensures ∙ ap (map (is_late round)) c.deref.ensures.value) in
+    let ways = c.in_ok-ways.ensures owner in_graph (left_many marks rounds round marks_are ∙ many) same in
+    let below = c.requires.below in
+    row_by owner c.args.number in_graph.number_is rounds c.args.placed.now.count round marks marks_are (record { level = c.args.placed.now.count - 1 - round; ways = c.new.result }) (omega (arith, below)) placed
+    (subst (AreTakenWays owner (IsLeft marks)) (sym c.new.ensures) ways)

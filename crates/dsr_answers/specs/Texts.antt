@@ -7,6 +7,8 @@ use Rattle.dsr_ir.specs.declared.declarations.Spec.{Spec}
 use Rattle.dsr_ir.specs.declared.tuples.Binding.{Binding}
 use Rattle.dsr_ir.specs.declared.tuples.Binding.TheVariants.{Once, Each, Pair}
 use Rattle.dsr_ir.specs.declared.tuples.Element.{Element}
+use Rattle.dsr_ir.specs.declared.updates.Symbol.{Symbol}
+use Rattle.dsr_ir.specs.declared.updates.Symbol.TheVariants.{Set, Rel}
 use Rattle.dsr_meaning.specs.Consistency.{BoundConstraint}
 use Rattle.dsr_meaning.specs.Refusals as refusals
 use Rattle.dsr_meaning.specs.Refusals.{Refusal}
@@ -22,6 +24,11 @@ pool_name spec pool =
 abbrev pub constraint_name : Spec → ℕ → List ℕ
 constraint_name spec constraint =
     option_map_or (λ c. c.name) (slice_get spec.constraints constraint) []
+
+-- the name of a set or of a relation
+abbrev pub symbol_name : Spec → Symbol → List ℕ
+symbol_name spec (Set set) = option_map_or (λ s. s.name) (slice_get spec.base.sets set) []
+symbol_name spec (Rel rel) = option_map_or (λ r. r.name) (slice_get spec.base.rels rel) []
 
 abbrev pub structure_name : Spec → ℕ → List ℕ
 structure_name spec structure =

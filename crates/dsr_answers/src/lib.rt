@@ -9,6 +9,7 @@ mod texts;
 mod verdicts;
 
 pub use layouts::layout_refused;
+pub use names::{constraint_name, symbol_name};
 pub use refusals::{meaning_refused, syntax_refused};
-pub use texts::told;
+pub use texts::{push, push_number, told};
 pub use verdicts::verdict;

@@ -3,7 +3,7 @@ ghost use Rattle.std.specs.Prelude.{◌≡◌, ◌++◌, OnOk};
 ghost use Rattle.dsr_answers.specs.Texts as texts;
 
 use crate::texts::{push, push_number};
-use dsr_ir::{Binding, Element, NoMemory, Spec};
+use dsr_ir::{Binding, Element, NoMemory, Spec, Symbol};
 
 /// The name of a pool; `head` for the one that is numbered 0.
 pub fn pool_name(spec: &Spec, pool: u32) -> &[u8]
@@ -25,6 +25,22 @@ pub fn constraint_name(spec: &Spec, constraint: u32) -> &[u8]
     match spec.constraints.items().get(constraint as usize) {
         Some(constraint) => constraint.name.bytes(),
         None => b"",
+    }
+}
+
+/// The name of a set or of a relation.
+pub fn symbol_name(spec: &Spec, symbol: Symbol) -> &[u8]
+    ensures { result.now ≡ texts.symbol_name spec.now symbol }
+{
+    match symbol {
+        Symbol::Set(set) => match spec.base.sets.items().get(set as usize) {
+            Some(set) => set.name.bytes(),
+            None => b"",
+        },
+        Symbol::Rel(rel) => match spec.base.rels.items().get(rel as usize) {
+            Some(rel) => rel.name.bytes(),
+            None => b"",
+        },
     }
 }
 

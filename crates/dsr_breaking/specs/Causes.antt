@@ -17,15 +17,15 @@ use Rattle.dsr_ir.specs.declared.rules.Op.TheVariants.{Le, Ge}
 use Rattle.dsr_ir.specs.declared.updates.Symbol.{Symbol}
 use Rattle.dsr_ir.specs.declared.updates.Symbol.TheVariants.{Set, Rel}
 use Rattle.dsr_updating.specs.Templates.{counted_symbol}
-use Rattle.dsr_updating.specs.declared.effects.Way.{Way}
-use Rattle.dsr_updating.specs.declared.effects.Way.TheVariants as ways
+use Rattle.dsr_updating.specs.declared.effects.Direction.{Direction}
+use Rattle.dsr_updating.specs.declared.effects.Direction.TheVariants as directions
 use Rattle.dsr_breaking.specs.declared.causes.Cause.{Cause}
 use Rattle.dsr_breaking.specs.declared.causes.Reason.{Reason}
 use Rattle.dsr_breaking.specs.declared.causes.Reason.TheVariants.{Gain, Loss}
 
-abbrev pub way_of : Reason → Way
-way_of (Gain symbol) = ways.Gain
-way_of (Loss symbol) = ways.Loss
+abbrev pub direction_of : Reason → Direction
+direction_of (Gain symbol) = directions.Gain
+direction_of (Loss symbol) = directions.Loss
 
 abbrev pub symbol_of : Reason → Symbol
 symbol_of (Gain symbol) = symbol

@@ -18,18 +18,18 @@ use Rattle.dsr_updating.specs.Givers.{is_functional}
 use Rattle.dsr_updating.specs.Known.{IsKnown}
 use Rattle.dsr_updating.specs.declared.effects.Tag.{Tag}
 use Rattle.dsr_updating.specs.declared.effects.Tag.TheVariants.{Written, Entry}
-use Rattle.dsr_breaking.specs.Causes.{symbol_of, way_of}
+use Rattle.dsr_breaking.specs.Causes.{symbol_of, direction_of}
 use Rattle.dsr_breaking.specs.declared.causes.Cause.{Cause}
 use Rattle.dsr_breaking.specs.declared.causes.Reason.{Reason}
 
 -- the update may do it, at some record
 abbrev pub MayHappen : Change → Reason → Type 0
-MayHappen c reason = (tag : Tag) × InTable c (way_of reason) (symbol_of reason) tag
+MayHappen c reason = (tag : Tag) × InTable c (direction_of reason) (symbol_of reason) tag
 
 -- it does so at this record alone, if at all
 abbrev pub HappensOnlyAt : Change → Reason → Tag → Type 0
 HappensOnlyAt c reason tag =
-    (other : Tag) → InTable c (way_of reason) (symbol_of reason) other → other ≡ tag
+    (other : Tag) → InTable c (direction_of reason) (symbol_of reason) other → other ≡ tag
 
 -- ---- what is known of the variables of two constraints, by the facts that the first one uses
 

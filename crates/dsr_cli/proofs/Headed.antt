@@ -11,6 +11,10 @@ use Rattle.dsr_ir.specs.declared.tuples.Fact.{Fact}
 use Rattle.dsr_meaning.specs.Consistency.{AreSatisfied, AreViolations, BoundConstraint, IsConsistent}
 use Rattle.dsr_meaning.specs.Models.{IsFact}
 use Rattle.dsr_meaning.specs.Refusals.{IsLayoutOf, Refusal, first_of, refusals}
+use Rattle.dsr_plan.specs.Planned as planned
+use Rattle.dsr_plan.specs.Planned.{IsPlanAnswer, answer_of}
+use Rattle.dsr_plan.specs.declared.plans.Found as plans
+use Rattle.dsr_plan.specs.declared.plans.Found.TheVariants as plan_found
 use Rattle.dsr_script.proofs.Laws.{never_at_load, said_at_tell}
 use Rattle.dsr_script.specs.Outside.{IsWhole, Outside}
 use Rattle.dsr_script.specs.Runs.{AllLoaded, Ends, Runs}
@@ -25,10 +29,10 @@ use Rattle.dsr_text.specs.Canonical.{canonical}
 use Rattle.dsr_tree.specs.Trees.{TreeShape}
 use Rattle.dsr_typing.specs.Specifications.{IsSpecificationOf, specification}
 use Rattle.dsr_cli.proofs.Once.{not_refused, tree_unique}
-use Rattle.dsr_cli.specs.Commands.{asked, goes_on, image_limit, loads_image, script_of, spec_limit, tells_text}
-use Rattle.dsr_cli.specs.Headlines.{ChecksImages, ChecksNothingElse, IsChecked, IsPrinted, IsVerdictOn, PrintsTexts, WasChecked}
+use Rattle.dsr_cli.specs.Commands.{asked, goes_on, image_limit, loads_image, loads_spec, reads, script_of, spec_limit}
+use Rattle.dsr_cli.specs.Headlines.{ChecksImages, ChecksNothingElse, FindsNothingElse, FindsPlans, IsChecked, IsPlanVerdict, IsPlanned, IsPrinted, IsVerdictOn, PrintsTexts, WasChecked, WasPlanned}
 use Rattle.dsr_cli.specs.Readings.{Found, IsFound, Means, Refused}
-use Rattle.dsr_cli.specs.Words.{Asked, Check, Text, command_of}
+use Rattle.dsr_cli.specs.Words.{Asked, Check, Plan, Text, command_of}
 
 -- ---- what a command that speaks has told
 
@@ -63,10 +67,20 @@ pub record CheckedRun (before after : Outside) (files : Files) (name image_name 
   pub fits : IsCheckAnswer (specification read.tree) image answer
   pub speaks : Speaks before after verdict answer
 
--- or printed
-pub record PrintedRun (before after : Outside) (files : Files) (name : List ℕ) (verdict : Verdict) : Type 0 where
+-- or an answer was told that fits its meaning
+pub record ToldRun (Fits : TreeShape → Answer → Type 0) (before after : Outside) (files : Files) (name : List ℕ) (verdict : Verdict) : Type 0 where
   pub read : ReadText files name
-  pub put : after.output.written ≡ appended before.output.written (canonical read.tree)
+  pub answer : Answer
+  pub fits : Fits read.tree answer
+  pub speaks : Speaks before after verdict answer
+
+-- what `text` tells
+abbrev IsPrint : TreeShape → Answer → Type 0
+IsPrint tree told = told ≡ record { verdict = verdicts.Ok; text = canonical tree }
+
+-- what `plan` tells
+abbrev IsPlanOf : TreeShape → Answer → Type 0
+IsPlanOf tree answer = IsPlanAnswer (specification tree) answer
 
 module _ (before after : Outside) (files : Files) (held : before.held ≡ Some files) (verdict : Verdict) where
   whole : (came : Came) (name : List ℕ) (limit : ℕ) → came.name ≡ name → came.limit ≡ limit
@@ -140,22 +154,26 @@ module _ (before after : Outside) (files : Files) (held : before.held ≡ Some f
           inr (image_of name image_name (record { text = first.bytes; file = file.0; short = file.1; tree = tree; meaning = means }) more next rest loaded.1 ends)
       by_found file (Refused answer) is rest = inl (refused_at name first more next answer file.0 is rest ends)
 
-  text_told : (name : List ℕ) (came : List Came) (next : Next) → script_of (Some (Text name)) came next
+  -- a command that loads the text of a specification alone
+  read_told : (Fits : TreeShape → Answer → Type 0) (name : List ℕ) (came : List Came) (next : Next)
+      → loads_spec name (λ text. reads text (λ tree. tells (Fits tree))) came next
       → AllLoaded before came → Ends before after (Said verdict) next
-      → RefusedRun before after files name verdict ⊎ PrintedRun before after files name verdict
-  text_told name [] next script loaded ends = absurd (loads_never name _ _ next script ends)
-  text_told name (first ∷ more) next script loaded ends =
+      → RefusedRun before after files name verdict ⊎ ToldRun Fits before after files name verdict
+  read_told Fits name [] next script loaded ends = absurd (loads_never name _ _ next script ends)
+  read_told Fits name (first ∷ more) next script loaded ends =
       let file = whole first name spec_limit (ap (λ c. c.name) script.0) (ap (λ c. c.limit) script.0) loaded.0 in
       by_found file script.1.0 script.1.1 script.1.2
     where
       by_found : (get files name ≡ Some first.bytes) × (length first.bytes ≤ spec_limit) → (found : Found) → IsFound first.bytes found
-          → goes_on tells_text found more next
-          → RefusedRun before after files name verdict ⊎ PrintedRun before after files name verdict
+          → goes_on (λ tree. tells (Fits tree)) found more next
+          → RefusedRun before after files name verdict ⊎ ToldRun Fits before after files name verdict
       by_found file (Means tree) means rest =
-          let one = tells_one (λ told. told ≡ record { verdict = verdicts.Ok; text = canonical tree }) more next rest ends in
+          let one = tells_one (Fits tree) more next rest ends in
           inr (record {
             read = record { text = first.bytes; file = file.0; short = file.1; tree = tree; meaning = means };
-            put = one.2.put ∙ ap (λ a. appended before.output.written a.text) one.1;
+            answer = one.0;
+            fits = one.1;
+            speaks = one.2;
           })
       by_found file (Refused answer) is rest = inl (refused_at name first more next answer file.0 is rest ends)
 
@@ -212,6 +230,33 @@ module _ (before after : Outside) (verdict : Verdict) (spec : Spec) (layout : La
     ok = tells_ok (IsFact spec layout image) spec verdict vs exactly speaks.says;
     inconsistent = tells_inconsistent (IsFact spec layout image) spec verdict vs exactly speaks.says;
   }
+
+-- the verdict on a specification
+module _ (before after : Outside) (verdict : Verdict) (spec : Spec) where
+  by_found : (found : plans.Found) → planned.IsFound spec found → (answer : Answer) → answer ≡ answer_of spec found
+      → Speaks before after verdict answer → IsPlanVerdict spec before after verdict
+  by_found (plan_found.Plan choice) is answer told speaks =
+      let says : verdict ≡ verdicts.Ok = speaks.says ∙ ap (λ a. a.verdict) told in
+      record {
+        found = plan_found.Plan choice;
+        is = is;
+        told = speaks.put ∙ ap (λ a. appended before.output.written a.text) told;
+        ok = (λ _. (choice, is.plan), λ _. says);
+        refused = (λ e. let wrong : verdicts.Ok ≡ verdicts.PlanRefused = sym says ∙ e in absurd cc, λ none. absurd (none choice is.plan));
+      }
+  by_found (plan_found.Stuck set) is answer told speaks =
+      let says : verdict ≡ verdicts.PlanRefused = speaks.says ∙ ap (λ a. a.verdict) told in
+      record {
+        found = plan_found.Stuck set;
+        is = is;
+        told = speaks.put ∙ ap (λ a. appended before.output.written a.text) told;
+        ok = (λ e. let wrong : verdicts.PlanRefused ≡ verdicts.Ok = sym says ∙ e in absurd cc, λ has. absurd (is.1 has.0 has.1));
+        refused = (λ _. is.1, λ _. says);
+      }
+
+  plan_verdict : (answer : Answer) → IsPlanAnswer spec answer → Speaks before after verdict answer
+      → IsPlanVerdict spec before after verdict
+  plan_verdict answer its speaks = by_found its.found its.is answer its.told speaks
 
 none_first : (rs : List Refusal) (refusal : Refusal) → rs ≡ [] → first_of rs ≡ Some refusal → ⊥
 none_first rs refusal none first = let e : None ≡ Some refusal = sym (ap first_of none) ∙ first in cc
@@ -291,20 +336,66 @@ module _ (words : List (List ℕ)) (before after : Outside) (status : Status) (r
   prints_texts files spec_name held call said =
       let run = spoken words before after verdicts.Ok (subst (Runs (asked words) before after) said runs) in
       let script = subst (λ o. script_of o run.came run.next) call run.script in
-      elim (text_told before after files held verdicts.Ok spec_name run.came run.next script run.loaded run.ends) [
+      elim (read_told before after files held verdicts.Ok IsPrint spec_name run.came run.next script run.loaded run.ends) [
         | inl refused_run ↦
             let e : verdicts.Ok ≡ verdicts.SpecRefused = refused_run.speaks.says ∙ refusal_verdict refused_run.text refused_run.answer refused_run.is_refused in
             absurd cc
-        | inr printed_run ↦ (
-          printed_run.read.tree,
+        | inr told_run ↦ (
+          told_run.read.tree,
           record {
             spec_name = spec_name;
             asked = call;
-            text = printed_run.read.text;
-            file = printed_run.read.file;
-            short_text = printed_run.read.short;
-            meaning = printed_run.read.meaning;
+            text = told_run.read.text;
+            file = told_run.read.file;
+            short_text = told_run.read.short;
+            meaning = told_run.read.meaning;
           },
-          printed_run.put,
+          told_run.speaks.put ∙ ap (λ a. appended before.output.written a.text) told_run.fits,
         )
       ]
+
+  pub finds_plans : FindsPlans words before after status
+  finds_plans files spec verdict held said is =
+      let run = spoken words before after verdict (subst (Runs (asked words) before after) said runs) in
+      let script = subst (λ o. script_of o run.came run.next) is.asked run.script in
+      let means : IsMeaning is.text is.means.tree = record { is_tree = is.means.is_tree; no_fault = is.means.no_fault } in
+      elim (read_told before after files held verdict IsPlanOf is.spec_name run.came run.next script run.loaded run.ends) [
+        | inl refused_run ↦
+            let same : refused_run.text ≡ is.text = same_Some refused_run.text is.text (sym refused_run.file ∙ is.file) in
+            absurd (not_refused is.text is.means.tree refused_run.answer means (subst (λ t. IsRefused t refused_run.answer) same refused_run.is_refused))
+        | inr told_run ↦
+            let read = told_run.read in
+            let same : read.text ≡ is.text = same_Some read.text is.text (sym read.file ∙ is.file) in
+            let tree : read.tree ≡ is.means.tree =
+            tree_unique is.text read.tree is.means.tree (subst (λ t. IsMeaning t read.tree) same read.meaning).is_tree is.means.is_tree in
+            let meant : specification read.tree ≡ spec = ap specification tree ∙ sym is.means.is in
+            plan_verdict before after verdict spec told_run.answer (subst (λ s. IsPlanAnswer s told_run.answer) meant told_run.fits) told_run.speaks
+      ]
+
+  was_planned : (files : Files) (spec_name : List ℕ) (verdict : Verdict) → before.held ≡ Some files
+      → command_of words ≡ Some (Plan spec_name) → status ≡ Said verdict
+      → verdict ≢ verdicts.SpecRefused → WasPlanned files words before after verdict
+  was_planned files spec_name verdict held call said accepted =
+      let run = spoken words before after verdict (subst (Runs (asked words) before after) said runs) in
+      let script = subst (λ o. script_of o run.came run.next) call run.script in
+      elim (read_told before after files held verdict IsPlanOf spec_name run.came run.next script run.loaded run.ends) [
+        | inl refused_run ↦ absurd (accepted (refused_run.speaks.says ∙ refusal_verdict refused_run.text refused_run.answer refused_run.is_refused))
+        | inr told_run ↦ (
+          specification told_run.read.tree,
+          record {
+            spec_name = spec_name;
+            asked = call;
+            text = told_run.read.text;
+            file = told_run.read.file;
+            short_text = told_run.read.short;
+            means = record { tree = told_run.read.tree; is_tree = told_run.read.meaning.is_tree; no_fault = told_run.read.meaning.no_fault; is = refl };
+          },
+          plan_verdict before after verdict (specification told_run.read.tree) told_run.answer told_run.fits told_run.speaks,
+        )
+      ]
+
+  pub finds_nothing_else : FindsNothingElse words before after status
+  finds_nothing_else files spec_name held call = (
+    λ said. was_planned files spec_name verdicts.Ok held call said (λ e. cc),
+    λ said. was_planned files spec_name verdicts.PlanRefused held call said (λ e. cc),
+  )

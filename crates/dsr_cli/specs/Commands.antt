@@ -3,13 +3,14 @@ use Rattle.std.specs.Prelude.{◌≡◌, ◌≤◌, ℕ, List, length, codes, �
 use Rattle.dsr_check.specs.Checked.{IsCheckAnswer}
 use Rattle.dsr_ir.specs.declared.declarations.Spec.{Spec}
 use Rattle.dsr_meaning.specs.Typed.{IsTyped}
+use Rattle.dsr_plan.specs.Planned.{IsPlanAnswer}
 use Rattle.dsr_script.specs.Scripts.{Answer, Script, loads, picks, tells}
 use Rattle.dsr_script.specs.declared.status.Verdict.TheVariants as verdicts
 use Rattle.dsr_text.specs.Canonical.{canonical}
 use Rattle.dsr_tree.specs.Trees.{TreeShape}
 use Rattle.dsr_typing.specs.Specifications.{specification}
 use Rattle.dsr_cli.specs.Readings.{Found, IsFound, Means, Refused}
-use Rattle.dsr_cli.specs.Words.{Asked, Check, Text, command_of}
+use Rattle.dsr_cli.specs.Words.{Asked, Check, Plan, Text, command_of}
 use Rattle.dsr_cli.specs.declared.waiting.Waiting.{Waiting}
 use Rattle.dsr_cli.specs.declared.waiting.Waiting.TheVariants as stages
 
@@ -55,9 +56,17 @@ text_after text = reads text tells_text
 abbrev pub check_after : List ℕ → List ℕ → Script
 check_after image text = reads text (λ tree. loads_image image (specification tree))
 
+-- whether the specification has a plan is told
+abbrev pub tells_plan : TreeShape → Script
+tells_plan tree = tells (IsPlanAnswer (specification tree))
+
+abbrev pub plan_after : List ℕ → Script
+plan_after text = reads text tells_plan
+
 abbrev pub script_of : Option Asked → Script
 script_of None = tells (λ told. told ≡ usage)
 script_of (Some (Text spec)) = loads_spec spec text_after
+script_of (Some (Plan spec)) = loads_spec spec plan_after
 script_of (Some (Check spec image)) = loads_spec spec (check_after image)
 
 -- what the words ask for
@@ -69,17 +78,20 @@ asked words = script_of (command_of words)
 -- what follows once the bytes of the file came for which a command waits
 abbrev pub due : Waiting → List ℕ → Script
 due stages.Text bytes = text_after bytes
+due stages.Plan bytes = plan_after bytes
 due (stages.Check image) bytes = check_after image.now bytes
 due (stages.Image spec) bytes = checks spec bytes
 
 -- how many files may still be loaded behind that one
 abbrev pub left : Waiting → ℕ
 left stages.Text = 0
+left stages.Plan = 0
 left (stages.Check image) = 1
 left (stages.Image spec) = 0
 
 -- an image is waited for with a typed specification, and isn't longer than any may be
 abbrev pub is_ready : Waiting → List ℕ → Type 0
 is_ready stages.Text bytes = ⊤
+is_ready stages.Plan bytes = ⊤
 is_ready (stages.Check image) bytes = ⊤
 is_ready (stages.Image spec) bytes = IsTyped spec × (length bytes ≤ 67108864)

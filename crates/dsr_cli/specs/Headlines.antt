@@ -8,6 +8,11 @@ use Rattle.dsr_ir.specs.declared.layouts.Layout.{Layout}
 use Rattle.dsr_meaning.specs.Consistency.{AreViolations, BoundConstraint, IsConsistent}
 use Rattle.dsr_meaning.specs.Models.{IsFact}
 use Rattle.dsr_meaning.specs.Refusals.{IsLayoutOf}
+use Rattle.dsr_plan.specs.Planned.{IsFound, answer_of}
+use Rattle.dsr_plan.specs.declared.plans.Found.{Found}
+use Rattle.dsr_planning.specs.Plans.{IsPlan}
+use Rattle.dsr_planning.specs.Refusals.{HasNoPlan}
+use Rattle.dsr_planning.specs.declared.choices.Choice.{Choice}
 use Rattle.dsr_script.specs.Outside.{Outside}
 use Rattle.dsr_script.specs.declared.status.Status.{Status}
 use Rattle.dsr_script.specs.declared.status.Status.TheVariants.{Said}
@@ -19,7 +24,7 @@ use Rattle.dsr_text.specs.Canonical.{canonical}
 use Rattle.dsr_tree.specs.Trees.{TreeShape}
 use Rattle.dsr_typing.specs.Specifications.{IsSpecificationOf}
 use Rattle.dsr_cli.specs.Commands.{image_limit, spec_limit}
-use Rattle.dsr_cli.specs.Words.{Check, Text, command_of}
+use Rattle.dsr_cli.specs.Words.{Check, Plan, Text, command_of}
 
 -- the words ask to check an image under a specification: their files are within their limits, the text means the
 -- specification, and the image has the layout
@@ -84,3 +89,43 @@ PrintsTexts words before after status =
     → command_of words ≡ Some (Text spec_name) → status ≡ Said verdicts.Ok
     → (tree : TreeShape) × IsPrinted files words tree
     × (after.output.written ≡ appended before.output.written (canonical tree))
+
+-- the words ask for the plan of this specification, whose text is within its limit
+pub record IsPlanned (files : Files) (words : List (List ℕ)) (spec : Spec) : Type 0 where
+  pub spec_name : List ℕ
+  pub asked : command_of words ≡ Some (Plan spec_name)
+  pub text : List ℕ
+  pub file : get files spec_name ≡ Some text
+  pub short_text : length text ≤ spec_limit
+  pub means : IsSpecificationOf text spec
+
+abbrev pub HasPlan : Spec → Type 0
+HasPlan spec = (choice : Choice) × IsPlan spec choice
+
+-- a verdict on a specification: it says exactly whether it has a plan, and the text tells the plan that is taken, or
+-- what stands in the way of one
+pub record IsPlanVerdict (spec : Spec) (before after : Outside) (verdict : Verdict) : Type 0 where
+  pub found : Found
+  pub is : IsFound spec found
+  pub told : after.output.written ≡ appended before.output.written (answer_of spec found).text
+  pub ok : (verdict ≡ verdicts.Ok) ↔ HasPlan spec
+  pub refused : (verdict ≡ verdicts.PlanRefused) ↔ HasNoPlan spec
+
+-- where the shelf tells its files and they can be planned for, a command that speaks gives the verdict
+abbrev pub FindsPlans : List (List ℕ) → Outside → Outside → Status → Type 0
+FindsPlans words before after status =
+    (files : Files) (spec : Spec) (verdict : Verdict) → before.held ≡ Some files → status ≡ Said verdict
+    → IsPlanned files words spec → IsPlanVerdict spec before after verdict
+
+-- some specification was planned for, with this verdict
+abbrev pub WasPlanned : Files → List (List ℕ) → Outside → Outside → Verdict → Type 0
+WasPlanned files words before after verdict =
+    (spec : Spec) × IsPlanned files words spec × IsPlanVerdict spec before after verdict
+
+-- no specification is said to have a plan, and none to have no plan, unless one was looked for
+abbrev pub FindsNothingElse : List (List ℕ) → Outside → Outside → Status → Type 0
+FindsNothingElse words before after status =
+    (files : Files) (spec_name : List ℕ) → before.held ≡ Some files
+    → command_of words ≡ Some (Plan spec_name)
+    → (status ≡ Said verdicts.Ok → WasPlanned files words before after verdicts.Ok)
+    × (status ≡ Said verdicts.PlanRefused → WasPlanned files words before after verdicts.PlanRefused)

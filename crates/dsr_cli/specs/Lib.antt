@@ -1,4 +1,5 @@
 pub mod Words
+pub mod Asking
 pub mod Readings
 pub mod Commands
 pub mod Headlines

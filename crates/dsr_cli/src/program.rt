@@ -1,7 +1,7 @@
 // The whole program, over any shelf and any output.
 ghost use Rattle.std.specs.Prelude.{map, string_bytes};
 ghost use Rattle.dsr_cli.specs.Commands.{asked};
-ghost use Rattle.dsr_cli.specs.Headlines.{ChecksImages, ChecksNothingElse, PrintsTexts};
+ghost use Rattle.dsr_cli.specs.Headlines.{ChecksImages, ChecksNothingElse, FindsNothingElse, FindsPlans, PrintsTexts};
 ghost use Rattle.dsr_script.specs.Causes.{Causes};
 ghost use Rattle.dsr_script.specs.Outside.{told_by};
 ghost use Rattle.dsr_script.specs.Runs.{Runs};
@@ -26,6 +26,10 @@ pub fn run<F: Shelf, O: Sink>(
     ensures images { ChecksImages (map string_bytes words.now.items)
         (told_by F.Shelf O.Sink shelf.old out.old) (told_by F.Shelf O.Sink shelf.new out.new) result }
     ensures nothing_else { ChecksNothingElse (map string_bytes words.now.items)
+        (told_by F.Shelf O.Sink shelf.old out.old) (told_by F.Shelf O.Sink shelf.new out.new) result }
+    ensures plans { FindsPlans (map string_bytes words.now.items)
+        (told_by F.Shelf O.Sink shelf.old out.old) (told_by F.Shelf O.Sink shelf.new out.new) result }
+    ensures no_other_plans { FindsNothingElse (map string_bytes words.now.items)
         (told_by F.Shelf O.Sink shelf.old out.old) (told_by F.Shelf O.Sink shelf.new out.new) result }
     ensures texts { PrintsTexts (map string_bytes words.now.items)
         (told_by F.Shelf O.Sink shelf.old out.old) (told_by F.Shelf O.Sink shelf.new out.new) result }

@@ -1,16 +1,18 @@
 // Commands that wait for a file.
-ghost use Rattle.std.specs.Prelude.{◌≡◌, ◌≤◌, IfOk, length, map, string_bytes};
+ghost use Rattle.std.specs.Prelude.{◌≡◌, ◌≤◌, ◌+◌, IfOk, Some, length};
 ghost use Rattle.dsr_cli.specs.Commands as commands;
-ghost use Rattle.dsr_cli.specs.Commands.{check_after, checks, due, is_ready, left, text_after};
+ghost use Rattle.dsr_cli.specs.Asking.{asked_of};
+ghost use Rattle.dsr_cli.specs.Commands.{check_after, checks, due, is_ready, left, plan_after, script_of, text_after};
 ghost use Rattle.dsr_meaning.specs.Typed.{IsTyped};
 ghost use Rattle.dsr_script.specs.Moves.{Follows, IsReady, loads_of};
 
 use crate::readings::{Reading, read};
-use crate::words::{is_text_of, is_usage_of, word_at};
+use crate::words::{Command, command_of};
 use dsr_answers::told;
 use dsr_check::check;
 use dsr_ir::{NoMemory, Spec};
 use dsr_parse::print;
+use dsr_plan::plan;
 use dsr_script::{Commands, Move, Stage, Told, Verdict};
 use std::alloc::{AllocError, Global};
 
@@ -22,6 +24,8 @@ const SPEC_LIMIT: u32 = 65_536;
 pub enum Waiting<'a> {
     /// `text`, for the text of the specification.
     Text,
+    /// `plan`, for the text of the specification.
+    Plan,
     /// `check`, for the text of the specification; then comes the image of this name.
     Check(&'a str),
     /// `check`, for the image, with the specification that the text means.
@@ -51,6 +55,18 @@ fn tell_text<'a>(alloc: Global, text: &[u8]) -> Result<Move<'a, Waiting<'a>>, No
             verdict: Verdict::Ok,
             text: print(alloc, &tree)?,
         })),
+        Reading::Refused(told) => Ok(Move::Tell(told)),
+    }
+}
+
+// `plan` goes on with the text.
+fn tell_plan<'a>(alloc: Global, text: &[u8]) -> Result<Move<'a, Waiting<'a>>, NoMemory>
+    ensures ready { IfOk result (λ move. IsReady is_ready move) }
+    ensures follows { IfOk result (λ move. Follows due (plan_after text.now) move) }
+    ensures fewer { IfOk result (λ move. loads_of left move ≤ 0) }
+{
+    match read(alloc, text)? {
+        Reading::Means(_, spec) => Ok(Move::Tell(plan(alloc, &spec)?)),
         Reading::Refused(told) => Ok(Move::Tell(told)),
     }
 }
@@ -106,6 +122,10 @@ impl<'a> Stage<'a> for Waiting<'a> {
                 Ok(next) => Ok(next),
                 Err(NoMemory) => Err(AllocError),
             },
+            Waiting::Plan => match tell_plan(alloc, &bytes) {
+                Ok(next) => Ok(next),
+                Err(NoMemory) => Err(AllocError),
+            },
             Waiting::Check(image) => match load_image(alloc, &bytes, image) {
                 Ok(next) => Ok(next),
                 Err(NoMemory) => Err(AllocError),
@@ -118,28 +138,36 @@ impl<'a> Stage<'a> for Waiting<'a> {
     }
 }
 
+// What a command does first: it loads the text of its specification.
+fn load_spec<'a>(command: Command<'a>) -> Move<'a, Waiting<'a>>
+    ensures ready { IsReady is_ready result }
+    ensures follows { Follows due (script_of (Some (asked_of command.entry))) result }
+{
+    let (spec, stage) = match command {
+        Command::Check { spec, image } => (spec, Waiting::Check(image)),
+        Command::Plan { spec } => (spec, Waiting::Plan),
+        Command::Text { spec } => (spec, Waiting::Text),
+    };
+    Move::Load {
+        name: spec,
+        limit: SPEC_LIMIT,
+        long: b"too long spec\n",
+        stage,
+    }
+}
+
 impl<'a> Commands<'a> for Waiting<'a> {
     ghost use Rattle.dsr_cli.specs.Commands as commands;
 
     ghost asked = { λ words came next. commands.asked words came next };
 
     fn begin(alloc: Global, words: &'a [String]) -> Result<Move<'a, Self>, AllocError> {
-        if is_usage_of(words) {
-            return match told(alloc, Verdict::Usage, b"usage\n") {
+        match command_of(words) {
+            Some(command) => Ok(load_spec(command)),
+            None => match told(alloc, Verdict::Usage, b"usage\n") {
                 Ok(told) => Ok(Move::Tell(told)),
                 Err(NoMemory) => Err(AllocError),
-            };
+            },
         }
-        let stage = if is_text_of(words) {
-            Waiting::Text
-        } else {
-            Waiting::Check(word_at(words, 2))
-        };
-        Ok(Move::Load {
-            name: word_at(words, 1),
-            limit: SPEC_LIMIT,
-            long: b"too long spec\n",
-            stage,
-        })
     }
 }

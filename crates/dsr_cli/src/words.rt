@@ -1,10 +1,21 @@
 // The words of the command line.
-ghost use Rattle.std.specs.Prelude.{◌≡◌, ◌<◌, ◌≤◌, [], false, length, map, string_bytes};
-ghost use Rattle.std.specs.List.{slice_index_or};
-ghost use Rattle.dsr_cli.specs.Words.{is_usage, is_odd, is_text};
+ghost use Rattle.std.specs.Prelude.{◌≡◌, map, option_map, string_bytes};
+ghost use Rattle.dsr_cli.specs.Asking.{asked_of};
+ghost use Rattle.dsr_cli.specs.Words as said;
 
-fn is_odd_word(word: &str) -> bool
-    ensures { result ≡ is_odd word.now }
+/// A command, with the names of its files.
+#[derive(Clone, Copy)]
+pub enum Command<'a> {
+    /// Whether an image is consistent under a specification.
+    Check { spec: &'a str, image: &'a str },
+    /// The plan of a specification.
+    Plan { spec: &'a str },
+    /// The canonical text of a specification.
+    Text { spec: &'a str },
+}
+
+fn is_odd(word: &str) -> bool
+    ensures { result ≡ said.is_odd word.now }
 {
     match word.as_bytes() {
         [] => true,
@@ -12,35 +23,46 @@ fn is_odd_word(word: &str) -> bool
     }
 }
 
-pub fn word_at(words: &[String], i: usize) -> &str
-    requires { i < length words.now }
-    ensures { result.now ≡ slice_index_or (map string_bytes words.now) i [] }
+// The commands with one name behind them.
+fn with_one<'a>(command: &str, spec: &'a str) -> Option<Command<'a>>
+    ensures { option_map asked_of result ≡ said.with_one command.now spec.now }
 {
-    words[i].as_str()
+    if command == "text" {
+        return Some(Command::Text { spec });
+    }
+    if command == "plan" {
+        return Some(Command::Plan { spec });
+    }
+    None
 }
 
-/// Whether the words are no command.
-pub fn is_usage_of(words: &[String]) -> bool
-    ensures usage { result ≡ is_usage (map string_bytes words.now) }
-    ensures two { result ≡ false → 2 ≤ length words.now }
-    ensures three { result ≡ false → is_text (map string_bytes words.now) ≡ false → length words.now ≡ 3 }
+// Those with two.
+fn with_two<'a>(command: &str, spec: &'a str, file: &'a str) -> Option<Command<'a>>
+    ensures { option_map asked_of result ≡ said.with_two command.now spec.now file.now }
+{
+    if command == "check" {
+        return Some(Command::Check { spec, image: file });
+    }
+    None
+}
+
+/// What the words ask for; none where they are no command.
+pub fn command_of(words: &[String]) -> Option<Command<'_>>
+    ensures { option_map asked_of result ≡ said.command_of (map string_bytes words.now) }
 {
     match words {
-        [a, b] => is_odd_word(a.as_str()) || is_odd_word(b.as_str()) || a.as_str() != "text",
-        [a, b, c] => {
-            is_odd_word(a.as_str())
-                || is_odd_word(b.as_str())
-                || is_odd_word(c.as_str())
-                || a.as_str() != "check"
+        [command, spec] => {
+            if is_odd(spec.as_str()) {
+                return None;
+            }
+            with_one(command.as_str(), spec.as_str())
         }
-        _ => true,
+        [command, spec, file] => {
+            if is_odd(spec.as_str()) || is_odd(file.as_str()) {
+                return None;
+            }
+            with_two(command.as_str(), spec.as_str(), file.as_str())
+        }
+        _ => None,
     }
-}
-
-/// Whether the first word is the command that prints a specification's text.
-pub fn is_text_of(words: &[String]) -> bool
-    requires { 0 < length words.now }
-    ensures { result ≡ is_text (map string_bytes words.now) }
-{
-    word_at(words, 0) == "text"
 }

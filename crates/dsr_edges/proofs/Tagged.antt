@@ -1,7 +1,7 @@
 -- What is told of an update's effect by its tags.
 use Rattle.std.proofs.Common.{◌≡◌, ◌↔◌, ◌||◌, Bool, true, false, not, IsTrue, refl, sym, subst, ◌∙◌}
 use Rattle.std.proofs.lemmas.Bool.{false≢true}
-use Rattle.dsr_breaking.specs.Causes.{symbol_of, way_of}
+use Rattle.dsr_breaking.specs.Causes.{symbol_of, direction_of}
 use Rattle.dsr_breaking.specs.Excuses.{HappensOnlyAt, MayHappen}
 use Rattle.dsr_breaking.specs.declared.causes.Reason.{Reason}
 use Rattle.dsr_edges.specs.Told.{AreTagsOf, is_only_entry, is_only_written, is_some}
@@ -16,14 +16,14 @@ use Rattle.dsr_updating.specs.declared.effects.Tag.TheVariants.{Written, Entry}
 use Rattle.dsr_updating.specs.declared.effects.Tags.{Tags}
 
 -- the tags that the effect has are those of the table
-pub tags_are : (base : Structures) (effect : Effect) (reason : Reason) (tags : Tags) (c : Change) → IsDeclared base (symbol_of reason) → c.spec.base ≡ base → IsEffectOf c effect → ((tag : Tag) → has_tag tag tags ≡ changes base effect (way_of reason) (symbol_of reason) tag) → AreTagsOf c reason tags
+pub tags_are : (base : Structures) (effect : Effect) (reason : Reason) (tags : Tags) (c : Change) → IsDeclared base (symbol_of reason) → c.spec.base ≡ base → IsEffectOf c effect → ((tag : Tag) → has_tag tag tags ≡ changes base effect (direction_of reason) (symbol_of reason) tag) → AreTagsOf c reason tags
 tags_are base effect reason tags c declared same is told =
-    let way = way_of reason in
+    let direction = direction_of reason in
     let symbol = symbol_of reason in
     let there : IsDeclared c.spec.base symbol = subst (λ b. IsDeclared b symbol) (sym same) declared in
     λ tag. (
-      λ has. (is way symbol tag there).0 (subst (λ b. IsTrue (changes b effect way symbol tag)) (sym same) (sym (told tag) ∙ has)),
-      λ has. told tag ∙ subst (λ b. IsTrue (changes b effect way symbol tag)) same ((is way symbol tag there).1 has),
+      λ has. (is direction symbol tag there).0 (subst (λ b. IsTrue (changes b effect direction symbol tag)) (sym same) (sym (told tag) ∙ has)),
+      λ has. told tag ∙ subst (λ b. IsTrue (changes b effect direction symbol tag)) same ((is direction symbol tag there).1 has),
     )
 
 module _ (c : Change) (reason : Reason) (tags : Tags) (are : AreTagsOf c reason tags) where

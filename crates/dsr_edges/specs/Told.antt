@@ -1,6 +1,6 @@
 -- What is told of an update's effect, and of the records that two constraints read.
 use Rattle.std.specs.Prelude.{◌≡◌, ◌↔◌, ◌||◌, Bool, false, not, IsTrue}
-use Rattle.dsr_breaking.specs.Causes.{symbol_of, way_of}
+use Rattle.dsr_breaking.specs.Causes.{symbol_of, direction_of}
 use Rattle.dsr_breaking.specs.Excuses.{AreDifferentRecords, AreTargetsApart, IsBoundOnce}
 use Rattle.dsr_breaking.specs.declared.causes.Cause.{Cause}
 use Rattle.dsr_breaking.specs.declared.causes.Reason.{Reason}
@@ -25,7 +25,7 @@ IsOfDeclared base cause = IsDeclared base (symbol_of cause.reason)
 -- the records at which the update may do it
 abbrev pub AreTagsOf : Change → Reason → Tags → Type 0
 AreTagsOf c reason tags =
-    (tag : Tag) → IsTrue (has_tag tag tags) ↔ InTable c (way_of reason) (symbol_of reason) tag
+    (tag : Tag) → IsTrue (has_tag tag tags) ↔ InTable c (direction_of reason) (symbol_of reason) tag
 
 -- there is such a record
 abbrev pub is_some : Tags → Bool

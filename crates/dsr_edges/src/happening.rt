@@ -11,7 +11,7 @@ ghost use Rattle.dsr_updating.specs.Effects.{IsDeclared};
 use dsr_breaking::Reason;
 use dsr_effect::tags_of;
 use dsr_ir::Structures;
-use dsr_updating::{Effect, Tags, Way};
+use dsr_updating::{Direction, Effect, Tags};
 
 /// The records at which the update may do so.
 pub fn tags_for(base: &Structures, effect: &Effect, reason: Reason) -> Tags
@@ -21,8 +21,8 @@ pub fn tags_for(base: &Structures, effect: &Effect, reason: Reason) -> Tags
         → AreTagsOf c reason result }
 {
     match reason {
-        Reason::Gain(symbol) => tags_of(base, effect, Way::Gain, symbol),
-        Reason::Loss(symbol) => tags_of(base, effect, Way::Loss, symbol),
+        Reason::Gain(symbol) => tags_of(base, effect, Direction::Gain, symbol),
+        Reason::Loss(symbol) => tags_of(base, effect, Direction::Loss, symbol),
     }
 }
 

@@ -16,8 +16,8 @@ use Rattle.dsr_updating.specs.Touching.{IsTouchedAtF, IsTouchedAtW}
 use Rattle.dsr_updating.specs.declared.effects.Tag.{Tag}
 use Rattle.dsr_updating.specs.declared.effects.Tag.TheVariants.{Written, Entry, Fresh, Any}
 use Rattle.dsr_updating.specs.declared.effects.Tags.{Tags}
-use Rattle.dsr_updating.specs.declared.effects.Way.{Way}
-use Rattle.dsr_updating.specs.declared.effects.Way.TheVariants.{Gain, Loss}
+use Rattle.dsr_updating.specs.declared.effects.Direction.{Direction}
+use Rattle.dsr_updating.specs.declared.effects.Direction.TheVariants.{Gain, Loss}
 use Rattle.dsr_effect.proofs.ListItems.{in_back}
 
 joined_has : (a b : Tags) (tag : Tag) → has_tag tag (joined a b) ≡ has_tag tag a || has_tag tag b
@@ -50,15 +50,15 @@ one_joined (r ∷ rows) (suc k) d tags new lt e (suc row) tag =
     )
 
 -- a rule's change was added
-abbrev pub IsAdded : Change → Rule → Way → List Tags → List Tags → Type 0
-IsAdded c rule way before after =
+abbrev pub IsAdded : Change → Rule → Direction → List Tags → List Tags → Type 0
+IsAdded c rule direction before after =
     (row : ℕ) (tag : Tag) → IsTrue (has_row_tag after row tag)
-    ↔ (IsTrue (has_row_tag before row tag) ⊎ (row ≡ row_number c.spec.base way (symbol_of rule.inc)) × MayChange c rule way tag)
+    ↔ (IsTrue (has_row_tag before row tag) ⊎ (row ≡ row_number c.spec.base direction (symbol_of rule.inc)) × MayChange c rule direction tag)
 
-pub is_added : (c : Change) (rule : Rule) (way : Way) (rows : List Tags) (k : ℕ) (d tags new : Tags) → k < length rows → k ≡ row_number c.spec.base way (symbol_of rule.inc) → new ≡ joined (get_or rows k d) tags → ((tag : Tag) → IsTrue (has_tag tag tags) ↔ MayChange c rule way tag) → IsAdded c rule way rows (set rows k new)
-is_added c rule way rows k d tags new lt is e may row tag =
+pub is_added : (c : Change) (rule : Rule) (direction : Direction) (rows : List Tags) (k : ℕ) (d tags new : Tags) → k < length rows → k ≡ row_number c.spec.base direction (symbol_of rule.inc) → new ≡ joined (get_or rows k d) tags → ((tag : Tag) → IsTrue (has_tag tag tags) ↔ MayChange c rule direction tag) → IsAdded c rule direction rows (set rows k new)
+is_added c rule direction rows k d tags new lt is e may row tag =
     let one = one_joined rows k d tags new lt e row tag in (
-      λ h. elim (one.0 h) as (λ _. IsTrue (has_row_tag rows row tag) ⊎ (row ≡ row_number c.spec.base way (symbol_of rule.inc)) × MayChange c rule way tag) [ inl a ↦ inl a | inr b ↦ inr (b.0 ∙ is, (may tag).0 b.1) ],
+      λ h. elim (one.0 h) as (λ _. IsTrue (has_row_tag rows row tag) ⊎ (row ≡ row_number c.spec.base direction (symbol_of rule.inc)) × MayChange c rule direction tag) [ inl a ↦ inl a | inr b ↦ inr (b.0 ∙ is, (may tag).0 b.1) ],
       λ h. one.1 (elim h as (λ _. IsTrue (has_row_tag rows row tag) ⊎ (row ≡ k) × IsTrue (has_tag tag tags)) [ inl a ↦ inl a | inr b ↦ inr (b.0 ∙ sym is, (may tag).1 b.1) ]),
     )
 
@@ -86,8 +86,8 @@ AreAdded c rule before after =
 module _ (c : Change) (rule : Rule) (before middle after : List Tags) (gain : IsAdded c rule Gain before middle) (loss : IsAdded c rule Loss middle after) where
   pub both_added : AreAdded c rule before after
   both_added row tag = (to, from) where
-    of_rule : (way : Way) → (row ≡ row_number c.spec.base way (symbol_of rule.inc)) × MayChange c rule way tag → IsChangedBy c (rule ∷ []) row tag
-    of_rule way f = record { rule = rule; way = way; among = inl refl; row_is = f.0; changes = f.1 }
+    of_rule : (direction : Direction) → (row ≡ row_number c.spec.base direction (symbol_of rule.inc)) × MayChange c rule direction tag → IsChangedBy c (rule ∷ []) row tag
+    of_rule direction f = record { rule = rule; direction = direction; among = inl refl; row_is = f.0; changes = f.1 }
 
     to : IsTrue (has_row_tag after row tag) → IsTrue (has_row_tag before row tag) ⊎ IsChangedBy c (rule ∷ []) row tag
     to h = elim ((loss row tag).0 h) as (λ _. IsTrue (has_row_tag before row tag) ⊎ IsChangedBy c (rule ∷ []) row tag) [
@@ -95,17 +95,17 @@ module _ (c : Change) (rule : Rule) (before middle after : List Tags) (gain : Is
       | inr f ↦ inr (of_rule Loss f)
     ]
 
-    added : (way : Way) → (row ≡ row_number c.spec.base way (symbol_of rule.inc)) × MayChange c rule way tag → IsTrue (has_row_tag after row tag)
+    added : (direction : Direction) → (row ≡ row_number c.spec.base direction (symbol_of rule.inc)) × MayChange c rule direction tag → IsTrue (has_row_tag after row tag)
     added Gain f = (loss row tag).1 (inl ((gain row tag).1 (inr f)))
     added Loss f = (loss row tag).1 (inr f)
 
-    changed : (r : Rule) (way : Way) → r ≡ rule → row ≡ row_number c.spec.base way (symbol_of r.inc) → MayChange c r way tag → IsTrue (has_row_tag after row tag)
-    changed r way same is may = added way (is ∙ ap (λ x. row_number c.spec.base way (symbol_of x.inc)) same, subst (λ x. MayChange c x way tag) same may)
+    changed : (r : Rule) (direction : Direction) → r ≡ rule → row ≡ row_number c.spec.base direction (symbol_of r.inc) → MayChange c r direction tag → IsTrue (has_row_tag after row tag)
+    changed r direction same is may = added direction (is ∙ ap (λ x. row_number c.spec.base direction (symbol_of x.inc)) same, subst (λ x. MayChange c x direction tag) same may)
 
     from : IsTrue (has_row_tag before row tag) ⊎ IsChangedBy c (rule ∷ []) row tag → IsTrue (has_row_tag after row tag)
     from h = elim h as (λ _. IsTrue (has_row_tag after row tag)) [
       | inl b ↦ (loss row tag).1 (inl ((gain row tag).1 (inl b)))
-      | inr f ↦ elim f.among as (λ _. IsTrue (has_row_tag after row tag)) [ inl same ↦ changed f.rule f.way same f.row_is f.changes | inr never ↦ absurd never ]
+      | inr f ↦ elim f.among as (λ _. IsTrue (has_row_tag after row tag)) [ inl same ↦ changed f.rule f.direction same f.row_is f.changes | inr never ↦ absurd never ]
     ]
 
 -- a rule that isn't touched changes nothing
@@ -116,11 +116,11 @@ module _ (c : Change) (rule : Rule) (touch : Touch) (is : IsTouchOf c rule touch
   not_at_f : IsTouchedAtF c rule → ⊥
   not_at_f touched = false≢true (sym off ∙ (ap (λ b. touch.at_w || b) (is.at_f.1 touched) ∙ or-true touch.at_w))
 
-  untouched : (way : Way) (tag : Tag) → MayChange c rule way tag → ⊥
-  untouched way tag (gain_at_w touched rest) = not_at_w touched
-  untouched way tag (loss_at_w touched rest) = not_at_w touched
-  untouched way tag (gain_at_f touched rest) = not_at_f touched
-  untouched way tag (loss_at_f touched rest) = not_at_f touched
+  untouched : (direction : Direction) (tag : Tag) → MayChange c rule direction tag → ⊥
+  untouched direction tag (gain_at_w touched rest) = not_at_w touched
+  untouched direction tag (loss_at_w touched rest) = not_at_w touched
+  untouched direction tag (gain_at_f touched rest) = not_at_f touched
+  untouched direction tag (loss_at_f touched rest) = not_at_f touched
 
   pub none_added : (rows : List Tags) → AreAdded c rule rows rows
   none_added rows row tag = (
@@ -128,7 +128,7 @@ module _ (c : Change) (rule : Rule) (touch : Touch) (is : IsTouchOf c rule touch
     λ h. elim h as (λ _. IsTrue (has_row_tag rows row tag)) [
       | inl b ↦ b
       | inr f ↦ elim f.among as (λ _. IsTrue (has_row_tag rows row tag)) [
-        | inl same ↦ absurd (untouched f.way tag (subst (λ r. MayChange c r f.way tag) same f.changes))
+        | inl same ↦ absurd (untouched f.direction tag (subst (λ r. MayChange c r f.direction tag) same f.changes))
         | inr never ↦ absurd never
       ]
     ],
@@ -138,11 +138,11 @@ module _ (c : Change) (rule : Rule) (touch : Touch) (is : IsTouchOf c rule touch
 pub changed_more : (c : Change) (rules more : List Rule) (rule : Rule) (before after : List Tags) → more ≡ rules ++ rule ∷ [] → AreChanged c rules before → AreAdded c rule before after → AreChanged c more after
 changed_more c rules more rule before after is are added = rw is (λ row tag. (
   λ h. elim ((added row tag).0 h) as (λ _. IsChangedBy c (rules ++ rule ∷ []) row tag) [
-    | inl b ↦ let f = (are row tag).0 b in record { rule = f.rule; way = f.way; among = in_front f.rule rules (rule ∷ []) f.among; row_is = f.row_is; changes = f.changes }
-    | inr f ↦ record { rule = f.rule; way = f.way; among = in_back f.rule rules (rule ∷ []) f.among; row_is = f.row_is; changes = f.changes }
+    | inl b ↦ let f = (are row tag).0 b in record { rule = f.rule; direction = f.direction; among = in_front f.rule rules (rule ∷ []) f.among; row_is = f.row_is; changes = f.changes }
+    | inr f ↦ record { rule = f.rule; direction = f.direction; among = in_back f.rule rules (rule ∷ []) f.among; row_is = f.row_is; changes = f.changes }
   ],
   λ f. elim (in_front_or_last rule f.rule rules f.among) as (λ _. IsTrue (has_row_tag after row tag)) [
-    | inl front ↦ (added row tag).1 (inl ((are row tag).1 (record { rule = f.rule; way = f.way; among = front; row_is = f.row_is; changes = f.changes })))
-    | inr same ↦ (added row tag).1 (inr (record { rule = f.rule; way = f.way; among = inl same; row_is = f.row_is; changes = f.changes }))
+    | inl front ↦ (added row tag).1 (inl ((are row tag).1 (record { rule = f.rule; direction = f.direction; among = front; row_is = f.row_is; changes = f.changes })))
+    | inr same ↦ (added row tag).1 (inr (record { rule = f.rule; direction = f.direction; among = inl same; row_is = f.row_is; changes = f.changes }))
   ],
 ))

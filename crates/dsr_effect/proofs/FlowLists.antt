@@ -16,13 +16,13 @@ use Rattle.dsr_meaning.specs.Models.{base_of}
 use Rattle.dsr_meaning.proofs.Lists.{in_front, in_front_or_last, last_in}
 use Rattle.dsr_facts.proofs.Taking.{each_more}
 use Rattle.dsr_updating.specs.Changes.{Change}
-use Rattle.dsr_updating.specs.Effects.{IsLeftOut, other_way}
+use Rattle.dsr_updating.specs.Effects.{IsLeftOut, other_direction}
 use Rattle.dsr_updating.specs.Givers.{is_own}
 use Rattle.dsr_updating.specs.Touching.{IsBlockedAtF, IsBlockedAtW}
 use Rattle.dsr_updating.specs.declared.effects.Tag.{Tag}
 use Rattle.dsr_updating.specs.declared.effects.Tag.TheVariants.{Written, Entry, Fresh, Any}
-use Rattle.dsr_updating.specs.declared.effects.Way.{Way}
-use Rattle.dsr_updating.specs.declared.effects.Way.TheVariants.{Gain, Loss}
+use Rattle.dsr_updating.specs.declared.effects.Direction.{Direction}
+use Rattle.dsr_updating.specs.declared.effects.Direction.TheVariants.{Gain, Loss}
 use Rattle.dsr_effect.proofs.ListItems.{in_back, in_either}
 
 -- ---- what the premise of one rule hands on
@@ -32,10 +32,10 @@ not_so true P tells = (λ h. absurd cc, λ h. absurd (h (tells.0 refl)))
 not_so false P tells = (λ h p. let so = tells.1 p in absurd cc, λ h. refl)
 
 -- a flow with these ends hands on what the rule's premise does
-pub record HasEnds (c : Change) (rule : Rule) (premise : ℕ) (way : Way) (flow : Flow) : Type 0 where
+pub record HasEnds (c : Change) (rule : Rule) (premise : ℕ) (direction : Direction) (flow : Flow) : Type 0 where
   pub premise_is : rule.premise ≡ Some premise
-  pub from : flow.from ≡ row_number c.spec.base way (Set premise)
-  pub to : flow.to ≡ row_number c.spec.base way (symbol_of rule.inc)
+  pub from : flow.from ≡ row_number c.spec.base direction (Set premise)
+  pub to : flow.to ≡ row_number c.spec.base direction (symbol_of rule.inc)
   pub keeps : flow.keeps ≡ is_own rule.inc
 
 pub gain_passing : (c : Change) (rule : Rule) (premise : ℕ) (flow : Flow) → HasEnds c rule premise Gain flow → Decides flow.without_written (IsBlockedAtW c rule true) → Decides flow.without_fresh (IsBlockedAtF c rule) → IsPassing c rule premise Gain flow
@@ -57,7 +57,7 @@ loss_passing c rule premise flow ends with_w with_f = record { premise_is = ends
 -- ---- of some rules, with one more
 
 pub no_flows : (c : Change) → AreRuleFlows c [] []
-no_flows c = record { sound = λ flow is_in. absurd is_in; all = λ rule premise way is_in is. absurd is_in }
+no_flows c = record { sound = λ flow is_in. absurd is_in; all = λ rule premise direction is_in is. absurd is_in }
 
 module _ (c : Change) (rules : List Rule) (rule : Rule) (flows : List Flow) (are : AreRuleFlows c rules flows) where
   earlier : (flow : Flow) → IsIn flow flows → IsRuleFlow c (rules ++ rule ∷ []) flow
@@ -66,17 +66,17 @@ module _ (c : Change) (rules : List Rule) (rule : Rule) (flows : List Flow) (are
   same_flows : rule.premise ≡ None → AreRuleFlows c (rules ++ rule ∷ []) flows
   same_flows without = record {
     sound = earlier;
-    all = λ r premise way among is. elim (in_front_or_last rule r rules among) as (λ _. (flow : Flow) × IsIn flow flows × IsPassing c r premise way flow) [
-      | inl front ↦ are.all r premise way front is
+    all = λ r premise direction among is. elim (in_front_or_last rule r rules among) as (λ _. (flow : Flow) × IsIn flow flows × IsPassing c r premise direction flow) [
+      | inl front ↦ are.all r premise direction front is
       | inr same ↦ let never : None ≡ Some premise = sym without ∙ sym (ap (λ x. x.premise) same) ∙ is in absurd cc
     ];
   }
 
   module _ (under : ℕ) (gain loss : Flow) (passes_gain : IsPassing c rule under Gain gain) (passes_loss : IsPassing c rule under Loss loss) where
-    new_flow : (flow : Flow) (way : Way) (of_way : Flow) → flow ≡ of_way → IsPassing c rule under way of_way → IsRuleFlow c (rules ++ rule ∷ []) flow
-    new_flow flow way of_way same passing = (rule, under, way, last_in rule rules, subst (IsPassing c rule under way) (sym same) passing)
+    new_flow : (flow : Flow) (direction : Direction) (of_direction : Flow) → flow ≡ of_direction → IsPassing c rule under direction of_direction → IsRuleFlow c (rules ++ rule ∷ []) flow
+    new_flow flow direction of_direction same passing = (rule, under, direction, last_in rule rules, subst (IsPassing c rule under direction) (sym same) passing)
 
-    last_flow : (way : Way) → (flow : Flow) × IsIn flow (gain ∷ loss ∷ []) × IsPassing c rule under way flow
+    last_flow : (direction : Direction) → (flow : Flow) × IsIn flow (gain ∷ loss ∷ []) × IsPassing c rule under direction flow
     last_flow Gain = (gain, inl refl, passes_gain)
     last_flow Loss = (loss, inr (inl refl), passes_loss)
 
@@ -89,13 +89,13 @@ module _ (c : Change) (rules : List Rule) (rule : Rule) (flows : List Flow) (are
           | inr next ↦ elim next as (λ _. IsRuleFlow c (rules ++ rule ∷ []) flow) [ inl same ↦ new_flow flow Loss loss same passes_loss | inr never ↦ absurd never ]
         ]
       ];
-      all = λ r premise way among is. elim (in_front_or_last rule r rules among) as (λ _. (flow : Flow) × IsIn flow (flows ++ gain ∷ loss ∷ []) × IsPassing c r premise way flow) [
-        | inl front ↦ let f = are.all r premise way front is in (f.0, in_front f.0 flows (gain ∷ loss ∷ []) f.1, f.2)
+      all = λ r premise direction among is. elim (in_front_or_last rule r rules among) as (λ _. (flow : Flow) × IsIn flow (flows ++ gain ∷ loss ∷ []) × IsPassing c r premise direction flow) [
+        | inl front ↦ let f = are.all r premise direction front is in (f.0, in_front f.0 flows (gain ∷ loss ∷ []) f.1, f.2)
         | inr same ↦
-            let f = last_flow way in
+            let f = last_flow direction in
             let it : Some under ≡ Some premise = sym passes_gain.premise_is ∙ sym (ap (λ x. x.premise) same) ∙ is in
             let number : under ≡ premise = cc in
-            (f.0, in_back f.0 flows (gain ∷ loss ∷ []) f.1, subst (λ x. IsPassing c x premise way f.0) (sym same) (subst (λ n. IsPassing c rule n way f.0) number f.2))
+            (f.0, in_back f.0 flows (gain ∷ loss ∷ []) f.1, subst (λ x. IsPassing c x premise direction f.0) (sym same) (subst (λ n. IsPassing c rule n direction f.0) number f.2))
       ];
     }
 
@@ -138,9 +138,9 @@ from_each f n (x ∷ xs) y is_in = elim (in_either y (f n x) (each_at f (suc n) 
 ]
 
 module _ (c : Change) where
-  swapping : (set base : ℕ) (way : Way) → base_of c.spec set ≡ Some base → IsSwapping c set base way (swapped_flow c.spec.base set base way (other_way way))
-  swapping set base way is = record { base_is = is; from = refl; to = refl; keeps = refl; hands = hands } where
-    hands : (tag : Tag) → IsTrue (is_open (swapped_flow c.spec.base set base way (other_way way)) tag)
+  swapping : (set base : ℕ) (direction : Direction) → base_of c.spec set ≡ Some base → IsSwapping c set base direction (swapped_flow c.spec.base set base direction (other_direction direction))
+  swapping set base direction is = record { base_is = is; from = refl; to = refl; keeps = refl; hands = hands } where
+    hands : (tag : Tag) → IsTrue (is_open (swapped_flow c.spec.base set base direction (other_direction direction)) tag)
     hands Written = refl
     hands Entry = refl
     hands Fresh = refl
@@ -162,20 +162,20 @@ module _ (c : Change) where
             ]
       ] refl is_in
 
-  both_ways : (set under : ℕ) (way : Way) → IsIn (swapped_flow c.spec.base set under way (other_way way)) (swapped_flow c.spec.base set under Gain Loss ∷ swapped_flow c.spec.base set under Loss Gain ∷ [])
-  both_ways set under Gain = inl refl
-  both_ways set under Loss = inr (inl refl)
+  both_directions : (set under : ℕ) (direction : Direction) → IsIn (swapped_flow c.spec.base set under direction (other_direction direction)) (swapped_flow c.spec.base set under Gain Loss ∷ swapped_flow c.spec.base set under Loss Gain ∷ [])
+  both_directions set under Gain = inl refl
+  both_directions set under Loss = inr (inl refl)
 
   -- each complement's flow is in the list
-  is_listed : (set base : ℕ) (way : Way) → base_of c.spec set ≡ Some base → IsIn (swapped_flow c.spec.base set base way (other_way way)) (each_at (complement_flows c.spec.base) 0 c.spec.base.sets)
-  is_listed set base way is =
-      let flow = swapped_flow c.spec.base set base way (other_way way) in
+  is_listed : (set base : ℕ) (direction : Direction) → base_of c.spec set ≡ Some base → IsIn (swapped_flow c.spec.base set base direction (other_direction direction)) (each_at (complement_flows c.spec.base) 0 c.spec.base.sets)
+  is_listed set base direction is =
+      let flow = swapped_flow c.spec.base set base direction (other_direction direction) in
       elim (slice_get c.spec.base.sets set) as (λ o. slice_get c.spec.base.sets set ≡ o → option_and_then (λ x. x.except) o ≡ Some base → IsIn flow (each_at (complement_flows c.spec.base) 0 c.spec.base.sets)) [
         | None ↦ λ at e. absurd cc
         | Some d ↦ λ at e.
             let here : set ≡ 0 + set = omega arith in
             in_each (complement_flows c.spec.base) 0 set set c.spec.base.sets d flow at here
-            (subst (λ o. IsIn flow (option_map_or (λ under. swapped_flow c.spec.base set under Gain Loss ∷ swapped_flow c.spec.base set under Loss Gain ∷ []) o [])) (sym e) (both_ways set base way))
+            (subst (λ o. IsIn flow (option_map_or (λ under. swapped_flow c.spec.base set under Gain Loss ∷ swapped_flow c.spec.base set under Loss Gain ∷ []) o [])) (sym e) (both_directions set base direction))
       ] refl is
 
   -- with those of all complements behind those of all rules, these are all
@@ -189,8 +189,8 @@ module _ (c : Change) where
               let same : o.number ≡ o.place = omega (arith, o.at) in
               inr (of_complement flow o.number o.item (subst (λ k. slice_get c.spec.base.sets k ≡ Some o.item) (sym same) o.is) o.is_in)
         ];
-        rules = λ rule premise way among is. let f = are.all rule premise way among is in (f.0, in_front f.0 flows swaps f.1, f.2);
-        complements = λ set base way is. (swapped_flow c.spec.base set base way (other_way way), in_back _ flows swaps (is_listed set base way is), swapping set base way is);
+        rules = λ rule premise direction among is. let f = are.all rule premise direction among is in (f.0, in_front f.0 flows swaps f.1, f.2);
+        complements = λ set base direction is. (swapped_flow c.spec.base set base direction (other_direction direction), in_back _ flows swaps (is_listed set base direction is), swapping set base direction is);
       }
 
 -- one set more

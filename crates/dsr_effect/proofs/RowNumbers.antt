@@ -15,31 +15,31 @@ use Rattle.dsr_meaning.specs.Models.{base_of}
 use Rattle.dsr_meaning.specs.Typed.{IsPlainSetOf, IsTyped, IsTypedInc, IsTypedRule, IsTypedSet}
 use Rattle.dsr_meaning.proofs.Firing.{found_fits}
 use Rattle.dsr_updating.specs.Effects.{IsDeclared}
-use Rattle.dsr_updating.specs.declared.effects.Way.{Way}
-use Rattle.dsr_updating.specs.declared.effects.Way.TheVariants.{Gain, Loss}
+use Rattle.dsr_updating.specs.declared.effects.Direction.{Direction}
+use Rattle.dsr_updating.specs.declared.effects.Direction.TheVariants.{Gain, Loss}
 use Rattle.dsr_effect.proofs.ListItems.{of_all, within}
 
-pub row_below : (base : Structures) (way : Way) (symbol : Symbol) → IsDeclared base symbol → row_number base way symbol < symbol_count base + symbol_count base
+pub row_below : (base : Structures) (direction : Direction) (symbol : Symbol) → IsDeclared base symbol → row_number base direction symbol < symbol_count base + symbol_count base
 row_below base Gain (Set set) lt = omega (arith, lt)
 row_below base Gain (Rel rel) lt = omega (arith, lt)
 row_below base Loss (Set set) lt = omega (arith, lt)
 row_below base Loss (Rel rel) lt = omega (arith, lt)
 
--- a way and a symbol are this way and this symbol
-pub record AreSame (way of_way : Way) (symbol of_symbol : Symbol) : Type 0 where
-  pub way_is : way ≡ of_way
+-- a direction and a symbol are these
+pub record AreSame (direction of_direction : Direction) (symbol of_symbol : Symbol) : Type 0 where
+  pub direction_is : direction ≡ of_direction
   pub symbol_is : symbol ≡ of_symbol
 
 module _ (base : Structures) where
-  pub row_once : (w v : Way) (s t : Symbol) → IsDeclared base s → IsDeclared base t → row_number base w s ≡ row_number base v t → AreSame w v s t
-  row_once Gain Gain (Set i) (Set j) p q e = record { way_is = refl; symbol_is = ap Set e }
+  pub row_once : (w v : Direction) (s t : Symbol) → IsDeclared base s → IsDeclared base t → row_number base w s ≡ row_number base v t → AreSame w v s t
+  row_once Gain Gain (Set i) (Set j) p q e = record { direction_is = refl; symbol_is = ap Set e }
   row_once Gain Gain (Set i) (Rel j) p q e = absurd (omega (arith, p, e))
   row_once Gain Gain (Rel i) (Set j) p q e = absurd (omega (arith, q, e))
-  row_once Gain Gain (Rel i) (Rel j) p q e = let same : i ≡ j = omega (arith, e) in record { way_is = refl; symbol_is = ap Rel same }
-  row_once Loss Loss (Set i) (Set j) p q e = let same : i ≡ j = omega (arith, e) in record { way_is = refl; symbol_is = ap Set same }
+  row_once Gain Gain (Rel i) (Rel j) p q e = let same : i ≡ j = omega (arith, e) in record { direction_is = refl; symbol_is = ap Rel same }
+  row_once Loss Loss (Set i) (Set j) p q e = let same : i ≡ j = omega (arith, e) in record { direction_is = refl; symbol_is = ap Set same }
   row_once Loss Loss (Set i) (Rel j) p q e = absurd (omega (arith, p, e))
   row_once Loss Loss (Rel i) (Set j) p q e = absurd (omega (arith, q, e))
-  row_once Loss Loss (Rel i) (Rel j) p q e = let same : i ≡ j = omega (arith, e) in record { way_is = refl; symbol_is = ap Rel same }
+  row_once Loss Loss (Rel i) (Rel j) p q e = let same : i ≡ j = omega (arith, e) in record { direction_is = refl; symbol_is = ap Rel same }
   row_once Gain Loss (Set i) (Set j) p q e = absurd (omega (arith, p, e))
   row_once Gain Loss (Set i) (Rel j) p q e = absurd (omega (arith, p, e))
   row_once Gain Loss (Rel i) (Set j) p q e = absurd (omega (arith, p, e))

@@ -11,12 +11,12 @@ use Rattle.dsr_ir.specs.declared.updates.Symbol.{Symbol}
 use Rattle.dsr_ir.specs.declared.updates.Symbol.TheVariants.{Set, Rel}
 use Rattle.dsr_meaning.specs.Typed.{IsTyped}
 use Rattle.dsr_updating.specs.Changes.{Change}
-use Rattle.dsr_updating.specs.Effects.{InTable, touched, passed, swapped, IsDeclared, changes, has_tag, other_way, symbol_number, tag_passed}
+use Rattle.dsr_updating.specs.Effects.{InTable, touched, passed, swapped, IsDeclared, changes, has_tag, other_direction, symbol_number, tag_passed}
 use Rattle.dsr_updating.specs.declared.effects.Tag.{Tag}
 use Rattle.dsr_updating.specs.declared.effects.Tag.TheVariants.{Any}
 use Rattle.dsr_updating.specs.declared.effects.Tags.{Tags}
-use Rattle.dsr_updating.specs.declared.effects.Way.{Way}
-use Rattle.dsr_updating.specs.declared.effects.Way.TheVariants.{Gain, Loss}
+use Rattle.dsr_updating.specs.declared.effects.Direction.{Direction}
+use Rattle.dsr_updating.specs.declared.effects.Direction.TheVariants.{Gain, Loss}
 use Rattle.dsr_effect.proofs.RowNumbers.{complement_declared, given_declared, premise_declared, row_below, row_once}
 use Rattle.dsr_effect.proofs.ListItems.{all_in}
 
@@ -30,63 +30,63 @@ module _ (c : Change) (typed : IsTyped c.spec) (flows : List Flow) (are : AreFlo
     }
     | inr f ↦ let p : IsSwapping c f.0 f.1 f.2 flow = f.3 in let both = complement_declared c.spec typed f.0 f.1 p.base_is in record {
       from = rw p.from (row_below c.spec.base f.2 (Set f.1) both.1);
-      to = rw p.to (row_below c.spec.base (other_way f.2) (Set f.0) both.0);
+      to = rw p.to (row_below c.spec.base (other_direction f.2) (Set f.0) both.0);
     }
   ]))
 
   module _ (rows : List Tags) (first : (row : ℕ) (tag : Tag) → IsTrue (has_row_tag rows row tag) ↔ IsChangedBy c c.spec.rules row tag) where
     -- what is in the table is handed on
-    there : {way : Way} {symbol : Symbol} {tag : Tag} → InTable c way symbol tag → IsHandedOn flows rows (row_number c.spec.base way symbol) tag
-    there (touched rule way tag among may) =
-        let row = row_number c.spec.base way (symbol_of rule.inc) in
-        begins row tag ((first row tag).1 (record { rule = rule; way = way; among = among; row_is = refl; changes = may }))
-    there (passed rule premise way tag among is before in_place) =
-        let f = are.rules rule premise way among is in
+    there : {direction : Direction} {symbol : Symbol} {tag : Tag} → InTable c direction symbol tag → IsHandedOn flows rows (row_number c.spec.base direction symbol) tag
+    there (touched rule direction tag among may) =
+        let row = row_number c.spec.base direction (symbol_of rule.inc) in
+        begins row tag ((first row tag).1 (record { rule = rule; direction = direction; among = among; row_is = refl; changes = may }))
+    there (passed rule premise direction tag among is before in_place) =
+        let f = are.rules rule premise direction among is in
         let flow : Flow = f.0 in
-        let p : IsPassing c rule premise way flow = f.2 in
+        let p : IsPassing c rule premise direction flow = f.2 in
         let from = subst (λ r. IsHandedOn flows rows r tag) (sym p.from) (there before) in
         let to = goes flow tag f.1 from ((p.hands tag).1 in_place) in
-        subst (λ t. IsHandedOn flows rows (row_number c.spec.base way (symbol_of rule.inc)) t) (ap (λ k. if k then tag else Any) p.keeps)
+        subst (λ t. IsHandedOn flows rows (row_number c.spec.base direction (symbol_of rule.inc)) t) (ap (λ k. if k then tag else Any) p.keeps)
         (subst (λ r. IsHandedOn flows rows r (tag_after flow tag)) p.to to)
-    there (swapped set base way tag is before) =
-        let f = are.complements set base way is in
+    there (swapped set base direction tag is before) =
+        let f = are.complements set base direction is in
         let flow : Flow = f.0 in
-        let p : IsSwapping c set base way flow = f.2 in
+        let p : IsSwapping c set base direction flow = f.2 in
         let from = subst (λ r. IsHandedOn flows rows r tag) (sym p.from) (there before) in
         let to = goes flow tag f.1 from (p.hands tag) in
-        subst (λ t. IsHandedOn flows rows (row_number c.spec.base (other_way way) (Set set)) t) (ap (λ k. if k then tag else Any) p.keeps)
+        subst (λ t. IsHandedOn flows rows (row_number c.spec.base (other_direction direction) (Set set)) t) (ap (λ k. if k then tag else Any) p.keeps)
         (subst (λ r. IsHandedOn flows rows r (tag_after flow tag)) p.to to)
 
-    named : (w v : Way) (s t : Symbol) (tag : Tag) → IsDeclared c.spec.base s → IsDeclared c.spec.base t → row_number c.spec.base w s ≡ row_number c.spec.base v t → InTable c w s tag → InTable c v t tag
+    named : (w v : Direction) (s t : Symbol) (tag : Tag) → IsDeclared c.spec.base s → IsDeclared c.spec.base t → row_number c.spec.base w s ≡ row_number c.spec.base v t → InTable c w s tag → InTable c v t tag
     named w v s t tag p q e h =
         let same = row_once c.spec.base w v s t p q e in
-        subst (λ x. InTable c x t tag) same.way_is (subst (λ x. InTable c w x tag) same.symbol_is h)
+        subst (λ x. InTable c x t tag) same.direction_is (subst (λ x. InTable c w x tag) same.symbol_is h)
 
     -- what is handed on is in the table
-    back : {row : ℕ} {tag : Tag} → IsHandedOn flows rows row tag → (way : Way) (symbol : Symbol) → IsDeclared c.spec.base symbol → row ≡ row_number c.spec.base way symbol → InTable c way symbol tag
-    back (begins row tag has) way symbol declared is =
+    back : {row : ℕ} {tag : Tag} → IsHandedOn flows rows row tag → (direction : Direction) (symbol : Symbol) → IsDeclared c.spec.base symbol → row ≡ row_number c.spec.base direction symbol → InTable c direction symbol tag
+    back (begins row tag has) direction symbol declared is =
         let f = (first row tag).0 has in
-        named f.way way (symbol_of f.rule.inc) symbol tag (given_declared c.spec typed f.rule f.among) declared (sym f.row_is ∙ is) (touched f.rule f.way tag f.among f.changes)
-    back (goes flow tag among before goes_on) way symbol declared is = elim (are.sound flow among) as (λ _. InTable c way symbol (tag_after flow tag)) [
+        named f.direction direction (symbol_of f.rule.inc) symbol tag (given_declared c.spec typed f.rule f.among) declared (sym f.row_is ∙ is) (touched f.rule f.direction tag f.among f.changes)
+    back (goes flow tag among before goes_on) direction symbol declared is = elim (are.sound flow among) as (λ _. InTable c direction symbol (tag_after flow tag)) [
       | inl f ↦
           let p : IsPassing c f.0 f.1 f.2 flow = f.4 in
           let from : InTable c f.2 (Set f.1) tag = back before f.2 (Set f.1) (premise_declared c.spec typed f.0 f.1 f.3 p.premise_is) p.from in
           let to = passed f.0 f.1 f.2 tag f.3 p.premise_is from ((p.hands tag).0 goes_on) in
-          subst (InTable c way symbol) (sym (ap (λ k. if k then tag else Any) p.keeps))
-          (named f.2 way (symbol_of f.0.inc) symbol (tag_passed f.0.inc tag) (given_declared c.spec typed f.0 f.3) declared (sym p.to ∙ is) to)
+          subst (InTable c direction symbol) (sym (ap (λ k. if k then tag else Any) p.keeps))
+          (named f.2 direction (symbol_of f.0.inc) symbol (tag_passed f.0.inc tag) (given_declared c.spec typed f.0 f.3) declared (sym p.to ∙ is) to)
       | inr f ↦
           let p : IsSwapping c f.0 f.1 f.2 flow = f.3 in
           let both = complement_declared c.spec typed f.0 f.1 p.base_is in
           let from : InTable c f.2 (Set f.1) tag = back before f.2 (Set f.1) both.1 p.from in
           let to = swapped f.0 f.1 f.2 tag p.base_is from in
-          subst (InTable c way symbol) (sym (ap (λ k. if k then tag else Any) p.keeps))
-          (named (other_way f.2) way (Set f.0) symbol tag both.0 declared (sym p.to ∙ is) to)
+          subst (InTable c direction symbol) (sym (ap (λ k. if k then tag else Any) p.keeps))
+          (named (other_direction f.2) direction (Set f.0) symbol tag both.0 declared (sym p.to ∙ is) to)
     ]
 
-    pub table_exact : (settled : List Tags) → ((row : ℕ) (tag : Tag) → IsTrue (has_row_tag settled row tag) ↔ IsHandedOn flows rows row tag) → (way : Way) (symbol : Symbol) (tag : Tag) → IsDeclared c.spec.base symbol → IsTrue (has_row_tag settled (row_number c.spec.base way symbol) tag) ↔ InTable c way symbol tag
-    table_exact settled exactly way symbol tag declared =
-        let row = row_number c.spec.base way symbol in
-        (λ has. back ((exactly row tag).0 has) way symbol declared refl, λ h. (exactly row tag).1 (there h))
+    pub table_exact : (settled : List Tags) → ((row : ℕ) (tag : Tag) → IsTrue (has_row_tag settled row tag) ↔ IsHandedOn flows rows row tag) → (direction : Direction) (symbol : Symbol) (tag : Tag) → IsDeclared c.spec.base symbol → IsTrue (has_row_tag settled (row_number c.spec.base direction symbol) tag) ↔ InTable c direction symbol tag
+    table_exact settled exactly direction symbol tag declared =
+        let row = row_number c.spec.base direction symbol in
+        (λ has. back ((exactly row tag).0 has) direction symbol declared refl, λ h. (exactly row tag).1 (there h))
 
 -- ---- the two halves of the rows
 
@@ -106,7 +106,7 @@ number_below base (Set set) lt = omega (arith, lt)
 number_below base (Rel rel) lt = omega (arith, lt)
 
 -- the effect has what the rows have
-pub halves_tell : (base : Structures) (settled gains losses : List Tags) → gains ≡ take (symbol_count base) settled → losses ≡ drop (symbol_count base) settled → (way : Way) (symbol : Symbol) (tag : Tag) → IsDeclared base symbol → changes base (record { gains = gains; losses = losses }) way symbol tag ≡ has_row_tag settled (row_number base way symbol) tag
+pub halves_tell : (base : Structures) (settled gains losses : List Tags) → gains ≡ take (symbol_count base) settled → losses ≡ drop (symbol_count base) settled → (direction : Direction) (symbol : Symbol) (tag : Tag) → IsDeclared base symbol → changes base (record { gains = gains; losses = losses }) direction symbol tag ≡ has_row_tag settled (row_number base direction symbol) tag
 halves_tell base settled gains losses front back Gain symbol tag declared =
     ap (λ rows. option_map_or (has_tag tag) (slice_get rows (symbol_number base symbol)) false) front
     ∙ ap (λ o. option_map_or (has_tag tag) o false) (in_front_half settled (symbol_count base) (symbol_number base symbol) (number_below base symbol declared))

@@ -10,8 +10,8 @@ use Rattle.dsr_updating.specs.Effects.MayChange.{gain_at_f, gain_at_w, loss_at_f
 use Rattle.dsr_updating.specs.declared.effects.Tag.{Tag}
 use Rattle.dsr_updating.specs.declared.effects.Tag.TheVariants.{Written, Entry, Fresh, Any}
 use Rattle.dsr_updating.specs.declared.effects.Tags.{Tags}
-use Rattle.dsr_updating.specs.declared.effects.Way.{Way}
-use Rattle.dsr_updating.specs.declared.effects.Way.TheVariants.{Gain, Loss}
+use Rattle.dsr_updating.specs.declared.effects.Direction.{Direction}
+use Rattle.dsr_updating.specs.declared.effects.Direction.TheVariants.{Gain, Loss}
 
 own_tag : (tag : Tag) → has_tag tag (only tag) ≡ true
 own_tag Written = refl
@@ -73,30 +73,30 @@ joined_has a b Fresh = refl
 joined_has a b Any = refl
 
 module _ (c : Change) (rule : Rule) where
-  at_either : (way : Way) (tag : Tag) → MayChange c rule way tag → MayChangeAtW c rule way tag ⊎ MayChangeAtF c rule way tag
-  at_either way tag (gain_at_w touched rest) = inl ((touched, rest), refl)
-  at_either way tag (loss_at_w touched rest) = inl ((touched, rest), refl)
-  at_either way tag (gain_at_f touched rest) = inr ((touched, rest), refl)
-  at_either way tag (loss_at_f touched rest) = inr ((touched, rest), refl)
+  at_either : (direction : Direction) (tag : Tag) → MayChange c rule direction tag → MayChangeAtW c rule direction tag ⊎ MayChangeAtF c rule direction tag
+  at_either direction tag (gain_at_w touched rest) = inl ((touched, rest), refl)
+  at_either direction tag (loss_at_w touched rest) = inl ((touched, rest), refl)
+  at_either direction tag (gain_at_f touched rest) = inr ((touched, rest), refl)
+  at_either direction tag (loss_at_f touched rest) = inr ((touched, rest), refl)
 
-  of_w : (way : Way) (tag : Tag) → MayChangeAtW c rule way tag → MayChange c rule way tag
+  of_w : (direction : Direction) (tag : Tag) → MayChangeAtW c rule direction tag → MayChange c rule direction tag
   of_w Gain tag w = subst (MayChange c rule Gain) (sym w.1) (gain_at_w w.0.0 w.0.1)
   of_w Loss tag w = subst (MayChange c rule Loss) (sym w.1) (loss_at_w w.0.0 w.0.1)
 
-  of_f : (way : Way) (tag : Tag) → MayChangeAtF c rule way tag → MayChange c rule way tag
+  of_f : (direction : Direction) (tag : Tag) → MayChangeAtF c rule direction tag → MayChange c rule direction tag
   of_f Gain tag w = subst (MayChange c rule Gain) (sym w.1) (gain_at_f w.0.0 w.0.1)
   of_f Loss tag w = subst (MayChange c rule Loss) (sym w.1) (loss_at_f w.0.0 w.0.1)
 
-  pub may_change_by : (way : Way) (a b tags : Tags) → tags ≡ joined a b
-      → ((tag : Tag) → IsTrue (has_tag tag a) ↔ MayChangeAtW c rule way tag)
-      → ((tag : Tag) → IsTrue (has_tag tag b) ↔ MayChangeAtF c rule way tag)
-      → (tag : Tag) → IsTrue (has_tag tag tags) ↔ MayChange c rule way tag
-  may_change_by way a b tags are at_w at_f tag = (
+  pub may_change_by : (direction : Direction) (a b tags : Tags) → tags ≡ joined a b
+      → ((tag : Tag) → IsTrue (has_tag tag a) ↔ MayChangeAtW c rule direction tag)
+      → ((tag : Tag) → IsTrue (has_tag tag b) ↔ MayChangeAtF c rule direction tag)
+      → (tag : Tag) → IsTrue (has_tag tag tags) ↔ MayChange c rule direction tag
+  may_change_by direction a b tags are at_w at_f tag = (
     λ h. elim (either (has_tag tag a) (has_tag tag b) (sym (joined_has a b tag) ∙ (ap (has_tag tag) (sym are) ∙ h))) [
-      | inl w ↦ of_w way tag ((at_w tag).0 w)
-      | inr f ↦ of_f way tag ((at_f tag).0 f)
+      | inl w ↦ of_w direction tag ((at_w tag).0 w)
+      | inr f ↦ of_f direction tag ((at_f tag).0 f)
     ],
-    λ m. ap (has_tag tag) are ∙ (joined_has a b tag ∙ (elim (at_either way tag m) [
+    λ m. ap (has_tag tag) are ∙ (joined_has a b tag ∙ (elim (at_either direction tag m) [
       | inl w ↦ left_or (has_tag tag a) (has_tag tag b) ((at_w tag).1 w)
       | inr f ↦ right_or (has_tag tag a) (has_tag tag b) ((at_f tag).1 f)
     ])),

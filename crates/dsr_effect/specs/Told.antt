@@ -21,8 +21,8 @@ use Rattle.dsr_updating.specs.Effects.{tag_at_f, tag_at_w}
 use Rattle.dsr_updating.specs.Touching.{IsBlockedAtF, IsBlockedAtW, IsKeptApartBy, IsSure, IsSureAtW, IsTouchedAtF, IsTouchedAtW, IsUnmovedAtW, Leaves, LeavesNone, StaysAtF, StaysAtW, named_by, write_read}
 use Rattle.dsr_updating.specs.Values.{CellValue}
 use Rattle.dsr_updating.specs.declared.effects.Tag.{Tag}
-use Rattle.dsr_updating.specs.declared.effects.Way.{Way}
-use Rattle.dsr_updating.specs.declared.effects.Way.TheVariants.{Gain, Loss}
+use Rattle.dsr_updating.specs.declared.effects.Direction.{Direction}
+use Rattle.dsr_updating.specs.declared.effects.Direction.TheVariants.{Gain, Loss}
 
 -- the update
 abbrev pub change_of : OwnChange → Change
@@ -164,17 +164,17 @@ pub record IsTouchOf (c : Change) (rule : Rule) (touch : Touch) : Type 0 where
   pub reading : IsReading c rule touch.reading
 
 -- the rule's instances at W, and at F, may gain or lose something
-abbrev pub ChangesAtW : Change → Rule → Way → Type 0
+abbrev pub ChangesAtW : Change → Rule → Direction → Type 0
 ChangesAtW c rule Gain = IsTouchedAtW c rule × (IsBlockedAtW c rule false → ⊥)
 ChangesAtW c rule Loss = IsTouchedAtW c rule × (StaysAtW c rule → ⊥)
 
-abbrev pub ChangesAtF : Change → Rule → Way → Type 0
+abbrev pub ChangesAtF : Change → Rule → Direction → Type 0
 ChangesAtF c rule Gain = IsTouchedAtF c rule × (IsBlockedAtF c rule → ⊥)
 ChangesAtF c rule Loss = IsTouchedAtF c rule × (StaysAtF c rule → ⊥)
 
 -- and of this record
-abbrev pub MayChangeAtW : Change → Rule → Way → Tag → Type 0
-MayChangeAtW c rule way tag = ChangesAtW c rule way × (tag ≡ tag_at_w c rule way rule.inc)
+abbrev pub MayChangeAtW : Change → Rule → Direction → Tag → Type 0
+MayChangeAtW c rule direction tag = ChangesAtW c rule direction × (tag ≡ tag_at_w c rule direction rule.inc)
 
-abbrev pub MayChangeAtF : Change → Rule → Way → Tag → Type 0
-MayChangeAtF c rule way tag = ChangesAtF c rule way × (tag ≡ tag_at_f rule.inc)
+abbrev pub MayChangeAtF : Change → Rule → Direction → Tag → Type 0
+MayChangeAtF c rule direction tag = ChangesAtF c rule direction × (tag ≡ tag_at_f rule.inc)

@@ -3,7 +3,7 @@ ghost use Rattle.std.specs.Prelude.{◌≡◌, ◌<◌, ◌↔◌, ℕ, [], IfOk
 ghost use Rattle.dsr_effect.specs.Contexts.{IsApartFrom, IsContextOf, IsSound, change_for, change_in};
 ghost use Rattle.dsr_effect.specs.Told.{ChangesAtW, IsTold, change_of};
 ghost use Rattle.dsr_ir.specs.declared.rules.Rule.{Rule as RuleOf};
-ghost use Rattle.dsr_updating.specs.declared.effects.Way.TheVariants.{Gain};
+ghost use Rattle.dsr_updating.specs.declared.effects.Direction.TheVariants.{Gain};
 ghost use Rattle.dsr_goal.specs.Knowing.{known_by};
 ghost use Rattle.dsr_effect.specs.Table.{symbol_count};
 ghost use Rattle.dsr_ir.specs.declared.updates.Goal.{Goal as GoalOf};
@@ -14,7 +14,7 @@ ghost use Rattle.dsr_meaning.specs.Counting.{IsIn};
 ghost use Rattle.dsr_updating.specs.Avoided.{IsAvoided};
 ghost use Rattle.dsr_updating.specs.Effects.{InTable, IsDeclared, changes};
 ghost use Rattle.dsr_updating.specs.declared.effects.Tag.{Tag as TagOf};
-ghost use Rattle.dsr_updating.specs.declared.effects.Way.{Way as WayOf};
+ghost use Rattle.dsr_updating.specs.declared.effects.Direction.{Direction as DirectionOf};
 ghost use Rattle.dsr_meaning.specs.Typed.{IsTyped, IsTypedQuant};
 
 use crate::avoided::avoided_sets;
@@ -153,10 +153,10 @@ impl<'a> Context<'a> {
         requires sound { IsSound self.now }
         ensures gains { IfOk result (λ e. length e.gains ≡ symbol_count self.now.spec.now.base) }
         ensures losses { IfOk result (λ e. length e.losses ≡ symbol_count self.now.spec.now.base) }
-        ensures exactly { IfOk result (λ e. (way : WayOf) (symbol : SymbolOf) (tag : TagOf)
+        ensures exactly { IfOk result (λ e. (direction : DirectionOf) (symbol : SymbolOf) (tag : TagOf)
             → IsDeclared self.now.spec.now.base symbol
-            → IsTrue (changes self.now.spec.now.base e way symbol tag)
-            ↔ InTable (change_in self.now goal update.now) way symbol tag) }
+            → IsTrue (changes self.now.spec.now.base e direction symbol tag)
+            ↔ InTable (change_in self.now goal update.now) direction symbol tag) }
     {
         effect_of(alloc, &self.change(goal, update))
     }
@@ -177,10 +177,10 @@ pub fn effect(
     requires quantifier { IsTypedQuant spec.now.base quant.now }
     ensures gains { IfOk result (λ e. length e.gains ≡ symbol_count spec.now.base) }
     ensures losses { IfOk result (λ e. length e.losses ≡ symbol_count spec.now.base) }
-    ensures exactly { IfOk result (λ e. (way : WayOf) (symbol : SymbolOf) (tag : TagOf)
-        → IsDeclared spec.now.base symbol → IsTrue (changes spec.now.base e way symbol tag)
+    ensures exactly { IfOk result (λ e. (direction : DirectionOf) (symbol : SymbolOf) (tag : TagOf)
+        → IsDeclared spec.now.base symbol → IsTrue (changes spec.now.base e direction symbol tag)
         ↔ InTable (change_for spec.now facts.now.exclusive quant.now goal update.now)
-        way symbol tag) }
+        direction symbol tag) }
 {
     Context::new(spec, facts, quant).effect(alloc, goal, update)
 }

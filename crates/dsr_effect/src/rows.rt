@@ -13,8 +13,8 @@ ghost use Rattle.dsr_meaning.specs.Typed.{AreTyped};
 ghost use Rattle.dsr_updating.specs.Effects as said;
 ghost use Rattle.dsr_updating.specs.Effects.{InTable, IsDeclared, MayChange, changes, has_tag};
 ghost use Rattle.dsr_updating.specs.declared.effects.Tag.{Tag as TagOf};
-ghost use Rattle.dsr_updating.specs.declared.effects.Way.{Way as WayOf};
-ghost use Rattle.dsr_updating.specs.declared.effects.Way.TheVariants.{Gain, Loss};
+ghost use Rattle.dsr_updating.specs.declared.effects.Direction.{Direction as DirectionOf};
+ghost use Rattle.dsr_updating.specs.declared.effects.Direction.TheVariants.{Gain, Loss};
 
 use crate::changes::Change;
 use crate::flows::{Flow, settle};
@@ -22,7 +22,7 @@ use crate::readings::Reading;
 use crate::tags::{NO_TAGS, is_some, joined};
 use crate::touching::{Touch, is_own};
 use dsr_ir::{NoMemory, Rule, Seq, SetDecl, Structures, Symbol};
-use dsr_updating::{Effect, Tags, Way};
+use dsr_updating::{Direction, Effect, Tags};
 use std::alloc::Global;
 
 // How many symbols there are.
@@ -45,18 +45,18 @@ fn symbol_number(base: &Structures, symbol: Symbol) -> usize
 }
 
 // The row of what a symbol gains, and behind all these that of what it loses.
-fn row_of(base: &Structures, way: Way, symbol: Symbol) -> usize
+fn row_of(base: &Structures, direction: Direction, symbol: Symbol) -> usize
     requires typed { AreTyped base.now }
-    ensures { result ≡ row_number base.now way symbol }
+    ensures { result ≡ row_number base.now direction symbol }
 {
-    match way {
-        Way::Gain => symbol_number(base, symbol),
-        Way::Loss => symbol_count(base) + symbol_number(base, symbol),
+    match direction {
+        Direction::Gain => symbol_number(base, symbol),
+        Direction::Loss => symbol_count(base) + symbol_number(base, symbol),
     }
 }
 
 // Adds what the rule may gain, or lose, at the written and at the fresh record.
-fn add_change(change: &Change, rows: &mut [Tags], rule: &Rule, touch: Touch, way: Way)
+fn add_change(change: &Change, rows: &mut [Tags], rule: &Rule, touch: Touch, direction: Direction)
     requires told { IsTold change.now }
     requires touch { IsTouchOf (change_of change.now) rule.now touch }
     requires among { IsIn rule.now change.now.spec.now.rules }
@@ -64,11 +64,11 @@ fn add_change(change: &Change, rows: &mut [Tags], rule: &Rule, touch: Touch, way
     ensures places { length rows.new ≡ length rows.old }
     ensures exactly { (row : ℕ) (tag : TagOf) → IsTrue (has_row_tag rows.new row tag)
         ↔ (IsTrue (has_row_tag rows.old row tag)
-        ⊎ (row ≡ row_number change.now.spec.now.base way (symbol_of rule.now.inc))
-        × MayChange (change_of change.now) rule.now way tag) }
+        ⊎ (row ≡ row_number change.now.spec.now.base direction (symbol_of rule.now.inc))
+        × MayChange (change_of change.now) rule.now direction tag) }
 {
-    let row = row_of(&change.spec.base, way, rule.inc.symbol());
-    rows[row] = joined(rows[row], change.may_change(rule, touch, way));
+    let row = row_of(&change.spec.base, direction, rule.inc.symbol());
+    rows[row] = joined(rows[row], change.may_change(rule, touch, direction));
 }
 
 // Adds what the rule may gain and lose.
@@ -83,8 +83,8 @@ fn add_changes(change: &Change, rows: &mut [Tags], rule: &Rule, touch: Touch)
         ⊎ IsChangedBy (change_of change.now) (rule.now ∷ []) row tag) }
 {
     if touch.is_some() {
-        add_change(change, rows, rule, touch, Way::Gain);
-        add_change(change, rows, rule, touch, Way::Loss);
+        add_change(change, rows, rule, touch, Direction::Gain);
+        add_change(change, rows, rule, touch, Direction::Loss);
     }
 }
 
@@ -109,15 +109,15 @@ fn push_passed(
     let symbol = rule.inc.symbol();
     let keeps = is_own(&rule.inc);
     flows.push(Flow {
-        from: row_of(base, Way::Gain, Symbol::Set(premise)),
-        to: row_of(base, Way::Gain, symbol),
+        from: row_of(base, Direction::Gain, Symbol::Set(premise)),
+        to: row_of(base, Direction::Gain, symbol),
         keeps,
         without_written: reading.blocked_joining,
         without_fresh: change.is_blocked_at_f(rule),
     })?;
     flows.push(Flow {
-        from: row_of(base, Way::Loss, Symbol::Set(premise)),
-        to: row_of(base, Way::Loss, symbol),
+        from: row_of(base, Direction::Loss, Symbol::Set(premise)),
+        to: row_of(base, Direction::Loss, symbol),
         keeps,
         without_written: false,
         without_fresh: false,
@@ -152,7 +152,7 @@ fn rule_rows(alloc: Global, change: &Change) -> Result<(Vec<Tags>, Vec<Flow>), N
 }
 
 // What a set hands on to its complement, the other way round.
-fn swapped(structures: &Structures, set: u32, base: u32, from: Way, to: Way) -> Flow
+fn swapped(structures: &Structures, set: u32, base: u32, from: Direction, to: Direction) -> Flow
     requires typed { AreTyped structures.now }
     ensures { result ≡ table.swapped_flow structures.now set base from to }
 {
@@ -179,8 +179,8 @@ fn push_complement(
     let Some(base) = declared.except else {
         return Ok(());
     };
-    flows.push(swapped(structures, set, base, Way::Gain, Way::Loss))?;
-    flows.push(swapped(structures, set, base, Way::Loss, Way::Gain))?;
+    flows.push(swapped(structures, set, base, Direction::Gain, Direction::Loss))?;
+    flows.push(swapped(structures, set, base, Direction::Loss, Direction::Gain))?;
     Ok(())
 }
 
@@ -197,13 +197,13 @@ fn push_complements(structures: &Structures, flows: &mut Vec<Flow>) -> Result<()
 }
 
 /// Of which records the symbol may gain or lose facts by the table.
-pub fn tags_of(base: &Structures, effect: &Effect, way: Way, symbol: Symbol) -> Tags
+pub fn tags_of(base: &Structures, effect: &Effect, direction: Direction, symbol: Symbol) -> Tags
     requires typed { AreTyped base.now }
-    ensures { (tag : TagOf) → has_tag tag result ≡ changes base.now effect.now way symbol tag }
+    ensures { (tag : TagOf) → has_tag tag result ≡ changes base.now effect.now direction symbol tag }
 {
-    let rows = match way {
-        Way::Gain => effect.gains.items(),
-        Way::Loss => effect.losses.items(),
+    let rows = match direction {
+        Direction::Gain => effect.gains.items(),
+        Direction::Loss => effect.losses.items(),
     };
     match rows.get(symbol_number(base, symbol)) {
         Some(tags) => *tags,
@@ -212,12 +212,12 @@ pub fn tags_of(base: &Structures, effect: &Effect, way: Way, symbol: Symbol) -> 
 }
 
 /// Whether the symbol may gain or lose facts by the table, of whatever record.
-pub fn may_change(base: &Structures, effect: &Effect, way: Way, symbol: Symbol) -> bool
+pub fn may_change(base: &Structures, effect: &Effect, direction: Direction, symbol: Symbol) -> bool
     requires typed { AreTyped base.now }
     ensures { Decides result
-        ((tag : TagOf) × IsTrue (changes base.now effect.now way symbol tag)) }
+        ((tag : TagOf) × IsTrue (changes base.now effect.now direction symbol tag)) }
 {
-    is_some(tags_of(base, effect, way, symbol))
+    is_some(tags_of(base, effect, direction, symbol))
 }
 
 /// The least table.
@@ -227,10 +227,10 @@ pub fn effect_of(alloc: Global, change: &Change) -> Result<Effect, NoMemory>
         ≡ table.symbol_count change.now.spec.now.base) }
     ensures losses { IfOk result (λ e. length e.losses
         ≡ table.symbol_count change.now.spec.now.base) }
-    ensures exactly { IfOk result (λ e. (way : WayOf) (symbol : SymbolOf) (tag : TagOf)
+    ensures exactly { IfOk result (λ e. (direction : DirectionOf) (symbol : SymbolOf) (tag : TagOf)
         → IsDeclared change.now.spec.now.base symbol
-        → IsTrue (changes change.now.spec.now.base e way symbol tag)
-        ↔ InTable (change_of change.now) way symbol tag) }
+        → IsTrue (changes change.now.spec.now.base e direction symbol tag)
+        ↔ InTable (change_of change.now) direction symbol tag) }
 {
     let (mut rows, mut flows) = rule_rows(alloc, change)?;
     push_complements(&change.spec.base, &mut flows)?;

@@ -7,7 +7,7 @@ ghost use Rattle.dsr_updating.specs.Effects.{MayChange, has_tag};
 ghost use Rattle.dsr_updating.specs.Givers as givers;
 ghost use Rattle.dsr_updating.specs.Touching.{IsKeptApartBy, IsTouchedAtF, IsTouchedAtW};
 ghost use Rattle.dsr_updating.specs.declared.effects.Tag.{Tag as TagOf};
-ghost use Rattle.dsr_updating.specs.declared.effects.Way.TheVariants.{Gain};
+ghost use Rattle.dsr_updating.specs.declared.effects.Direction.TheVariants.{Gain};
 
 use crate::avoided::is_marked;
 use crate::changes::Change;
@@ -15,7 +15,7 @@ use crate::readings::Reading;
 use crate::tags::{NO_TAGS, joined, only};
 use dsr_ir::{FieldRef, Inc, Pick, Place, Rule};
 use dsr_layout::premise_pool;
-use dsr_updating::{Tag, Tags, Way};
+use dsr_updating::{Direction, Tag, Tags};
 
 /// Whether the record itself is the member or the source.
 pub fn is_own(inc: &Inc) -> bool
@@ -98,9 +98,9 @@ impl<'a> Change<'a> {
     }
 
     // Of which record a fact of an instance at the written record is.
-    fn tag_at_w(&self, rule: &Rule, way: Way) -> Tag
+    fn tag_at_w(&self, rule: &Rule, direction: Direction) -> Tag
         requires told { IsTold self.now }
-        ensures { result ≡ said.tag_at_w (change_of self.now) rule.now way rule.now.inc }
+        ensures { result ≡ said.tag_at_w (change_of self.now) rule.now direction rule.now.inc }
     {
         match rule.inc {
             Inc::Own(_) | Inc::OwnPair(_, _) => Tag::Written,
@@ -112,7 +112,7 @@ impl<'a> Change<'a> {
                 }
             }
             Inc::Target(_, path) => {
-                if way == Way::Gain && self.gets_fresh(path.field) {
+                if direction == Direction::Gain && self.gets_fresh(path.field) {
                     Tag::Fresh
                 } else {
                     Tag::Any
@@ -135,50 +135,50 @@ impl<'a> Change<'a> {
         }
     }
 
-    fn changes_at_w(&self, rule: &Rule, touch: Touch, way: Way) -> bool
+    fn changes_at_w(&self, rule: &Rule, touch: Touch, direction: Direction) -> bool
         requires told { IsTold self.now }
         requires touch { IsTouchOf (change_of self.now) rule.now touch }
-        ensures { Decides result (ChangesAtW (change_of self.now) rule.now way) }
+        ensures { Decides result (ChangesAtW (change_of self.now) rule.now direction) }
     {
-        match way {
-            Way::Gain => touch.at_w && !touch.reading.blocked,
-            Way::Loss => touch.at_w && !self.stays_at_w(rule, touch.reading),
+        match direction {
+            Direction::Gain => touch.at_w && !touch.reading.blocked,
+            Direction::Loss => touch.at_w && !self.stays_at_w(rule, touch.reading),
         }
     }
 
-    fn changes_at_f(&self, rule: &Rule, touched: bool, way: Way) -> bool
+    fn changes_at_f(&self, rule: &Rule, touched: bool, direction: Direction) -> bool
         requires told { IsTold self.now }
         requires touched { Decides touched (IsTouchedAtF (change_of self.now) rule.now) }
-        ensures { Decides result (ChangesAtF (change_of self.now) rule.now way) }
+        ensures { Decides result (ChangesAtF (change_of self.now) rule.now direction) }
     {
-        match way {
-            Way::Gain => touched && !self.is_blocked_at_f(rule),
-            Way::Loss => touched && !self.stays_at_f(rule),
+        match direction {
+            Direction::Gain => touched && !self.is_blocked_at_f(rule),
+            Direction::Loss => touched && !self.stays_at_f(rule),
         }
     }
 
     // What the rule may gain or lose at the written record.
-    fn tags_at_w(&self, rule: &Rule, touch: Touch, way: Way) -> Tags
+    fn tags_at_w(&self, rule: &Rule, touch: Touch, direction: Direction) -> Tags
         requires told { IsTold self.now }
         requires touch { IsTouchOf (change_of self.now) rule.now touch }
         ensures { (tag : TagOf) → IsTrue (has_tag tag result)
-            ↔ MayChangeAtW (change_of self.now) rule.now way tag }
+            ↔ MayChangeAtW (change_of self.now) rule.now direction tag }
     {
-        if self.changes_at_w(rule, touch, way) {
-            only(self.tag_at_w(rule, way))
+        if self.changes_at_w(rule, touch, direction) {
+            only(self.tag_at_w(rule, direction))
         } else {
             NO_TAGS
         }
     }
 
     // What the rule may gain or lose at the fresh record.
-    fn tags_at_f(&self, rule: &Rule, touched: bool, way: Way) -> Tags
+    fn tags_at_f(&self, rule: &Rule, touched: bool, direction: Direction) -> Tags
         requires told { IsTold self.now }
         requires touched { Decides touched (IsTouchedAtF (change_of self.now) rule.now) }
         ensures { (tag : TagOf) → IsTrue (has_tag tag result)
-            ↔ MayChangeAtF (change_of self.now) rule.now way tag }
+            ↔ MayChangeAtF (change_of self.now) rule.now direction tag }
     {
-        if self.changes_at_f(rule, touched, way) {
+        if self.changes_at_f(rule, touched, direction) {
             only(tag_at_f(&rule.inc))
         } else {
             NO_TAGS
@@ -191,19 +191,19 @@ impl<'a> Change<'a> {
         requires among { IsIn rule.now self.now.spec.now.rules }
         ensures { Decides result (ChangesAtW (change_of self.now) rule.now Gain) }
     {
-        self.changes_at_w(rule, self.touch(rule), Way::Gain)
+        self.changes_at_w(rule, self.touch(rule), Direction::Gain)
     }
 
     /// What instances of the rule at the written and at the fresh record may gain or lose.
-    pub fn may_change(&self, rule: &Rule, touch: Touch, way: Way) -> Tags
+    pub fn may_change(&self, rule: &Rule, touch: Touch, direction: Direction) -> Tags
         requires told { IsTold self.now }
         requires touch { IsTouchOf (change_of self.now) rule.now touch }
         ensures { (tag : TagOf) → IsTrue (has_tag tag result)
-            ↔ MayChange (change_of self.now) rule.now way tag }
+            ↔ MayChange (change_of self.now) rule.now direction tag }
     {
         joined(
-            self.tags_at_w(rule, touch, way),
-            self.tags_at_f(rule, touch.at_f, way),
+            self.tags_at_w(rule, touch, direction),
+            self.tags_at_f(rule, touch.at_f, direction),
         )
     }
 }

@@ -13,7 +13,7 @@ use Rattle.dsr_updating.specs.Changes.{Change}
 use Rattle.dsr_updating.specs.Effects.{InTable}
 use Rattle.dsr_updating.specs.Facts.{exclusive}
 use Rattle.dsr_updating.specs.declared.effects.Tag.{Tag}
-use Rattle.dsr_updating.specs.declared.effects.Way.{Way}
+use Rattle.dsr_updating.specs.declared.effects.Direction.{Direction}
 
 -- a constraint of a specification, by its number
 pub record Owner : Type 0 where
@@ -49,13 +49,13 @@ abbrev pub EachUpdate : Owner → Template → (ℕ → Change → Type 0) → T
 EachUpdate owner template Such = (n : ℕ) (c : Change) → IsJudgedAt owner template n c → Such n c
 
 -- the symbol doesn't change so, whatever the record
-abbrev pub Keeps : Change → Way → Symbol → Type 0
-Keeps c way symbol = (tag : Tag) → InTable c way symbol tag → ⊥
+abbrev pub Keeps : Change → Direction → Symbol → Type 0
+Keeps c direction symbol = (tag : Tag) → InTable c direction symbol tag → ⊥
 
 -- the premise of the update's rule, where it is a set
 abbrev pub premise_of : Change → Option ℕ
 premise_of c = option_and_then (λ rule. rule.premise) (slice_get c.spec.rules c.update.rule)
 
 -- that premise doesn't change so
-abbrev pub KeepsPremise : Change → Way → Type 0
-KeepsPremise c way = IfSome (premise_of c) (λ set. Keeps c way (Set set))
+abbrev pub KeepsPremise : Change → Direction → Type 0
+KeepsPremise c direction = IfSome (premise_of c) (λ set. Keeps c direction (Set set))

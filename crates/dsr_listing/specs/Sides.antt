@@ -25,7 +25,7 @@ use Rattle.dsr_updating.specs.Together.{MayStandTogether}
 use Rattle.dsr_updating.specs.Touching.{named_by}
 use Rattle.dsr_updating.specs.declared.effects.Tag.TheVariants.{Fresh}
 use Rattle.dsr_updating.specs.declared.effects.Tag.{Tag}
-use Rattle.dsr_updating.specs.declared.effects.Way.TheVariants.{Gain, Loss}
+use Rattle.dsr_updating.specs.declared.effects.Direction.TheVariants.{Gain, Loss}
 use Rattle.dsr_listing.specs.Owners.{EachUpdate, Keeps, KeepsPremise, Owner}
 
 -- ---- what an update must be so that it can be made as it is judged

@@ -5,6 +5,6 @@ mod placing;
 mod sparing;
 mod testing;
 
-pub use placing::may_be_first;
-pub use sparing::Position;
+pub use placing::{may_be_first, relies_left};
+pub use sparing::{Position, is_left};
 pub use testing::way;

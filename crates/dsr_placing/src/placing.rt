@@ -12,8 +12,8 @@ use dsr_graph::{Graph, relies};
 use dsr_ir::{Constraint, NoMemory};
 use std::alloc::Global;
 
-// Whether the constraint is left, and relies on the other one.
-fn relies_left(graph: &Graph, who: u32, on: u32, left: &[bool]) -> bool
+/// Whether the constraint is left, and relies on the other one.
+pub fn relies_left(graph: &Graph, who: u32, on: u32, left: &[bool]) -> bool
     ensures { (owner : OwnerOf) → IsOwnerIn graph.now who owner
         → Decides result (ReliesLeft owner.spec (IsLeft left.now) who on) }
 {

@@ -1,5 +1,5 @@
-//! Reads specifications from the standard input and prints for each the plan that is taken, with each
-//! constraint's level and what is done about each of its literals, or that there is no plan.
+//! Reads specifications from the standard input and prints for each what is answered where a plan is asked for, and
+//! below the levels of a plan what is done about each literal of each constraint.
 //!
 //! A line `=== NAME` begins a case. The lines below it, up to the next such line, are its text.
 #![tactic(auto)]
@@ -10,26 +10,35 @@ mod choices;
 
 use anyhow::bail;
 use choices::add_choice;
-use dsr_graph::graph;
-use dsr_ir::Spec;
+use dsr_ir::{NoMemory, Spec};
 use dsr_lines::Lines;
+use dsr_plan::{Found, accepted, find, refused};
 use dsr_read::specification;
-use dsr_removal::plan;
+use dsr_script::Told;
 use std::alloc::Global;
-use std::io;
+use std::{io, str};
 
+fn add_told(lines: &mut Lines, told: Result<Told, NoMemory>) -> anyhow::Result<()> {
+    match told {
+        Ok(told) => lines.word(str::from_utf8(&told.text)?),
+        Err(NoMemory) => bail!("no memory"),
+    }
+    Ok(())
+}
+
+// What is answered, and below it the choice where there is one.
 fn add_spec(lines: &mut Lines, alloc: Global, name: &str, spec: &Spec) -> anyhow::Result<()>
     requires typed { IsTyped spec.now }
 {
-    let Ok(graph) = graph(alloc, spec) else {
-        bail!("no memory");
-    };
     lines.word(name);
     lines.word("\n");
-    match plan(alloc, &graph, spec) {
-        Ok(Some(choice)) => add_choice(lines, spec, &choice),
-        Ok(None) => lines.word("  no plan\n"),
-        Err(_) => bail!("no memory"),
+    match find(alloc, spec) {
+        Ok(Found::Plan(choice)) => {
+            add_told(lines, accepted(alloc, spec, &choice))?;
+            add_choice(lines, spec, &choice);
+        }
+        Ok(Found::Stuck(set)) => add_told(lines, refused(alloc, spec, &set))?,
+        Err(NoMemory) => bail!("no memory"),
     }
     Ok(())
 }

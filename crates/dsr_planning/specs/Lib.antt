@@ -1,3 +1,4 @@
 pub mod Plans
 pub mod Stuck
 pub mod Taken
+pub mod Refusals

@@ -7,6 +7,10 @@
 
 mod choices;
 mod laws;
+mod plans;
+mod refusals;
 
 pub use choices::{Choice, Row, Way};
 pub use laws::stuck_sets_leave_no_plan;
+pub use plans::Plan;
+pub use refusals::{StuckEnd, StuckMember, StuckSet, StuckWay};

@@ -9,10 +9,9 @@ use Rattle.dsr_ir.specs.declared.constraints.Constraint.{Constraint}
 use Rattle.dsr_ir.specs.declared.constraints.Literal.{Literal}
 use Rattle.dsr_ir.specs.declared.declarations.Spec.{Spec}
 use Rattle.dsr_listing.specs.Owners.{Owner}
-use Rattle.dsr_planning.proofs.Descent.{no_member}
 use Rattle.dsr_planning.proofs.Grown.{covers_fewer, held_more}
 use Rattle.dsr_planning.specs.Plans.{AreWaysFor, IsPlan, IsRowOf, IsTested, IsWayFor, owner_at, way_at}
-use Rattle.dsr_planning.specs.Stuck.{IsStuck, MustTest}
+use Rattle.dsr_planning.specs.Stuck.{MustTest}
 use Rattle.dsr_planning.specs.Taken.{IsTaken, IsTakenWay, IsUpTo}
 use Rattle.dsr_planning.specs.declared.choices.Choice.{Choice}
 use Rattle.dsr_planning.specs.declared.choices.Row.{Row}
@@ -20,7 +19,7 @@ use Rattle.dsr_planning.specs.declared.choices.Way.{Way}
 use Rattle.dsr_planning.specs.declared.choices.Way.TheVariants.{Test, By}
 use Rattle.dsr_removal.proofs.Firsts.{taken_same}
 use Rattle.dsr_removal.proofs.Staying.{entry}
-use Rattle.dsr_removal.specs.Rounds.{AreRounds, AreSettled, IsLeftAt, IsPlacedIn, is_late, is_left_at}
+use Rattle.dsr_removal.specs.Rounds.{AreRounds, IsLeftAt, IsPlacedIn, is_late, is_left_at}
 use Rattle.dsr_removal.specs.Taking.{AreRowsOf, AreTakenIn, AreTakenWays, IsRowAt}
 use Rattle.dsr_sides.proofs.Standing.{place_below}
 use Rattle.dsr_updating.specs.Templates.{literal_at}
@@ -193,18 +192,3 @@ module _ (spec : Spec) (rounds : List (Option ℕ)) (count : ℕ) (all : AreRoun
         let two = its.2.level_is in
         record { number = used.0; row = other.0; row_is = other.1; level_is = omega (arith, two, same, sum) };
   }
-
--- ---- no plan
-
-pub none_is_plan : (spec : Spec) (rounds : List (Option ℕ)) (count : ℕ) → AreSettled spec rounds count → (n : ℕ) → slice_get rounds n ≡ Some None → (choice : Choice) → IsPlan spec choice → ⊥
-none_is_plan spec rounds count settled n none choice plan =
-    let stuck : IsStuck spec (IsLeftAt rounds count) = record {
-      declared = λ m left.
-          let its = entry count m rounds left in
-          let below = place_below rounds m its.0 its.1 in
-          let many = settled.rounds_are.as_many in
-          omega (arith, below, many);
-      held = λ m constraint left there. settled.ends m constraint left there;
-    } in
-    let left : IsLeftAt rounds count n = ap (λ o. option_map_or (is_late count) o false) none in
-    no_member spec (IsLeftAt rounds count) choice stuck plan n left

@@ -4,4 +4,4 @@
 mod rounds;
 mod taking;
 
-pub use taking::plan;
+pub use taking::{Outcome, place};

@@ -4,9 +4,8 @@ ghost use Rattle.dsr_graph.specs.Graphs.{IsGraphOf, IsOwnerIn};
 ghost use Rattle.dsr_listing.specs.Owners.{Owner as OwnerOf};
 ghost use Rattle.dsr_meaning.specs.Typed.{IsTyped};
 ghost use Rattle.dsr_placing.specs.Placing.{IsLeft};
-ghost use Rattle.dsr_planning.specs.Plans.{IsPlan};
-ghost use Rattle.dsr_planning.specs.Taken.{IsTaken, IsTakenWay};
-ghost use Rattle.dsr_planning.specs.declared.choices.Choice.{Choice as ChoiceOf};
+ghost use Rattle.dsr_planning.specs.Taken.{IsTakenWay};
+ghost use Rattle.dsr_removal.specs.Outcomes.{IsOutcomeFor};
 ghost use Rattle.dsr_removal.specs.Rounds.{AreSettled, IsPlacedIn};
 ghost use Rattle.dsr_removal.specs.Taking.{AreRowsOf, AreTakenIn, AreTakenWays, IsRowAt};
 ghost use Rattle.dsr_updating.specs.Templates.{literal_at};
@@ -143,18 +142,26 @@ fn rows(
     Ok(Some(rows))
 }
 
-/// The plan that is taken; none where no choice is a plan.
-pub fn plan(alloc: Global, graph: &Graph, spec: &Spec) -> Result<Option<Choice>, NoMemory>
+/// What comes of putting all constraints in an order of repair.
+#[derive(Drop)]
+pub enum Outcome {
+    /// The plan that is taken.
+    Taken(Choice),
+    /// For each constraint whether it is a member of the largest stuck set, which has one.
+    Stuck(Vec<bool>),
+}
+
+/// Puts all constraints in an order of repair, if they have one.
+pub fn place(alloc: Global, graph: &Graph, spec: &Spec) -> Result<Outcome, NoMemory>
     requires typed { IsTyped spec.now }
     requires graph { IsGraphOf spec.now graph.now }
-    ensures { IfOk result (λ found. MatchOption found
-        ((choice : ChoiceOf) → IsPlan spec.now choice → ⊥) (IsTaken spec.now)) }
+    ensures { IfOk result (IsOutcomeFor spec.now) }
 {
     let placed = place_all(alloc, graph, spec)?;
     match rows(alloc, graph, spec, &placed)? {
-        Some(rows) => Ok(Some(Choice {
+        Some(rows) => Ok(Outcome::Taken(Choice {
             rows: Seq::new(rows),
         })),
-        None => Ok(None),
+        None => Ok(Outcome::Stuck(left_at(alloc, &placed.rounds, placed.count)?)),
     }
 }

@@ -26,19 +26,19 @@ use Rattle.dsr_updating.specs.declared.effects.Tag.{Tag}
 use Rattle.dsr_updating.specs.declared.effects.Tag.TheVariants as tags_variants
 use Rattle.dsr_updating.specs.declared.effects.Tag.TheVariants.{Fresh}
 use Rattle.dsr_updating.specs.declared.effects.Tags.{Tags}
-use Rattle.dsr_updating.specs.declared.effects.Way.{Way}
-use Rattle.dsr_updating.specs.declared.effects.Way.TheVariants.{Gain}
+use Rattle.dsr_updating.specs.declared.effects.Direction.{Direction}
+use Rattle.dsr_updating.specs.declared.effects.Direction.TheVariants.{Gain}
 
 pub not_decides : (r : Bool) (P Q : Type 0) → IsTrue r ↔ P → (Q → P → ⊥) → ((P → ⊥) → Q) → IsTrue (not r) ↔ Q
 not_decides true P Q decides apart either = (λ no. absurd (false≢true no), λ q. absurd (apart q (decides.0 refl)))
 not_decides false P Q decides apart either = (λ _. either (λ p. absurd (false≢true (decides.1 p))), λ _. refl)
 
 -- a symbol keeps where the effect has no tag for it
-pub keeps_if : (base : Structures) (effect : Effect) (way : Way) (symbol : Symbol) (r : Bool) (c : Change) → IsDeclared base symbol → c.spec.base ≡ base → IsEffectOf c effect → IsTrue r ↔ ((tag : Tag) × IsTrue (changes base effect way symbol tag)) → IsTrue (not r) ↔ Keeps c way symbol
-keeps_if base effect way symbol r c declared same is decides =
-    not_decides r ((tag : Tag) × IsTrue (changes base effect way symbol tag)) (Keeps c way symbol) decides
-    (λ keeps found. keeps found.0 ((is way symbol found.0 (subst (λ b. IsDeclared b symbol) (sym same) declared)).0 (subst (λ b. IsTrue (changes b effect way symbol found.0)) (sym same) found.1)))
-    (λ none tag there. none (tag, subst (λ b. IsTrue (changes b effect way symbol tag)) same ((is way symbol tag (subst (λ b. IsDeclared b symbol) (sym same) declared)).1 there)))
+pub keeps_if : (base : Structures) (effect : Effect) (direction : Direction) (symbol : Symbol) (r : Bool) (c : Change) → IsDeclared base symbol → c.spec.base ≡ base → IsEffectOf c effect → IsTrue r ↔ ((tag : Tag) × IsTrue (changes base effect direction symbol tag)) → IsTrue (not r) ↔ Keeps c direction symbol
+keeps_if base effect direction symbol r c declared same is decides =
+    not_decides r ((tag : Tag) × IsTrue (changes base effect direction symbol tag)) (Keeps c direction symbol) decides
+    (λ keeps found. keeps found.0 ((is direction symbol found.0 (subst (λ b. IsDeclared b symbol) (sym same) declared)).0 (subst (λ b. IsTrue (changes b effect direction symbol found.0)) (sym same) found.1)))
+    (λ none tag there. none (tag, subst (λ b. IsTrue (changes b effect direction symbol tag)) same ((is direction symbol tag (subst (λ b. IsDeclared b symbol) (sym same) declared)).1 there)))
 
 -- the quantifier of a constraint that is kept rightly is typed
 pub typed_quantifier : (o : Owner) → IsSound o → IsTypedQuant o.spec.now.base o.constraint.now.quant

@@ -5,10 +5,10 @@ use Rattle.dsr_updating.specs.Changes.{Change}
 use Rattle.dsr_updating.specs.Effects.{InTable, IsDeclared, changes}
 use Rattle.dsr_updating.specs.declared.effects.Effect.{Effect}
 use Rattle.dsr_updating.specs.declared.effects.Tag.{Tag}
-use Rattle.dsr_updating.specs.declared.effects.Way.{Way}
+use Rattle.dsr_updating.specs.declared.effects.Direction.{Direction}
 
 -- the effect is exactly what the update may change
 abbrev pub IsEffectOf : Change → Effect → Type 0
 IsEffectOf c effect =
-    (way : Way) (symbol : Symbol) (tag : Tag) → IsDeclared c.spec.base symbol
-    → IsTrue (changes c.spec.base effect way symbol tag) ↔ InTable c way symbol tag
+    (direction : Direction) (symbol : Symbol) (tag : Tag) → IsDeclared c.spec.base symbol
+    → IsTrue (changes c.spec.base effect direction symbol tag) ↔ InTable c direction symbol tag

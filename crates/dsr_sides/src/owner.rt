@@ -4,7 +4,7 @@ ghost use Rattle.dsr_effect.specs.Told.{ChangesAtW};
 ghost use Rattle.dsr_goal.specs.Knowing.{known_by};
 ghost use Rattle.dsr_ir.specs.declared.rules.Rule.{Rule as RuleOf};
 ghost use Rattle.dsr_updating.specs.Templates.{AreRawOf, TellsKnown};
-ghost use Rattle.dsr_updating.specs.declared.effects.Way.TheVariants.{Gain};
+ghost use Rattle.dsr_updating.specs.declared.effects.Direction.TheVariants.{Gain};
 ghost use Rattle.dsr_listing.specs.Owners.{change_of};
 ghost use Rattle.dsr_meaning.specs.Typed.{IsTyped};
 ghost use Rattle.dsr_sides.specs.Judged.{IsEffectOf};

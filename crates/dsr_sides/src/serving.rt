@@ -12,13 +12,13 @@ ghost use Rattle.dsr_sides.specs.Owned.{IsSound, owner_of};
 ghost use Rattle.dsr_updating.specs.Changes.{Change as ChangeOf};
 ghost use Rattle.dsr_updating.specs.Effects.{IsDeclared};
 ghost use Rattle.dsr_updating.specs.Givers as givers;
-ghost use Rattle.dsr_updating.specs.declared.effects.Way.TheVariants.{Gain, Loss};
+ghost use Rattle.dsr_updating.specs.declared.effects.Direction.TheVariants.{Gain, Loss};
 
 use crate::owner::Owner;
 use dsr_effect::{may_change, tags_of};
 use dsr_goal::{counted_symbol, only_giver};
 use dsr_ir::{Atom, Bound, Goal, Inc, Measure, Rule, Span, Spec, Structures, Symbol, Update};
-use dsr_updating::{Effect, Tags, Way};
+use dsr_updating::{Direction, Effect, Tags};
 
 // The set or relation of which the literal speaks.
 fn atom_symbol(atom: &Atom) -> Symbol
@@ -32,13 +32,13 @@ fn atom_symbol(atom: &Atom) -> Symbol
 }
 
 // Whether the symbol doesn't change so, of whatever record.
-fn keeps(base: &Structures, effect: &Effect, way: Way, symbol: Symbol) -> bool
+fn keeps(base: &Structures, effect: &Effect, direction: Direction, symbol: Symbol) -> bool
     requires typed { AreTyped base.now }
     requires declared { IsDeclared base.now symbol }
     ensures { (c : ChangeOf) → c.spec.base ≡ base.now → IsEffectOf c effect.now
-        → Decides result (Keeps c way symbol) }
+        → Decides result (Keeps c direction symbol) }
 {
-    !may_change(base, effect, way, symbol)
+    !may_change(base, effect, direction, symbol)
 }
 
 // Whether the rule gives each record one pair at most.
@@ -72,14 +72,14 @@ fn is_fresh_alone(tags: Tags) -> bool
 
 impl Owner<'_> {
     // Whether the premise of the update's rule doesn't change so, where it is a set.
-    fn keeps_premise(&self, update: &Update, effect: &Effect, way: Way) -> bool
+    fn keeps_premise(&self, update: &Update, effect: &Effect, direction: Direction) -> bool
         requires sound { IsSound self.now }
         ensures { (c : ChangeOf) → c.spec ≡ self.now.spec.now → c.update ≡ update.now
-            → IsEffectOf c effect.now → Decides result (KeepsPremise c way) }
+            → IsEffectOf c effect.now → Decides result (KeepsPremise c direction) }
     {
         match self.spec.rules.items().get(update.rule as usize) {
             Some(rule) => match rule.premise {
-                Some(set) => keeps(&self.spec.base, effect, way, Symbol::Set(set)),
+                Some(set) => keeps(&self.spec.base, effect, direction, Symbol::Set(set)),
                 None => true,
             },
             None => true,
@@ -96,8 +96,8 @@ impl Owner<'_> {
         match atom {
             Atom::Value(_, _, _, Bound::Size(measure)) => {
                 let symbol = counted_symbol(measure);
-                keeps(&self.spec.base, effect, Way::Gain, symbol)
-                    && keeps(&self.spec.base, effect, Way::Loss, symbol)
+                keeps(&self.spec.base, effect, Direction::Gain, symbol)
+                    && keeps(&self.spec.base, effect, Direction::Loss, symbol)
             }
             _ => true,
         }
@@ -112,7 +112,7 @@ impl Owner<'_> {
     {
         match *measure {
             Measure::Whole(set) => {
-                is_fresh_alone(tags_of(&self.spec.base, effect, Way::Gain, Symbol::Set(set)))
+                is_fresh_alone(tags_of(&self.spec.base, effect, Direction::Gain, Symbol::Set(set)))
             }
             Measure::Out(_, rel) => is_functional(self.spec, rel),
             Measure::Into(_, _) => false,
@@ -139,7 +139,7 @@ impl Owner<'_> {
         ensures { (c : ChangeOf) → c.spec ≡ self.now.spec.now → c.update ≡ update.now
             → IsEffectOf c effect.now → Decides result (KeepsPremise c Gain × KeepsBound c atom.now) }
     {
-        self.keeps_premise(update, effect, Way::Gain) && self.keeps_bound(atom, effect)
+        self.keeps_premise(update, effect, Direction::Gain) && self.keeps_bound(atom, effect)
     }
 
     // Whether an update that supplies exactly one changes nothing that would undo it.
@@ -149,7 +149,7 @@ impl Owner<'_> {
         ensures { (c : ChangeOf) → c.spec ≡ self.now.spec.now → c.update ≡ update.now
             → IsEffectOf c effect.now → Decides result (KeepsPremise c Loss × SuppliesOne c atom.now) }
     {
-        self.keeps_premise(update, effect, Way::Loss) && self.supplies_one(atom, effect)
+        self.keeps_premise(update, effect, Direction::Loss) && self.supplies_one(atom, effect)
     }
 
     /// Whether an update, by its place in a template for the goal of the literal, changes nothing that would undo what
@@ -172,14 +172,14 @@ impl Owner<'_> {
         let base = &self.spec.base;
         match goal {
             Goal::AddSet | Goal::AddTuple | Goal::Supply => {
-                self.keeps_premise(update, effect, Way::Loss)
+                self.keeps_premise(update, effect, Direction::Loss)
             }
             Goal::RemoveSet | Goal::RemoveTuple | Goal::Trim => {
-                keeps(base, effect, Way::Gain, atom_symbol(atom))
+                keeps(base, effect, Direction::Gain, atom_symbol(atom))
             }
             Goal::SetValue => self.may_set(atom, update, effect),
             Goal::ExactlyOne if place == 0 => self.may_supply_one(atom, update, effect),
-            Goal::ExactlyOne => keeps(base, effect, Way::Gain, atom_symbol(atom)),
+            Goal::ExactlyOne => keeps(base, effect, Direction::Gain, atom_symbol(atom)),
         }
     }
 }

@@ -20,8 +20,8 @@ use Rattle.dsr_updating.specs.declared.effects.Effect.{Effect}
 use Rattle.dsr_updating.specs.declared.effects.Tag.{Tag}
 use Rattle.dsr_updating.specs.declared.effects.Tag.TheVariants.{Written, Entry, Fresh, Any}
 use Rattle.dsr_updating.specs.declared.effects.Tags.{Tags}
-use Rattle.dsr_updating.specs.declared.effects.Way.{Way}
-use Rattle.dsr_updating.specs.declared.effects.Way.TheVariants.{Gain, Loss}
+use Rattle.dsr_updating.specs.declared.effects.Direction.{Direction}
+use Rattle.dsr_updating.specs.declared.effects.Direction.TheVariants.{Gain, Loss}
 
 -- ---- of which record a fact is
 
@@ -33,17 +33,17 @@ is_fresh_pick _ = false
 abbrev pub gets_fresh : Change → FieldRef → Bool
 gets_fresh c field = option_map_or (λ w. is_fresh_pick w.pick) (write_to c.update.writes field) false
 
-abbrev pub is_gain : Way → Bool
+abbrev pub is_gain : Direction → Bool
 is_gain Gain = true
 is_gain Loss = false
 
 -- of an instance at W
-abbrev pub tag_at_w : Change → Rule → Way → Inc → Tag
-tag_at_w c rule way (Own set) = Written
-tag_at_w c rule way (OwnPair rel path) = Written
-tag_at_w c rule way (Slot set pool) = if is_at_entry c rule then Entry else Any
-tag_at_w c rule way (SlotPair rel pool path) = if is_at_entry c rule then Entry else Any
-tag_at_w c rule way (Target set path) = if is_gain way && gets_fresh c path.field then Fresh else Any
+abbrev pub tag_at_w : Change → Rule → Direction → Inc → Tag
+tag_at_w c rule direction (Own set) = Written
+tag_at_w c rule direction (OwnPair rel path) = Written
+tag_at_w c rule direction (Slot set pool) = if is_at_entry c rule then Entry else Any
+tag_at_w c rule direction (SlotPair rel pool path) = if is_at_entry c rule then Entry else Any
+tag_at_w c rule direction (Target set path) = if is_gain direction && gets_fresh c path.field then Fresh else Any
 
 -- of an instance at F
 abbrev pub tag_at_f : Inc → Tag
@@ -56,7 +56,7 @@ tag_passed inc tag = if is_own inc then tag else Any
 -- ---- the table
 
 -- what the instances of the rule at W and at F may gain or lose
-pub data MayChange (c : Change) (rule : Rule) : Way → Tag → Type 0 where
+pub data MayChange (c : Change) (rule : Rule) : Direction → Tag → Type 0 where
   gain_at_w :
       IsTouchedAtW c rule → (IsBlockedAtW c rule false → ⊥) → MayChange c rule Gain (tag_at_w c rule Gain rule.inc)
   loss_at_w :
@@ -65,28 +65,28 @@ pub data MayChange (c : Change) (rule : Rule) : Way → Tag → Type 0 where
   loss_at_f : IsTouchedAtF c rule → (StaysAtF c rule → ⊥) → MayChange c rule Loss (tag_at_f rule.inc)
 
 -- the rule has no instance at W, or at F, where that joins the premise
-abbrev pub IsLeftOut : Change → Rule → Way → Tag → Type 0
+abbrev pub IsLeftOut : Change → Rule → Direction → Tag → Type 0
 IsLeftOut c rule Gain Written = IsBlockedAtW c rule true
 IsLeftOut c rule Gain Fresh = IsBlockedAtF c rule
-IsLeftOut c rule way tag = ⊥
+IsLeftOut c rule direction tag = ⊥
 
-abbrev pub other_way : Way → Way
-other_way Gain = Loss
-other_way Loss = Gain
+abbrev pub other_direction : Direction → Direction
+other_direction Gain = Loss
+other_direction Loss = Gain
 
 -- The least table in which stands what rules may gain or lose at W and at F, what they may since their premise does, and
 -- for a complement what its set may, the other way round.
-pub data InTable (c : Change) : Way → Symbol → Tag → Type 0 where
+pub data InTable (c : Change) : Direction → Symbol → Tag → Type 0 where
   touched :
-      (rule : Rule) (way : Way) (tag : Tag) → IsIn rule c.spec.rules → MayChange c rule way tag
-      → InTable c way (symbol_of rule.inc) tag
+      (rule : Rule) (direction : Direction) (tag : Tag) → IsIn rule c.spec.rules → MayChange c rule direction tag
+      → InTable c direction (symbol_of rule.inc) tag
   passed :
-      (rule : Rule) (premise : ℕ) (way : Way) (tag : Tag) → IsIn rule c.spec.rules
-      → rule.premise ≡ Some premise → InTable c way (Set premise) tag → (IsLeftOut c rule way tag → ⊥)
-      → InTable c way (symbol_of rule.inc) (tag_passed rule.inc tag)
+      (rule : Rule) (premise : ℕ) (direction : Direction) (tag : Tag) → IsIn rule c.spec.rules
+      → rule.premise ≡ Some premise → InTable c direction (Set premise) tag → (IsLeftOut c rule direction tag → ⊥)
+      → InTable c direction (symbol_of rule.inc) (tag_passed rule.inc tag)
   swapped :
-      (set base : ℕ) (way : Way) (tag : Tag) → base_of c.spec set ≡ Some base
-      → InTable c way (Set base) tag → InTable c (other_way way) (Set set) tag
+      (set base : ℕ) (direction : Direction) (tag : Tag) → base_of c.spec set ≡ Some base
+      → InTable c direction (Set base) tag → InTable c (other_direction direction) (Set set) tag
 
 -- ---- a table as it is answered
 
@@ -106,11 +106,11 @@ has_tag Entry tags = tags.entry
 has_tag Fresh tags = tags.fresh
 has_tag Any tags = tags.any
 
-abbrev pub tags_of : Way → Effect → List Tags
+abbrev pub tags_of : Direction → Effect → List Tags
 tags_of Gain effect = effect.gains
 tags_of Loss effect = effect.losses
 
 -- the symbol may change so
-abbrev pub changes : Structures → Effect → Way → Symbol → Tag → Bool
-changes base effect way symbol tag =
-    option_map_or (has_tag tag) (slice_get (tags_of way effect) (symbol_number base symbol)) false
+abbrev pub changes : Structures → Effect → Direction → Symbol → Tag → Bool
+changes base effect direction symbol tag =
+    option_map_or (has_tag tag) (slice_get (tags_of direction effect) (symbol_number base symbol)) false

@@ -1,9 +1,9 @@
 // What an update may change, whatever the image.
 use dsr_ir::Seq;
 
-/// Whether something is gained or lost.
+/// The direction of a change: whether something is gained or lost.
 #[derive(Clone, Copy, PartialEq, Eq)]
-pub enum Way {
+pub enum Direction {
     Gain,
     Loss,
 }

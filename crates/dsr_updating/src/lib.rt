@@ -9,4 +9,4 @@
 
 mod effects;
 
-pub use effects::{Effect, Tag, Tags, Way};
+pub use effects::{Direction, Effect, Tag, Tags};

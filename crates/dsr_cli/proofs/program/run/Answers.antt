@@ -1,6 +1,6 @@
 use Rattle.std.proofs.Common.{map, subst}
 use Rattle.std.specs.String.{string_bytes}
-use Rattle.dsr_cli.proofs.Headed.{checks_images, checks_nothing_else, prints_texts}
+use Rattle.dsr_cli.proofs.Headed.{checks_images, checks_nothing_else, finds_nothing_else, finds_plans, prints_texts}
 use Rattle.dsr_cli.specs.Commands.{asked}
 use Rattle.dsr_script.specs.Causes.{Causes}
 use Rattle.dsr_script.specs.Outside.{told_by}
@@ -32,6 +32,22 @@ returns-clause-nothing_else g c =
 pub returns-clause-texts : goal.returns-clause-texts
 returns-clause-texts g c =
     prints_texts (map string_bytes c.args.words.now.items) (told_by g.F.Shelf g.O.Sink c.args.shelf.now c.args.out.now)
+    (told_by g.F.Shelf g.O.Sink c.run.new.shelf c.run.new.out) c.run.result
+    (subst (λ ws. Runs (asked (map string_bytes ws)) (told_by g.F.Shelf g.O.Sink c.args.shelf.now c.args.out.now)
+    (told_by g.F.Shelf g.O.Sink c.run.new.shelf c.run.new.out) c.run.result)
+    c.deref.ensures.value c.run.ensures.runs)
+
+pub returns-clause-plans : goal.returns-clause-plans
+returns-clause-plans g c =
+    finds_plans (map string_bytes c.args.words.now.items) (told_by g.F.Shelf g.O.Sink c.args.shelf.now c.args.out.now)
+    (told_by g.F.Shelf g.O.Sink c.run.new.shelf c.run.new.out) c.run.result
+    (subst (λ ws. Runs (asked (map string_bytes ws)) (told_by g.F.Shelf g.O.Sink c.args.shelf.now c.args.out.now)
+    (told_by g.F.Shelf g.O.Sink c.run.new.shelf c.run.new.out) c.run.result)
+    c.deref.ensures.value c.run.ensures.runs)
+
+pub returns-clause-no_other_plans : goal.returns-clause-no_other_plans
+returns-clause-no_other_plans g c =
+    finds_nothing_else (map string_bytes c.args.words.now.items) (told_by g.F.Shelf g.O.Sink c.args.shelf.now c.args.out.now)
     (told_by g.F.Shelf g.O.Sink c.run.new.shelf c.run.new.out) c.run.result
     (subst (λ ws. Runs (asked (map string_bytes ws)) (told_by g.F.Shelf g.O.Sink c.args.shelf.now c.args.out.now)
     (told_by g.F.Shelf g.O.Sink c.run.new.shelf c.run.new.out) c.run.result)

@@ -1,7 +1,7 @@
 use Rattle.std.proofs.Common.{◌≡◌, ◌↔◌, IsTrue, Some, false, slice_get, slice_index_or, sym, subst}
 use Rattle.dsr_effect.specs.Told.{ChangesAtW}
 use Rattle.dsr_sides.proofs.Deciding.{change_same}
-use Rattle.dsr_updating.specs.declared.effects.Way.TheVariants.{Gain}
+use Rattle.dsr_updating.specs.declared.effects.Direction.TheVariants.{Gain}
 use Rattle.dsr_sides.proofs.owner.Owner.gaining_rules.Goals as goal
 
 pub returns : goal.returns

@@ -1,0 +1,9 @@
+-- A command, as its words ask for it.
+use Rattle.dsr_cli.specs.Words.{Asked, Check, Plan, Text}
+use Rattle.dsr_cli.specs.declared.words.Command.{Command}
+use Rattle.dsr_cli.specs.declared.words.Command.TheVariants as commands
+
+abbrev pub asked_of : Command → Asked
+asked_of (commands.Check spec image) = Check spec.now image.now
+asked_of (commands.Plan spec) = Plan spec.now
+asked_of (commands.Text spec) = Text spec.now

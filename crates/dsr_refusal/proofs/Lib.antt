@@ -1,0 +1,10 @@
+pub mod Items
+pub mod Firsts
+pub mod StuckWays
+pub mod Breaking
+pub mod Beyond
+pub mod StuckMembers
+pub mod Walks
+pub mod Hopeless
+pub mod Same
+pub mod Whole

@@ -1,16 +1,23 @@
 -- What each command does, as a script: which files it loads, and what it tells.
 use Rattle.std.specs.Prelude.{◌≡◌, ◌≤◌, ℕ, List, length, codes, ⊤, Option, None, Some, nat_eq, if◌then◌else◌}
+use Rattle.dsr_cert.specs.Certificates.{certificate_text}
+use Rattle.dsr_certify.specs.Certified.{certified_answer}
+use Rattle.dsr_certify.specs.Verified.{IsVerifyAnswer}
 use Rattle.dsr_check.specs.Checked.{IsCheckAnswer}
 use Rattle.dsr_ir.specs.declared.declarations.Spec.{Spec}
 use Rattle.dsr_meaning.specs.Typed.{IsTyped}
+use Rattle.dsr_plan.specs.Planned as planned
 use Rattle.dsr_plan.specs.Planned.{IsPlanAnswer}
-use Rattle.dsr_script.specs.Scripts.{Answer, Script, loads, picks, tells}
+use Rattle.dsr_plan.specs.Refusals.{refused_answer}
+use Rattle.dsr_plan.specs.declared.plans.Found as plans
+use Rattle.dsr_plan.specs.declared.plans.Found.TheVariants as plan_found
+use Rattle.dsr_script.specs.Scripts.{Answer, Script, loads, picks, saves, tells}
 use Rattle.dsr_script.specs.declared.status.Verdict.TheVariants as verdicts
 use Rattle.dsr_text.specs.Canonical.{canonical}
 use Rattle.dsr_tree.specs.Trees.{TreeShape}
 use Rattle.dsr_typing.specs.Specifications.{specification}
 use Rattle.dsr_cli.specs.Readings.{Found, IsFound, Means, Refused}
-use Rattle.dsr_cli.specs.Words.{Asked, Check, Plan, Text, command_of}
+use Rattle.dsr_cli.specs.Words.{Asked, Certify, Check, Plan, Text, Verify, command_of}
 use Rattle.dsr_cli.specs.declared.waiting.Waiting.{Waiting}
 use Rattle.dsr_cli.specs.declared.waiting.Waiting.TheVariants as stages
 
@@ -21,6 +28,10 @@ spec_limit = 65536
 -- the most bytes of an image, by the version of its specification
 abbrev pub image_limit : Spec → ℕ
 image_limit spec = if nat_eq spec.base.version 2 then 67108864 else 4194304
+
+-- the most bytes of a certificate
+abbrev pub certificate_limit : ℕ
+certificate_limit = 1048576
 
 abbrev pub usage : Answer
 usage = record { verdict = verdicts.Usage; text = codes "usage\n" }
@@ -63,11 +74,36 @@ tells_plan tree = tells (IsPlanAnswer (specification tree))
 abbrev pub plan_after : List ℕ → Script
 plan_after text = reads text tells_plan
 
+-- the certificate of the plan that is taken is saved; where there is no plan, that is told
+abbrev pub certifies : List ℕ → Spec → plans.Found → Script
+certifies name spec (plan_found.Plan choice) =
+    saves name (λ bytes told. (bytes ≡ certificate_text spec choice) × (told ≡ certified_answer choice))
+certifies name spec (plan_found.Stuck set) = tells (λ told. told ≡ refused_answer spec set)
+
+abbrev pub saves_plan : List ℕ → Spec → Script
+saves_plan name spec = picks (planned.IsFound spec) (certifies name spec)
+
+abbrev pub certify_after : List ℕ → List ℕ → Script
+certify_after certificate text = reads text (λ tree. saves_plan certificate (specification tree))
+
+-- a certificate is loaded, and verified under a specification
+abbrev pub verifies : Spec → List ℕ → Script
+verifies spec certificate = tells (IsVerifyAnswer spec certificate)
+
+abbrev pub loads_certificate : List ℕ → Spec → Script
+loads_certificate name spec =
+    loads name certificate_limit (codes "too long certificate\n") (verifies spec)
+
+abbrev pub verify_after : List ℕ → List ℕ → Script
+verify_after certificate text = reads text (λ tree. loads_certificate certificate (specification tree))
+
 abbrev pub script_of : Option Asked → Script
 script_of None = tells (λ told. told ≡ usage)
 script_of (Some (Text spec)) = loads_spec spec text_after
 script_of (Some (Plan spec)) = loads_spec spec plan_after
 script_of (Some (Check spec image)) = loads_spec spec (check_after image)
+script_of (Some (Certify spec certificate)) = loads_spec spec (certify_after certificate)
+script_of (Some (Verify spec certificate)) = loads_spec spec (verify_after certificate)
 
 -- what the words ask for
 abbrev pub asked : List (List ℕ) → Script
@@ -81,6 +117,9 @@ due stages.Text bytes = text_after bytes
 due stages.Plan bytes = plan_after bytes
 due (stages.Check image) bytes = check_after image.now bytes
 due (stages.Image spec) bytes = checks spec bytes
+due (stages.Certify certificate) bytes = certify_after certificate.now bytes
+due (stages.Verify certificate) bytes = verify_after certificate.now bytes
+due (stages.Certificate spec) bytes = verifies spec bytes
 
 -- how many files may still be loaded behind that one
 abbrev pub left : Waiting → ℕ
@@ -88,10 +127,16 @@ left stages.Text = 0
 left stages.Plan = 0
 left (stages.Check image) = 1
 left (stages.Image spec) = 0
+left (stages.Certify certificate) = 0
+left (stages.Verify certificate) = 1
+left (stages.Certificate spec) = 0
 
--- an image is waited for with a typed specification, and isn't longer than any may be
+-- an image and a certificate are waited for with a typed specification; an image isn't longer than any may be
 abbrev pub is_ready : Waiting → List ℕ → Type 0
 is_ready stages.Text bytes = ⊤
 is_ready stages.Plan bytes = ⊤
 is_ready (stages.Check image) bytes = ⊤
 is_ready (stages.Image spec) bytes = IsTyped spec × (length bytes ≤ 67108864)
+is_ready (stages.Certify certificate) bytes = ⊤
+is_ready (stages.Verify certificate) bytes = ⊤
+is_ready (stages.Certificate spec) bytes = IsTyped spec

@@ -1,7 +1,7 @@
 // The whole program, over any shelf and any output.
 ghost use Rattle.std.specs.Prelude.{map, string_bytes};
 ghost use Rattle.dsr_cli.specs.Commands.{asked};
-ghost use Rattle.dsr_cli.specs.Headlines.{ChecksImages, ChecksNothingElse, FindsNothingElse, FindsPlans, PrintsTexts};
+ghost use Rattle.dsr_cli.specs.Headlines.{CertifiesNothingElse, CertifiesPlans, ChecksImages, ChecksNothingElse, FindsNothingElse, FindsPlans, PrintsTexts, VerifiesCertificates, VerifiesNothingElse};
 ghost use Rattle.dsr_script.specs.Causes.{Causes};
 ghost use Rattle.dsr_script.specs.Outside.{told_by};
 ghost use Rattle.dsr_script.specs.Runs.{Runs};
@@ -30,6 +30,14 @@ pub fn run<F: Shelf, O: Sink>(
     ensures plans { FindsPlans (map string_bytes words.now.items)
         (told_by F.Shelf O.Sink shelf.old out.old) (told_by F.Shelf O.Sink shelf.new out.new) result }
     ensures no_other_plans { FindsNothingElse (map string_bytes words.now.items)
+        (told_by F.Shelf O.Sink shelf.old out.old) (told_by F.Shelf O.Sink shelf.new out.new) result }
+    ensures certificates { CertifiesPlans (map string_bytes words.now.items)
+        (told_by F.Shelf O.Sink shelf.old out.old) (told_by F.Shelf O.Sink shelf.new out.new) result }
+    ensures no_other_certificates { CertifiesNothingElse (map string_bytes words.now.items)
+        (told_by F.Shelf O.Sink shelf.old out.old) (told_by F.Shelf O.Sink shelf.new out.new) result }
+    ensures verified { VerifiesCertificates (map string_bytes words.now.items)
+        (told_by F.Shelf O.Sink shelf.old out.old) (told_by F.Shelf O.Sink shelf.new out.new) result }
+    ensures no_others_verified { VerifiesNothingElse (map string_bytes words.now.items)
         (told_by F.Shelf O.Sink shelf.old out.old) (told_by F.Shelf O.Sink shelf.new out.new) result }
     ensures texts { PrintsTexts (map string_bytes words.now.items)
         (told_by F.Shelf O.Sink shelf.old out.old) (told_by F.Shelf O.Sink shelf.new out.new) result }

@@ -2,13 +2,14 @@
 ghost use Rattle.std.specs.Prelude.{◌≡◌, ◌≤◌, ◌+◌, IfOk, Some, length};
 ghost use Rattle.dsr_cli.specs.Commands as commands;
 ghost use Rattle.dsr_cli.specs.Asking.{asked_of};
-ghost use Rattle.dsr_cli.specs.Commands.{check_after, checks, due, is_ready, left, plan_after, script_of, text_after};
+ghost use Rattle.dsr_cli.specs.Commands.{certify_after, check_after, checks, due, is_ready, left, plan_after, script_of, text_after, verifies, verify_after};
 ghost use Rattle.dsr_meaning.specs.Typed.{IsTyped};
 ghost use Rattle.dsr_script.specs.Moves.{Follows, IsReady, loads_of};
 
 use crate::readings::{Reading, read};
 use crate::words::{Command, command_of};
 use dsr_answers::told;
+use dsr_certify::{Certified, certify, verify};
 use dsr_check::check;
 use dsr_ir::{NoMemory, Spec};
 use dsr_parse::print;
@@ -18,6 +19,9 @@ use std::alloc::{AllocError, Global};
 
 /// The most bytes of a specification's text.
 const SPEC_LIMIT: u32 = 65_536;
+
+/// The most bytes of a certificate.
+const CERTIFICATE_LIMIT: u32 = 1_048_576;
 
 /// A command that waits for a file.
 #[derive(Drop)]
@@ -30,6 +34,12 @@ pub enum Waiting<'a> {
     Check(&'a str),
     /// `check`, for the image, with the specification that the text means.
     Image(Spec),
+    /// `certify`, for the text of the specification; then the certificate is saved under this name.
+    Certify(&'a str),
+    /// `verify`, for the text of the specification; then comes the certificate of this name.
+    Verify(&'a str),
+    /// `verify`, for the certificate, with the specification that the text means.
+    Certificate(Spec),
 }
 
 // The most bytes of an image.
@@ -69,6 +79,65 @@ fn tell_plan<'a>(alloc: Global, text: &[u8]) -> Result<Move<'a, Waiting<'a>>, No
         Reading::Means(_, spec) => Ok(Move::Tell(plan(alloc, &spec)?)),
         Reading::Refused(told) => Ok(Move::Tell(told)),
     }
+}
+
+// `certify` goes on with the text.
+fn save_certificate<'a>(
+    alloc: Global,
+    text: &[u8],
+    certificate: &'a str,
+) -> Result<Move<'a, Waiting<'a>>, NoMemory>
+    ensures ready { IfOk result (λ move. IsReady is_ready move) }
+    ensures follows { IfOk result (λ move. Follows due (certify_after certificate.now text.now) move) }
+    ensures fewer { IfOk result (λ move. loads_of left move ≤ 0) }
+{
+    let spec = match read(alloc, text)? {
+        Reading::Means(_, spec) => spec,
+        Reading::Refused(told) => return Ok(Move::Tell(told)),
+    };
+    match certify(alloc, &spec)? {
+        Certified::Certificate(bytes, told) => Ok(Move::Save {
+            name: certificate,
+            bytes,
+            told,
+        }),
+        Certified::Unplanned(told) => Ok(Move::Tell(told)),
+    }
+}
+
+// `verify` goes on with the text.
+fn load_certificate<'a>(
+    alloc: Global,
+    text: &[u8],
+    certificate: &'a str,
+) -> Result<Move<'a, Waiting<'a>>, NoMemory>
+    ensures ready { IfOk result (λ move. IsReady is_ready move) }
+    ensures follows { IfOk result (λ move. Follows due (verify_after certificate.now text.now) move) }
+    ensures fewer { IfOk result (λ move. loads_of left move ≤ 1) }
+{
+    match read(alloc, text)? {
+        Reading::Means(_, spec) => Ok(Move::Load {
+            name: certificate,
+            limit: CERTIFICATE_LIMIT,
+            long: b"too long certificate\n",
+            stage: Waiting::Certificate(spec),
+        }),
+        Reading::Refused(told) => Ok(Move::Tell(told)),
+    }
+}
+
+// `verify` goes on with the certificate.
+fn tell_verify<'a>(
+    alloc: Global,
+    spec: &Spec,
+    certificate: &[u8],
+) -> Result<Move<'a, Waiting<'a>>, NoMemory>
+    requires typed { IsTyped spec.now }
+    ensures ready { IfOk result (λ move. IsReady is_ready move) }
+    ensures follows { IfOk result (λ move. Follows due (verifies spec.now certificate.now) move) }
+    ensures fewer { IfOk result (λ move. loads_of left move ≤ 0) }
+{
+    Ok(Move::Tell(verify(alloc, spec, certificate)?))
 }
 
 // `check` goes on with the text.
@@ -134,6 +203,18 @@ impl<'a> Stage<'a> for Waiting<'a> {
                 Ok(next) => Ok(next),
                 Err(NoMemory) => Err(AllocError),
             },
+            Waiting::Certify(certificate) => match save_certificate(alloc, &bytes, certificate) {
+                Ok(next) => Ok(next),
+                Err(NoMemory) => Err(AllocError),
+            },
+            Waiting::Verify(certificate) => match load_certificate(alloc, &bytes, certificate) {
+                Ok(next) => Ok(next),
+                Err(NoMemory) => Err(AllocError),
+            },
+            Waiting::Certificate(spec) => match tell_verify(alloc, &spec, &bytes) {
+                Ok(next) => Ok(next),
+                Err(NoMemory) => Err(AllocError),
+            },
         }
     }
 }
@@ -144,9 +225,11 @@ fn load_spec<'a>(command: Command<'a>) -> Move<'a, Waiting<'a>>
     ensures follows { Follows due (script_of (Some (asked_of command.entry))) result }
 {
     let (spec, stage) = match command {
+        Command::Certify { spec, certificate } => (spec, Waiting::Certify(certificate)),
         Command::Check { spec, image } => (spec, Waiting::Check(image)),
         Command::Plan { spec } => (spec, Waiting::Plan),
         Command::Text { spec } => (spec, Waiting::Text),
+        Command::Verify { spec, certificate } => (spec, Waiting::Verify(certificate)),
     };
     Move::Load {
         name: spec,

@@ -6,12 +6,16 @@ ghost use Rattle.dsr_cli.specs.Words as said;
 /// A command, with the names of its files.
 #[derive(Clone, Copy)]
 pub enum Command<'a> {
+    /// A certificate of the plan of a specification, saved under the second name.
+    Certify { spec: &'a str, certificate: &'a str },
     /// Whether an image is consistent under a specification.
     Check { spec: &'a str, image: &'a str },
     /// The plan of a specification.
     Plan { spec: &'a str },
     /// The canonical text of a specification.
     Text { spec: &'a str },
+    /// Whether a certificate is one of a plan of the specification.
+    Verify { spec: &'a str, certificate: &'a str },
 }
 
 fn is_odd(word: &str) -> bool
@@ -36,12 +40,31 @@ fn with_one<'a>(command: &str, spec: &'a str) -> Option<Command<'a>>
     None
 }
 
+// What is saved has another name than the specification.
+fn certify<'a>(spec: &'a str, certificate: &'a str) -> Option<Command<'a>>
+    ensures { option_map asked_of result ≡ said.to_certify spec.now certificate.now }
+{
+    if certificate == spec {
+        return None;
+    }
+    Some(Command::Certify { spec, certificate })
+}
+
 // Those with two.
 fn with_two<'a>(command: &str, spec: &'a str, file: &'a str) -> Option<Command<'a>>
     ensures { option_map asked_of result ≡ said.with_two command.now spec.now file.now }
 {
     if command == "check" {
         return Some(Command::Check { spec, image: file });
+    }
+    if command == "certify" {
+        return certify(spec, file);
+    }
+    if command == "verify" {
+        return Some(Command::Verify {
+            spec,
+            certificate: file,
+        });
     }
     None
 }

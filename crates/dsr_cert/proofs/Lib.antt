@@ -1,0 +1,14 @@
+pub mod Appended
+pub mod Ranks
+pub mod Numbers
+pub mod Taken
+pub mod Tested
+pub mod Joined
+pub mod Saying
+pub mod Naming
+pub mod Nested
+pub mod Whole
+pub mod Stable
+pub mod Unflawed
+pub mod Flawed
+pub mod ReadOnce

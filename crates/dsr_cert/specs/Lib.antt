@@ -1,0 +1,5 @@
+pub mod Certificates
+pub mod Forms
+pub mod Parts
+pub mod Flaws
+pub mod Searches

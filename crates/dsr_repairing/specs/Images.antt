@@ -1,0 +1,18 @@
+-- Images of which a specification has a layout, and the fields on which it rests.
+use Rattle.std.specs.Prelude.{◌≡◌, ◌≤◌, ℕ, false, List, IsSomeAnd, length}
+use Rattle.dsr_ir.specs.declared.declarations.Spec.{Spec}
+use Rattle.dsr_ir.specs.declared.layouts.Layout.{Layout}
+use Rattle.dsr_ir.specs.declared.updates.Write.{Write}
+use Rattle.dsr_meaning.specs.Instances.{declared_field}
+use Rattle.dsr_meaning.specs.Refusals.{IsLayoutOf}
+use Rattle.dsr_meaning.specs.Typed.{IsTyped}
+
+-- the specification is typed, and this is its layout on the image, which is no longer than one may be
+pub record IsImageOf (spec : Spec) (layout : Layout) (bytes : List ℕ) : Type 0 where
+  pub typed : IsTyped spec
+  pub layout_is : IsLayoutOf spec bytes layout
+  pub small : length bytes ≤ 67108864
+
+-- the write's field is no fixed one, on which the layout may rest
+abbrev pub IsFree : Spec → Write → Type 0
+IsFree spec write = IsSomeAnd (declared_field spec.base write.path.field) (λ f. f.fixed ≡ false)

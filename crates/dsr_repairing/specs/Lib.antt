@@ -1,0 +1,5 @@
+pub mod Images
+pub mod Due
+pub mod Turns
+pub mod Entries
+pub mod Runs

@@ -1,12 +1,13 @@
 -- What a repair does next on an image.
-use Rattle.std.specs.Prelude.{◌≡◌, ℕ, List, Some, IsSomeAnd, slice_get}
-use Rattle.dsr_applying.specs.Choices.{Adds, IsChosen}
+use Rattle.std.specs.Prelude.{◌≡◌, ℕ, List, Option, Some, IsSomeAnd}
+use Rattle.dsr_applying.specs.Choices.{IsChosen, IsUpdateAt}
 use Rattle.dsr_ir.specs.declared.constraints.Literal.{Literal}
 use Rattle.dsr_ir.specs.declared.declarations.Spec.{Spec}
 use Rattle.dsr_ir.specs.declared.layouts.Layout.{Layout}
 use Rattle.dsr_ir.specs.declared.tuples.Element.{Element}
 use Rattle.dsr_ir.specs.declared.tuples.Fact.{Fact}
 use Rattle.dsr_ir.specs.declared.tuples.Fact.TheVariants.{Member}
+use Rattle.dsr_ir.specs.declared.tuples.Instance.{Instance}
 use Rattle.dsr_ir.specs.declared.updates.Template.{Template}
 use Rattle.dsr_ir.specs.declared.updates.Update.{Update}
 use Rattle.dsr_meaning.specs.Consistency.{BoundConstraint, IsConsistent}
@@ -47,15 +48,17 @@ IsUsedUp is_fact spec layout pool =
 abbrev pub needed_by : Need → BoundConstraint
 needed_by need = record { constraint = need.constraint; binding = need.binding }
 
--- the literal that is to become true next takes a fresh record of the pool, whose supply has none
+-- the update that is chosen for the literal that is to become true next takes a fresh record of the pool, whose supply
+-- has none
 pub record IsNeed (spec : Spec) (choice : Choice) (layout : Layout) (bytes : List ℕ) (need : Need) : Type 0 where
   pub literal : Literal
   pub template : Template
-  pub update : Update
   pub due :
       IsDue (IsFact spec layout bytes) spec choice (needed_by need) need.conj need.literal literal template
-  pub adds : Adds (IsFact spec layout bytes) need.binding literal.atom template.goal
-  pub update_is : slice_get template.updates 0 ≡ Some update
+  pub at : ℕ
+  pub update : Update
+  pub stopped : Option Instance
+  pub update_is : IsUpdateAt spec layout bytes need.binding literal.atom template at update stopped
   pub fresh : update.fresh ≡ Some need.pool
   pub used_up : IsUsedUp (IsFact spec layout bytes) spec layout need.pool
 

@@ -5,7 +5,7 @@ ghost use Rattle.dsr_ir.specs.declared.layouts.Layout.{Layout};
 ghost use Rattle.dsr_ir.specs.declared.updates.Update.{Update};
 ghost use Rattle.dsr_planning.specs.Plans.{IsPlan};
 ghost use Rattle.dsr_planning.specs.declared.choices.Choice.{Choice};
-ghost use Rattle.dsr_repairing.specs.Images.{IsFree, IsImageOf};
+ghost use Rattle.dsr_repairing.specs.Images.{IsFree, IsImageOf, IsOfHead};
 ghost use Rattle.dsr_repairing.specs.Turns.{IsDueStep};
 ghost use Rattle.dsr_stepping.specs.Steps.{CanStep};
 ghost use Rattle.dsr_stepping.specs.declared.steps.Step.{Step};
@@ -23,4 +23,12 @@ pub fn due_steps_write_no_fixed_field()
     ensures { (spec : Spec) (choice : Choice) (layout : Layout) (bytes : List ℕ) (step : Step)
         (update : Update) → IsImageOf spec layout bytes → IsPlan spec choice
         → IsDueStep spec choice layout bytes step update → All (IsFree spec) update.writes }
+{}
+
+/// Where it writes the head, it writes fields of the head's structure.
+pub fn due_steps_write_fields_of_the_head()
+    ensures { (spec : Spec) (choice : Choice) (layout : Layout) (bytes : List ℕ) (step : Step)
+        (update : Update) → IsImageOf spec layout bytes → IsPlan spec choice
+        → IsDueStep spec choice layout bytes step update
+        → All (IsOfHead spec step.elem) update.writes }
 {}

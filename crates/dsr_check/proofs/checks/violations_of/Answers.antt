@@ -4,8 +4,8 @@ use Rattle.dsr_meaning.specs.Models.{IsFact}
 use Rattle.dsr_model.specs.Facts.{IsInModel}
 use Rattle.dsr_model.specs.Views.{set_shape}
 use Rattle.dsr_meaning.specs.Consistency.{bound_constraint}
-use Rattle.dsr_check.proofs.Bridged.{same_facts}
-use Rattle.dsr_check.proofs.SameFacts.{found_same}
+use Rattle.dsr_seen.proofs.Bridged.{same_facts}
+use Rattle.dsr_seen.proofs.SameFacts.{found_same}
 use Rattle.dsr_check.proofs.checks.violations_of.Goals as goal
 
 pub rebuild-requires-clause-prepared : goal.rebuild-requires-clause-prepared

@@ -1,0 +1,4 @@
+pub mod Violations
+pub mod Literals
+pub mod Chosen
+pub mod Supplies

@@ -1,0 +1,10 @@
+-- Which slots of a pool are no fresh records.
+use Rattle.std.specs.Prelude.{ℕ, List}
+use Rattle.dsr_ir.specs.declared.tuples.Element.{Element}
+use Rattle.dsr_ir.specs.declared.tuples.Fact.{Fact}
+use Rattle.dsr_ir.specs.declared.tuples.Fact.TheVariants.{Member}
+use Rattle.dsr_meaning.specs.Counting.{IsIn}
+
+-- the record is a member of one of the sets
+abbrev pub IsTaken : (Fact → Type 0) → List ℕ → Element → Type 0
+IsTaken is_fact sets e = (set : ℕ) × IsIn set sets × is_fact (Member set e)

@@ -1,0 +1,186 @@
+// The step that is due.
+ghost use Rattle.std.specs.Prelude.{◌≡◌, MatchOption, true};
+ghost use Rattle.dsr_due.specs.Chosen.{AreDecided, IsChosenFor, IsDueOf, IsStepFor};
+ghost use Rattle.dsr_due.specs.Violations.{IsNextViolation};
+ghost use Rattle.dsr_feasible.specs.Chosen.{IsComplete};
+ghost use Rattle.dsr_fixpoint.specs.Models.{IsModelOf, IsPreparedFor};
+ghost use Rattle.dsr_meaning.specs.Consistency.{IsConsistent};
+ghost use Rattle.dsr_meaning.specs.Models.{IsFact};
+ghost use Rattle.dsr_meaning.specs.Typed.{IsTyped};
+ghost use Rattle.dsr_model.specs.Facts.{IsInModel};
+ghost use Rattle.dsr_repairing.specs.Images.{IsImageOf};
+ghost use Rattle.dsr_repairing.specs.Turns.{IsTurn};
+
+use crate::bindings::{Violation, next_violation};
+use crate::choosing::{adds, entry_at, fact_to_go, record_at, update_by, written_number};
+use crate::fresh::fresh_of;
+use crate::literals::{ToRepair, first_false, first_passing};
+use dsr_fixpoint::deriver;
+use dsr_image::ImageBytes;
+use dsr_ir::{Binding, Element, Instance, Layout, Update};
+use dsr_model::Model;
+use dsr_planning::Plan;
+use dsr_repairing::{Need, Turn};
+use dsr_stepping::Step;
+
+/// The literal that is to become true next.
+pub struct Due<'a> {
+    pub constraint: u32,
+    pub binding: Binding,
+    pub conj: u32,
+    pub repaired: ToRepair<'a>,
+}
+
+/// The update that is chosen, by its place in its template, with the instance that it stops.
+pub struct Chosen<'a> {
+    pub place: u32,
+    pub update: &'a Update,
+    pub stopped: Option<Instance>,
+}
+
+// The literal of the violated constraint that is to become true next.
+fn due_at<'a>(plan: &'a Plan, model: &Model, violation: Violation) -> Due<'a>
+    requires ordered { model.now.ordered ≡ true }
+    requires typed { IsTyped plan.now.0 }
+    requires decided { AreDecided (IsInModel model.now) }
+    requires next { IsNextViolation (IsInModel model.now) plan.now.0 plan.now.1 violation }
+    ensures { IsDueOf (IsInModel model.now) plan.now.0 plan.now.1 result }
+{
+    let constraint = &plan.spec().constraints.items()[violation.constraint as usize];
+    let row = &plan.choice().rows.items()[violation.constraint as usize];
+    let Some((conj, its, ways)) = first_passing(model, constraint, row, &violation.binding) else {
+        unreachable!();
+    };
+    let Some(repaired) = first_false(model, its, ways, &violation.binding) else {
+        unreachable!();
+    };
+    Due {
+        constraint: violation.constraint,
+        binding: violation.binding,
+        conj,
+        repaired,
+    }
+}
+
+// The literal that is to become true next; none where the image is consistent.
+fn next_due<'a, I: ImageBytes>(
+    plan: &'a Plan,
+    layout: &Layout,
+    _image: &I,
+    model: &Model,
+) -> Option<Due<'a>>
+    requires image { IsImageOf plan.now.0 layout.now (I.ImageBytes.bytes _image.now) }
+    requires prepared { IsPreparedFor plan.now.0 layout.now model.now }
+    requires model { IsModelOf plan.now.0 layout.now (I.ImageBytes.bytes _image.now) model.now }
+    ensures { MatchOption result
+        (IsConsistent plan.now.0 layout.now (I.ImageBytes.bytes _image.now))
+        (IsDueOf (IsFact plan.now.0 layout.now (I.ImageBytes.bytes _image.now)) plan.now.0 plan.now.1) }
+{
+    let violation = next_violation(model, plan.spec(), plan.choice())?;
+    Some(due_at(plan, model, violation))
+}
+
+// The update that is chosen for the literal.
+fn chosen_for<'a, I: ImageBytes>(
+    plan: &Plan,
+    layout: &Layout,
+    image: &I,
+    model: &Model,
+    due: &Due<'a>,
+) -> Chosen<'a>
+    requires image { IsImageOf plan.now.0 layout.now (I.ImageBytes.bytes image.now) }
+    requires prepared { IsPreparedFor plan.now.0 layout.now model.now }
+    requires model { IsModelOf plan.now.0 layout.now (I.ImageBytes.bytes image.now) model.now }
+    requires due { IsDueOf (IsFact plan.now.0 layout.now (I.ImageBytes.bytes image.now))
+        plan.now.0 plan.now.1 due.now }
+    ensures { IsChosenFor plan.now.0 layout.now (I.ImageBytes.bytes image.now) due.now result }
+{
+    let (template, atom) = (due.repaired.template, &due.repaired.literal.atom);
+    if adds(model, template.goal, atom, &due.binding) {
+        return Chosen {
+            place: 0,
+            update: &template.updates.items()[0],
+            stopped: None,
+        };
+    }
+    let Some(fact) = fact_to_go(model, atom, &due.binding) else {
+        unreachable!();
+    };
+    let Some(instance) = deriver(model, plan.spec(), layout, image, &fact) else {
+        unreachable!();
+    };
+    let Some((place, update)) = update_by(template, instance.rule) else {
+        unreachable!();
+    };
+    Chosen {
+        place: place as u32,
+        update,
+        stopped: Some(instance),
+    }
+}
+
+// What is needed for the literal where the pool's supply is empty.
+fn need_of(due: &Due, pool: u32) -> Need
+    ensures { result ≡ record {
+      pool = pool;
+      constraint = due.now.constraint;
+      binding = due.now.binding;
+      conj = due.now.conj;
+      literal = due.now.repaired.place;
+    } }
+{
+    Need {
+        pool,
+        constraint: due.constraint,
+        binding: due.binding,
+        conj: due.conj,
+        literal: due.repaired.place,
+    }
+}
+
+// The step by the update that is chosen.
+fn step_of(plan: &Plan, model: &Model, due: &Due, chosen: &Chosen, fresh: Option<Element>) -> Step
+    requires ordered { model.now.ordered ≡ true }
+    requires complete { IsComplete plan.now.0 due.now.binding chosen.now.stopped chosen.now.update.now }
+    ensures { IsStepFor (IsInModel model.now) due.now chosen.now fresh result }
+{
+    let Some(elem) = record_at(chosen.update.place, &due.binding, chosen.stopped) else {
+        unreachable!();
+    };
+    let Some(index) = entry_at(chosen.update.at, &due.binding, chosen.stopped) else {
+        unreachable!();
+    };
+    Step {
+        constraint: due.constraint,
+        binding: due.binding,
+        conj: due.conj,
+        literal: due.repaired.place,
+        rule: chosen.update.rule,
+        elem,
+        index,
+        number: written_number(model, chosen.update.writes.items(), &due.binding),
+        fresh,
+        update: chosen.place,
+    }
+}
+
+/// What is due on an image by a plan, once the model is that of the image. Takes no memory.
+pub fn due<I: ImageBytes>(plan: &Plan, layout: &Layout, image: &I, model: &Model) -> Turn
+    requires image { IsImageOf plan.now.0 layout.now (I.ImageBytes.bytes image.now) }
+    requires prepared { IsPreparedFor plan.now.0 layout.now model.now }
+    requires model { IsModelOf plan.now.0 layout.now (I.ImageBytes.bytes image.now) model.now }
+    ensures { IsTurn plan.now.0 plan.now.1 layout.now (I.ImageBytes.bytes image.now) result }
+{
+    let Some(due) = next_due(plan, layout, image, model) else {
+        return Turn::Done;
+    };
+    let chosen = chosen_for(plan, layout, image, model, &due);
+    let fresh = match chosen.update.fresh {
+        None => None,
+        Some(pool) => match fresh_of(model, plan.spec(), layout, pool) {
+            Some(elem) => Some(elem),
+            None => return Turn::Empty(need_of(&due, pool)),
+        },
+    };
+    Turn::Step(step_of(plan, model, &due, &chosen, fresh))
+}

@@ -1,0 +1,56 @@
+// Fresh records.
+ghost use Rattle.std.specs.Prelude.{◌≡◌, ◌≤◌, ◌^◌, Decides, IfSome, IsSome, IsSomeAnd, MatchOption, true};
+ghost use Rattle.dsr_applying.specs.Choices.{IsFreshFrom};
+ghost use Rattle.dsr_due.specs.Supplies.{IsTaken};
+ghost use Rattle.dsr_ir.specs.Layouts as layouts;
+ghost use Rattle.dsr_meaning.specs.Typed as typed;
+ghost use Rattle.dsr_model.specs.Facts.{IsInModel};
+ghost use Rattle.dsr_repairing.specs.Turns.{IsUsedUp};
+
+use dsr_ir::{Element, Fact, Layout, Spec};
+use dsr_layout::pool_numbers;
+use dsr_model::Model;
+
+// Whether the record is a member of one of the sets.
+fn is_taken(model: &Model, sets: &[u32], elem: Element) -> bool
+    requires ordered { model.now.ordered ≡ true }
+    ensures { Decides result (IsTaken (IsInModel model.now) sets.now elem) }
+{
+    for set in sets {
+        if model.has(&Fact::Member(*set, elem)) {
+            return true;
+        }
+    }
+    false
+}
+
+// The sets that the pool's supply avoids.
+fn avoided(spec: &Spec, pool: u32) -> Option<&[u32]>
+    ensures { option_map (λ sets. sets.now) result ≡
+        option_and_then (λ d. d.avoid) (typed.pool_at spec.now.base pool) }
+{
+    let pool = spec.base.pools.items().get(pool.checked_sub(1)? as usize)?;
+    Some(pool.avoid.as_ref()?.items())
+}
+
+/// The least slot of the pool that is in none of the sets which its supply avoids.
+pub fn fresh_of(model: &Model, spec: &Spec, layout: &Layout, pool: u32) -> Option<Element>
+    requires ordered { model.now.ordered ≡ true }
+    requires supply { IsSomeAnd (typed.pool_at spec.now.base pool) (λ d. IsSome d.avoid) }
+    requires small { IfSome (layouts.pool_numbers layout.now pool) (λ n. n.count ≤ 2 ^ 32) }
+    ensures { MatchOption result (IsUsedUp (IsInModel model.now) spec.now layout.now pool)
+        (IsFreshFrom (IsInModel model.now) spec.now layout.now pool) }
+{
+    let sets = avoided(spec, pool)?;
+    let count = pool_numbers(layout, pool)?.count;
+    for slot in 0..count {
+        let elem = Element {
+            pool,
+            slot: slot as u32,
+        };
+        if !is_taken(model, sets, elem) {
+            return Some(elem);
+        }
+    }
+    None
+}

@@ -1,0 +1,2 @@
+pub mod Bridged
+pub mod SameFacts

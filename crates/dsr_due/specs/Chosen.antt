@@ -1,7 +1,6 @@
 -- What is chosen for the literal that is to become true next.
-use Rattle.std.specs.Prelude.{◌≡◌, ℕ, List, Option, Some, slice_get}
+use Rattle.std.specs.Prelude.{◌≡◌, ◌⊎◌, ℕ, List, Option, Some, slice_get}
 use Rattle.dsr_applying.specs.Choices.{IsEntryAt, IsNumberFor, IsPlace, IsUpdateAt, TakesAway}
-use Rattle.dsr_decided.specs.Deciding.{IsDecided}
 use Rattle.dsr_due.specs.declared.dues.Chosen.{Chosen}
 use Rattle.dsr_due.specs.declared.dues.Due.{Due}
 use Rattle.dsr_ir.specs.declared.constraints.Literal.{Literal}
@@ -20,7 +19,7 @@ use Rattle.dsr_stepping.specs.declared.steps.Step.{Step}
 
 -- whether a literal is true is decided
 abbrev pub AreDecided : (Fact → Type 0) → Type 0
-AreDecided is_fact = (b : Binding) (its : Literal) → IsDecided (LiteralHolds is_fact b its)
+AreDecided is_fact = (b : Binding) (its : Literal) → LiteralHolds is_fact b its ⊎ (LiteralHolds is_fact b its → ⊥)
 
 -- the update of the template takes away what the rule gives
 pub record IsUpdateBy (template : Template) (rule n : ℕ) (update : Update) : Type 0 where

@@ -10,3 +10,6 @@ mod values;
 mod writes;
 
 pub use applying::{apply, make};
+pub use resets::reset;
+pub use values::picked_number;
+pub use writes::{is_wanted, written_cell};

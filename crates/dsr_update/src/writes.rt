@@ -37,8 +37,8 @@ pub fn written_cell(layout: &Layout, step: &Step, write: &Write) -> Cell
     )
 }
 
-// Whether what the write wants holds of the value.
-fn is_wanted(spec: &Spec, layout: &Layout, write: &Write, number: u64, value: u64) -> bool
+/// Whether what the write wants holds of the value.
+pub fn is_wanted(spec: &Spec, layout: &Layout, write: &Write, number: u64, value: u64) -> bool
     requires legal { IsLegalLayout layout.now }
     requires declared { IfSome (meaning.referred_pool spec.now write.now.path.field)
         (λ p. IsSome (layouts.pool_numbers layout.now p)) }

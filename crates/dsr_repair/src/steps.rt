@@ -1,0 +1,64 @@
+// One step.
+ghost use Rattle.std.specs.Prelude.{◌≡◌, IfOk, OnErr, option_map};
+ghost use Rattle.dsr_repair.specs.Made.{chosen_update};
+ghost use Rattle.dsr_repair.specs.Stepping.{IsModelled, IsTaken, Stays};
+ghost use Rattle.dsr_repairing.specs.Turns.{IsTurn};
+
+use crate::changes::{claim_changes, make_changes};
+use crate::entries::entry_of;
+use dsr_due::due;
+use dsr_fixpoint::rebuild;
+use dsr_image::ImageBytes;
+use dsr_ir::{Layout, NoMemory, Update};
+use dsr_model::Model;
+use dsr_planning::{Plan, Way};
+use dsr_repairing::Turn;
+use dsr_report::Log;
+use dsr_stepping::Step;
+use std::alloc::Global;
+
+// The update of the plan that a step makes.
+fn update_of<'a>(plan: &'a Plan, step: &Step) -> Option<&'a Update>
+    ensures { option_map (λ u. u.now) result ≡ chosen_update plan.now.1 step.now }
+{
+    let row = plan.choice().rows.items().get(step.constraint as usize)?;
+    let ways = row.ways.items().get(step.conj as usize)?;
+    match ways.items().get(step.literal as usize)? {
+        Way::By(_, template) => template.updates.items().get(step.update as usize),
+        Way::Test => None,
+    }
+}
+
+/// Makes the step that is due, pushes its entry, and builds the model anew. Where nothing is due, or a supply is empty,
+/// all stays as it is; so it does where memory is wanting, but that more bytes may be claimed.
+pub fn step<I: ImageBytes>(
+    alloc: Global,
+    plan: &Plan,
+    layout: &Layout,
+    image: &mut I,
+    model: &mut Model,
+    log: &mut Log,
+) -> Result<Turn, NoMemory>
+    requires modelled { IsModelled plan.now.0 layout.now (I.ImageBytes.bytes image.old) model.old }
+    ensures turn { IfOk result (IsTurn plan.now.0 plan.now.1 layout.now (I.ImageBytes.bytes image.old)) }
+    ensures taken { IfOk result (IsTaken plan.now.0 plan.now.1 layout.now (I.ImageBytes.bytes image.old)
+        (I.ImageBytes.bytes image.new) log.old.entries log.new.entries) }
+    ensures stays { OnErr result (Stays (I.ImageBytes.bytes image.old) (I.ImageBytes.bytes image.new)
+        log.old.entries log.new.entries) }
+    ensures modelled { IsModelled plan.now.0 layout.now (I.ImageBytes.bytes image.new) model.new }
+{
+    let turn = due(plan, layout, image, model);
+    let Turn::Step(step) = turn else {
+        return Ok(turn);
+    };
+    let Some(update) = update_of(plan, &step) else {
+        unreachable!();
+    };
+    let entry = entry_of(alloc, plan.spec(), layout, &step, update, image)?;
+    log.reserve()?;
+    claim_changes(entry.bytes.items(), image)?;
+    make_changes(entry.bytes.items(), image);
+    log.push(entry);
+    rebuild(model, plan.spec(), layout, image)?;
+    Ok(turn)
+}

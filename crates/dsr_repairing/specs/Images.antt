@@ -2,10 +2,11 @@
 use Rattle.std.specs.Prelude.{◌≡◌, ◌≤◌, ℕ, false, List, IsSomeAnd, length}
 use Rattle.dsr_ir.specs.declared.declarations.Spec.{Spec}
 use Rattle.dsr_ir.specs.declared.layouts.Layout.{Layout}
+use Rattle.dsr_ir.specs.declared.tuples.Element.{Element}
 use Rattle.dsr_ir.specs.declared.updates.Write.{Write}
 use Rattle.dsr_meaning.specs.Instances.{declared_field}
 use Rattle.dsr_meaning.specs.Refusals.{IsLayoutOf}
-use Rattle.dsr_meaning.specs.Typed.{IsTyped}
+use Rattle.dsr_meaning.specs.Typed.{Descends, IsTyped}
 
 -- the specification is typed, and this is its layout on the image, which is no longer than one may be
 pub record IsImageOf (spec : Spec) (layout : Layout) (bytes : List ℕ) : Type 0 where
@@ -16,3 +17,8 @@ pub record IsImageOf (spec : Spec) (layout : Layout) (bytes : List ℕ) : Type 0
 -- the write's field is no fixed one, on which the layout may rest
 abbrev pub IsFree : Spec → Write → Type 0
 IsFree spec write = IsSomeAnd (declared_field spec.base write.path.field) (λ f. f.fixed ≡ false)
+
+-- where the head is written, the field is one of its structure or of an ancestor of that
+abbrev pub IsOfHead : Spec → Element → Write → Type 0
+IsOfHead spec e write =
+    e.pool ≡ 0 → Descends spec.base.structures spec.base.head write.path.field.structure

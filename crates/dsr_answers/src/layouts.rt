@@ -7,19 +7,11 @@ ghost use Rattle.dsr_meaning.specs.Refusals as meaning;
 ghost use Rattle.dsr_script.specs.Moves.{shown};
 
 use crate::names::{constraint_name, field_name, pool_name, structure_name};
-use crate::texts::push;
+use crate::texts::{push, push_named};
 use dsr_ir::{NoMemory, Spec};
 use dsr_layout::LayoutFault;
 use dsr_script::{Told, Verdict};
 use std::alloc::Global;
-
-// Appends a word with a name behind it.
-fn push_named(text: &mut Vec<u8>, word: &[u8], name: &[u8]) -> Result<(), NoMemory>
-    ensures { OnOk result (text.new.items ≡ text.old.items ++ word.now ++ name.now) }
-{
-    push(text, word)?;
-    push(text, name)
-}
 
 // Appends a word with two names behind it.
 fn push_names(

@@ -15,6 +15,14 @@ pub fn push(text: &mut Vec<u8>, piece: &[u8]) -> Result<(), NoMemory>
     Ok(())
 }
 
+/// Appends a word with a name behind it.
+pub fn push_named(text: &mut Vec<u8>, word: &[u8], name: &[u8]) -> Result<(), NoMemory>
+    ensures { OnOk result (text.new.items ≡ text.old.items ++ word.now ++ name.now) }
+{
+    push(text, word)?;
+    push(text, name)
+}
+
 /// Appends a number in decimal.
 pub fn push_number(text: &mut Vec<u8>, number: u64) -> Result<(), NoMemory>
     ensures { OnOk result (text.new.items ≡ text.old.items ++ decimal number) }

@@ -1,0 +1,8 @@
+//! What a repair did: its steps as they are noted, and the text that tells them.
+#![tactic(auto)]
+
+mod logs;
+mod texts;
+
+pub use logs::Log;
+pub use texts::{push_entries, text};

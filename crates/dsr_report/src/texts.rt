@@ -1,0 +1,170 @@
+// The text that tells what each step of a repair changed.
+ghost use Rattle.std.specs.Prelude.{◌≡◌, ◌++◌, IfOk, OnOk, [], length};
+ghost use Rattle.std.specs.List.{flat_map};
+ghost use Rattle.std.specs.Option.{option_map_or};
+ghost use Rattle.dsr_report.specs.Reports as said;
+
+use crate::logs::Log;
+use dsr_answers::{
+    constraint_name, field_name, push, push_binding, push_element, push_named, push_number,
+};
+use dsr_ir::{Element, NoMemory, Spec};
+use dsr_repairing::{ByteChange, CellSet, Entry};
+use std::alloc::Global;
+
+// Appends a conjunction and a literal, counted from 1.
+fn push_place(text: &mut Vec<u8>, entry: &Entry) -> Result<(), NoMemory>
+    ensures { OnOk result (text.new.items ≡ text.old.items ++ said.place_text entry.now) }
+{
+    push_number(text, u64::from(entry.conj) + 1)?;
+    push(text, b".")?;
+    push_number(text, u64::from(entry.literal) + 1)
+}
+
+// Appends the line that begins the entry with this number.
+fn push_update(text: &mut Vec<u8>, spec: &Spec, number: u64, entry: &Entry) -> Result<(), NoMemory>
+    ensures { OnOk result (text.new.items ≡ text.old.items
+        ++ said.update_line spec.now number entry.now) }
+{
+    push(text, b"update ")?;
+    push_number(text, number)?;
+    push_named(text, b" ", constraint_name(spec, entry.constraint))?;
+    push(text, b" ")?;
+    push_binding(text, spec, &entry.binding)?;
+    push(text, b" ")?;
+    push_place(text, entry)?;
+    push(text, b" ")?;
+    push_number(text, u64::from(entry.rule) + 1)?;
+    push(text, b"\n")
+}
+
+// Appends the line of the record that was reset, where one was.
+fn push_reset(text: &mut Vec<u8>, spec: &Spec, reset: Option<Element>) -> Result<(), NoMemory>
+    ensures { OnOk result (text.new.items ≡ text.old.items
+        ++ option_map_or (said.reset_line spec.now) reset []) }
+{
+    match reset {
+        Some(elem) => {
+            push(text, b"  reset ")?;
+            push_element(text, spec, elem)?;
+            push(text, b"\n")
+        }
+        None => Ok(()),
+    }
+}
+
+// Appends the entry of an array, where the field is one.
+fn push_index(text: &mut Vec<u8>, set: &CellSet) -> Result<(), NoMemory>
+    ensures { OnOk result (text.new.items ≡ text.old.items ++ said.index_text set.now) }
+{
+    if !set.path.indexed {
+        return Ok(());
+    }
+    push(text, b"[")?;
+    push_number(text, set.index)?;
+    push(text, b"]")
+}
+
+// Appends what was set.
+fn push_place_set(text: &mut Vec<u8>, spec: &Spec, set: &CellSet) -> Result<(), NoMemory>
+    ensures { OnOk result (text.new.items ≡ text.old.items ++ said.place_set spec.now set.now) }
+{
+    let field = set.path.field;
+    push_element(text, spec, set.elem)?;
+    push_named(text, b".", field_name(spec, field.structure, field.field))?;
+    push_index(text, set)
+}
+
+fn push_set(text: &mut Vec<u8>, spec: &Spec, set: &CellSet) -> Result<(), NoMemory>
+    ensures { OnOk result (text.new.items ≡ text.old.items ++ said.set_line spec.now set.now) }
+{
+    push(text, b"  set ")?;
+    push_place_set(text, spec, set)?;
+    push(text, b" ")?;
+    push_number(text, set.old)?;
+    push(text, b" ")?;
+    push_number(text, set.new)?;
+    push(text, b"\n")
+}
+
+fn push_sets(text: &mut Vec<u8>, spec: &Spec, sets: &[CellSet]) -> Result<(), NoMemory>
+    ensures { OnOk result (text.new.items ≡ text.old.items
+        ++ flat_map (said.set_line spec.now) sets.now) }
+{
+    for set in sets {
+        push_set(text, spec, set)?;
+    }
+    Ok(())
+}
+
+// Appends two digits.
+fn push_byte(text: &mut Vec<u8>, byte: u8) -> Result<(), NoMemory>
+    ensures { OnOk result (text.new.items ≡ text.old.items ++ said.byte_text byte) }
+{
+    let mut digits = [0; 2];
+    hex::encode_to_slice([byte], &mut digits).unwrap();
+    push(text, &digits)
+}
+
+fn push_change(text: &mut Vec<u8>, change: &ByteChange) -> Result<(), NoMemory>
+    ensures { OnOk result (text.new.items ≡ text.old.items ++ said.byte_line change.now) }
+{
+    push(text, b"  byte ")?;
+    push_number(text, change.place)?;
+    push(text, b" ")?;
+    push_byte(text, change.old)?;
+    push(text, b" ")?;
+    push_byte(text, change.new)?;
+    push(text, b"\n")
+}
+
+fn push_changes(text: &mut Vec<u8>, changes: &[ByteChange]) -> Result<(), NoMemory>
+    ensures { OnOk result (text.new.items ≡ text.old.items ++ flat_map said.byte_line changes.now) }
+{
+    for change in changes {
+        push_change(text, change)?;
+    }
+    Ok(())
+}
+
+// Appends the lines of the entry with this number.
+fn push_entry(text: &mut Vec<u8>, spec: &Spec, number: u64, entry: &Entry) -> Result<(), NoMemory>
+    ensures { OnOk result (text.new.items ≡ text.old.items
+        ++ said.entry_text spec.now number entry.now) }
+{
+    push_update(text, spec, number, entry)?;
+    push_reset(text, spec, entry.reset)?;
+    push_sets(text, spec, entry.sets.items())?;
+    push_changes(text, entry.bytes.items())
+}
+
+/// Appends the lines of entries, which count from 1.
+pub fn push_entries(text: &mut Vec<u8>, spec: &Spec, entries: &[Entry]) -> Result<(), NoMemory>
+    ensures { OnOk result (text.new.items ≡ text.old.items
+        ++ said.entries_text spec.now entries.now) }
+{
+    for (place, entry) in entries.iter().enumerate() {
+        push_entry(text, spec, place as u64 + 1, entry)?;
+    }
+    Ok(())
+}
+
+// Appends the line that ends a report of so many entries.
+fn push_end(text: &mut Vec<u8>, count: u64) -> Result<(), NoMemory>
+    ensures { OnOk result (text.new.items ≡ text.old.items ++ said.end_line count) }
+{
+    push(text, b"updates ")?;
+    push_number(text, count)?;
+    push(text, b"\n")
+}
+
+/// The text that tells all entries.
+pub fn text(alloc: Global, spec: &Spec, log: &Log) -> Result<Vec<u8>, NoMemory>
+    ensures { IfOk result (λ text. text.items ≡ said.report_text spec.now log.now.entries) }
+{
+    let mut text = Vec::new(alloc);
+    let entries = log.entries();
+    push_entries(&mut text, spec, entries)?;
+    push_end(&mut text, entries.len() as u64)?;
+    Ok(text)
+}

@@ -8,10 +8,10 @@ use crate::steps::step;
 use dsr_fixpoint::rebuild;
 use dsr_image::ImageBytes;
 use dsr_ir::{Layout, NoMemory};
+use dsr_log::Log;
 use dsr_model::Model;
 use dsr_planning::Plan;
 use dsr_repairing::{Outcome, Turn};
-use dsr_report::Log;
 use std::alloc::Global;
 
 /// Makes the steps that are due, one after the other, until none is left: the image is consistent, or the supply of a

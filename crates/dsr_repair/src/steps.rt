@@ -10,10 +10,10 @@ use dsr_due::due;
 use dsr_fixpoint::rebuild;
 use dsr_image::ImageBytes;
 use dsr_ir::{Layout, NoMemory, Update};
+use dsr_log::Log;
 use dsr_model::Model;
 use dsr_planning::{Plan, Way};
 use dsr_repairing::Turn;
-use dsr_report::Log;
 use dsr_stepping::Step;
 use std::alloc::Global;
 

@@ -1,8 +1,7 @@
-//! What a repair did: its steps as they are noted, and the text that tells them.
+//! What a repair did, as a text: each of its steps, with all that it changed.
 #![tactic(auto)]
 
-mod logs;
 mod texts;
 
-pub use logs::Log;
+pub use dsr_log::Log;
 pub use texts::{push_entries, text};

@@ -4,11 +4,11 @@ ghost use Rattle.std.specs.List.{flat_map};
 ghost use Rattle.std.specs.Option.{option_map_or};
 ghost use Rattle.dsr_report.specs.Reports as said;
 
-use crate::logs::Log;
 use dsr_answers::{
     constraint_name, field_name, push, push_binding, push_element, push_named, push_number,
 };
 use dsr_ir::{Element, NoMemory, Spec};
+use dsr_log::Log;
 use dsr_repairing::{ByteChange, CellSet, Entry};
 use std::alloc::Global;
 

@@ -17,7 +17,7 @@ impl Drop for Log {
 
 impl Model for Log {
     ghost use Rattle.std.specs.Prelude.{◌-◌, vec_capacity, vec_len};
-    ghost use Rattle.dsr_report.specs.Logs.{Logged};
+    ghost use Rattle.dsr_log.specs.Logs.{Logged};
 
     ghost Value = { Logged };
 

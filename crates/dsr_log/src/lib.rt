@@ -1,0 +1,6 @@
+//! The steps of a repair, as they are noted.
+#![tactic(auto)]
+
+mod logs;
+
+pub use logs::Log;

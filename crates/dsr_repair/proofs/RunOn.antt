@@ -1,0 +1,25 @@
+-- A run that goes on.
+use Rattle.std.proofs.Common.{◌≡◌, ℕ, List, [], ◌∷◌, ◌++◌, Option, None, Some, slice_get, refl, sym, ap, subst, ◌∙◌}
+use Rattle.std.specs.Option.{option_and_then}
+use Rattle.dsr_ir.specs.declared.declarations.Spec.{Spec}
+use Rattle.dsr_ir.specs.declared.layouts.Layout.{Layout}
+use Rattle.dsr_planning.specs.declared.choices.Choice.{Choice}
+use Rattle.dsr_repairing.specs.Runs.{IsDueEntry, IsPartRun}
+use Rattle.dsr_repairing.specs.Runs.IsPartRun.{begins, goes_on}
+use Rattle.dsr_repairing.specs.declared.entries.Entry.{Entry}
+
+module _ (spec : Spec) (choice : Choice) (layout : Layout) where
+  pub run_on :
+      (old middle new : List ℕ) (entries after : List Entry) (entry : Entry)
+      → IsPartRun spec choice layout old entries middle → IsDueEntry spec choice layout middle entry new
+      → after ≡ entries ++ entry ∷ [] → IsPartRun spec choice layout old after new
+  run_on old middle new entries after entry run due pushed =
+      subst (λ es. IsPartRun spec choice layout old es new) (sym pushed) (goes_on entry run due)
+
+  pub run_same :
+      (old middle new : List ℕ) (entries after : List Entry)
+      → IsPartRun spec choice layout old entries middle → new ≡ middle → after ≡ entries
+      → IsPartRun spec choice layout old after new
+  run_same old middle new entries after run bytes same =
+      subst (λ es. IsPartRun spec choice layout old es new) (sym same)
+      (subst (λ bs. IsPartRun spec choice layout old entries bs) (sym bytes) run)

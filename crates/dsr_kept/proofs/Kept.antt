@@ -45,8 +45,9 @@ module _ (spec : Spec) (layout : Layout) (step : Step) (update : Update) (old : 
   legal : IsLegalLayout layout
   legal = legal_of spec old layout image.layout_is image.typed image.small
 
-  -- a fixed field's cell shares no bit with what is written of the head
+  -- the cell of a fixed field
   module _ (k : ℕ) (cell : Cell) (fixed : fixed_cell spec.base k ≡ Some cell) where
+    -- shares no bit with one of another field of the head
     head_apart : (write : Write) (d : Cell) → step.elem.pool ≡ 0 → CanWrite spec layout step write → IsFree spec write → IsOfHead spec step.elem write → written_cell layout step write ≡ Some d → AreCellsApart cell d
     head_apart write d head can free of_head is =
         let at = fixed_entry spec old layout image.layout_is legal step.elem head k cell fixed in
@@ -59,14 +60,15 @@ module _ (spec : Spec) (layout : Layout) (step : Step) (update : Update) (old : 
         in_other_fields spec.base old layout image.typed.base image.layout_is.numbers step.elem (fixed_field spec.base k) write.path.field 0 (written_index step write) cell d differ
         (inl (of_head head)) at.entry (record { entry = can.entry; cell_is = is })
 
-    -- the cell as one of the head
+    -- is one of the head
     own : IsFixedEntry spec old layout (record { pool = 0; slot = 0 }) k cell
     own = fixed_entry spec old layout image.layout_is legal (record { pool = 0; slot = 0 }) refl k cell fixed
 
-    -- nor with what lies in a slot
+    -- shares no bit with one in a slot
     slots_apart : (e : Element) (d : Cell) → LiesInSlot layout e d → AreCellsApart cell d
     slots_apart e d slot = slot_apart spec old layout image.layout_is legal own.bits own.sized cell d e own.within slot
 
+    -- and so none with one that is written
     written_apart : (write : Write) (d : Cell) → CanWrite spec layout step write → IsFree spec write → IsOfHead spec step.elem write → written_cell layout step write ≡ Some d → AreCellsApart cell d
     written_apart write d can free of_head is = elim (nat_eq step.elem.pool 0) as (λ b. nat_eq step.elem.pool 0 ≡ b → AreCellsApart cell d) [
       | true ↦ λ e. let head : step.elem.pool ≡ 0 = grind (arith, nat_tests) in head_apart write d head can free of_head is
@@ -85,6 +87,7 @@ module _ (spec : Spec) (layout : Layout) (step : Step) (update : Update) (old : 
       | Some e ↦ λ puts. puts_as_long (reset_puts spec.base layout e) old stepped.between puts
     ] stepped.reset
 
+    -- the reset leaves the value of a fixed field's cell
     reset_leaves : (k : ℕ) (cell : Cell) → fixed_cell spec.base k ≡ Some cell → cell_value stepped.between cell ≡ cell_value old cell
     reset_leaves k cell fixed = elim step.fresh as (λ o. IfSome o (IsSlot layout) → MatchOption o (stepped.between ≡ old) (λ e. ArePut (reset_puts spec.base layout e) old stepped.between) → cell_value stepped.between cell ≡ cell_value old cell) [
       | None ↦ λ _ same. ap (λ bytes. cell_value bytes cell) same
@@ -93,6 +96,7 @@ module _ (spec : Spec) (layout : Layout) (step : Step) (update : Update) (old : 
           puts_leave cell (own k cell fixed).form (reset_puts spec.base layout e) old stepped.between (reset_clear spec layout e (length old) resets cell (slots_apart k cell fixed e)) puts
     ] can.fresh stepped.reset
 
+    -- the whole step leaves the value
     left : (k : ℕ) (cell : Cell) → fixed_cell spec.base k ≡ Some cell → cell_value new cell ≡ cell_value old cell
     left k cell fixed =
         writes_leave cell (own k cell fixed).form update.writes stepped.between new (λ v is_in d is.

@@ -7,8 +7,8 @@ ghost use Rattle.dsr_repairing.specs.Images.{IsFree, IsImageOf, IsOfHead};
 ghost use Rattle.dsr_stepping.specs.Steps.{CanStep, IsStepped};
 ghost use Rattle.dsr_stepping.specs.declared.steps.Step.{Step};
 
-/// A step that can be made, writes no fixed field and, where it writes the head, only fields that the
-/// head has, leaves the image as long as it was, with the layout that it had.
+/// A step that can be made, writes no fixed field and, where it writes the head, only fields that
+/// the head has, leaves the image as long as it was, with the layout that it had.
 pub fn steps_keep_the_layout()
     ensures { (spec : Spec) (layout : Layout) (step : Step) (update : Update) (old new : List ℕ)
         → IsImageOf spec layout old → CanStep spec layout step update (length old)

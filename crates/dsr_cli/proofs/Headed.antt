@@ -33,10 +33,10 @@ use Rattle.dsr_store.specs.Written.{appended}
 use Rattle.dsr_text.specs.Canonical.{canonical}
 use Rattle.dsr_tree.specs.Trees.{TreeShape}
 use Rattle.dsr_typing.specs.Specifications.{IsSpecificationOf, specification}
-use Rattle.dsr_cli.proofs.Once.{not_refused, tree_unique}
+use Rattle.dsr_reading.proofs.Once.{not_refused, tree_unique}
 use Rattle.dsr_cli.specs.Commands.{asked, certificate_limit, certifies, goes_on, image_limit, loads_spec, reads, saves_plan, script_of, spec_limit}
 use Rattle.dsr_cli.specs.Headlines.{CertifiesNothingElse, CertifiesPlans, ChecksImages, ChecksNothingElse, FindsNothingElse, FindsPlans, IsCertifyVerdict, IsChecked, IsPlanVerdict, IsPlanned, IsPrinted, IsToCertify, IsVerdictOn, IsVerifyVerdict, PrintsTexts, VerifiesCertificates, VerifiesNothingElse, WasCertified, WasChecked, WasPlanned, WasVerified}
-use Rattle.dsr_cli.specs.Readings.{Found, IsFound, Means, Refused}
+use Rattle.dsr_reading.specs.Readings.{Found, IsFound, Means, Refused}
 use Rattle.dsr_cli.specs.Words.{Asked, Certify, Check, Plan, Text, Verify, command_of}
 
 -- ---- what a command that speaks has told

@@ -1,3 +1,2 @@
 pub mod Headed
-pub mod Once
 pub mod Stages

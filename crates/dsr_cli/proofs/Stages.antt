@@ -19,7 +19,7 @@ use Rattle.dsr_text.specs.Canonical.{canonical}
 use Rattle.dsr_tree.specs.Trees.{TreeShape}
 use Rattle.dsr_typing.specs.Specifications.{specification}
 use Rattle.dsr_cli.specs.Commands.{certificate_limit, certify_after, check_after, checks, image_limit, plan_after, text_after, verifies, verify_after}
-use Rattle.dsr_cli.specs.Readings.{Means, Refused}
+use Rattle.dsr_reading.specs.Readings.{Means, Refused}
 
 abbrev long : List ℕ
 long = codes "too long image\n"

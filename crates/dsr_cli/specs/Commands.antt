@@ -16,7 +16,7 @@ use Rattle.dsr_script.specs.declared.status.Verdict.TheVariants as verdicts
 use Rattle.dsr_text.specs.Canonical.{canonical}
 use Rattle.dsr_tree.specs.Trees.{TreeShape}
 use Rattle.dsr_typing.specs.Specifications.{specification}
-use Rattle.dsr_cli.specs.Readings.{Found, IsFound, Means, Refused}
+use Rattle.dsr_reading.specs.Readings.{Found, IsFound, Means, Refused}
 use Rattle.dsr_cli.specs.Words.{Asked, Certify, Check, Plan, Text, Verify, command_of}
 use Rattle.dsr_cli.specs.declared.waiting.Waiting.{Waiting}
 use Rattle.dsr_cli.specs.declared.waiting.Waiting.TheVariants as stages

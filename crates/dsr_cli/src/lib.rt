@@ -2,7 +2,6 @@
 #![tactic(auto)]
 
 mod program;
-mod readings;
 mod waiting;
 mod words;
 

@@ -6,7 +6,6 @@ ghost use Rattle.dsr_cli.specs.Commands.{certify_after, check_after, checks, due
 ghost use Rattle.dsr_meaning.specs.Typed.{IsTyped};
 ghost use Rattle.dsr_script.specs.Moves.{Follows, IsReady, loads_of};
 
-use crate::readings::{Reading, read};
 use crate::words::{Command, command_of};
 use dsr_answers::told;
 use dsr_certify::{Certified, certify, verify};
@@ -14,6 +13,7 @@ use dsr_check::check;
 use dsr_ir::{NoMemory, Spec};
 use dsr_parse::print;
 use dsr_plan::plan;
+use dsr_reading::{Reading, read};
 use dsr_script::{Commands, Move, Stage, Told, Verdict};
 use std::alloc::{AllocError, Global};
 

@@ -24,6 +24,7 @@ use dsr_repairing::{Need, Turn};
 use dsr_stepping::Step;
 
 /// The literal that is to become true next.
+#[derive(Clone, Copy)]
 pub struct Due<'a> {
     pub constraint: u32,
     pub binding: Binding,
@@ -32,6 +33,7 @@ pub struct Due<'a> {
 }
 
 /// The update that is chosen, by its place in its template, with the instance that it stops.
+#[derive(Clone, Copy)]
 pub struct Chosen<'a> {
     pub place: u32,
     pub update: &'a Update,

@@ -10,6 +10,7 @@ use dsr_planning::{Row, Way};
 use dsr_truth::literal;
 
 /// A literal of a conjunction, by its place, with the template for it.
+#[derive(Clone, Copy)]
 pub struct ToRepair<'a> {
     pub place: u32,
     pub literal: &'a Literal,

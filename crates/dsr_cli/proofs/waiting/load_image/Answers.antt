@@ -1,6 +1,6 @@
 use Rattle.std.proofs.Common.{subst}
 use Rattle.dsr_cli.proofs.Stages.{check_refused, image_after, image_due}
-use Rattle.dsr_cli.specs.Readings.{IsReadingOf}
+use Rattle.dsr_reading.specs.Readings.{IsReadingOf}
 use Rattle.dsr_script.specs.Moves.{shown}
 use Rattle.dsr_tree.specs.Trees.{tree_shape}
 use Rattle.dsr_cli.proofs.waiting.load_image.Goals as goal

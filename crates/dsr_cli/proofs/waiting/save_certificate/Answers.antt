@@ -2,7 +2,7 @@ use Rattle.std.proofs.Common.{subst}
 use Rattle.dsr_certify.specs.Certified.{IsCertified}
 use Rattle.dsr_certify.specs.declared.certifying.Certified.TheVariants.{Certificate, Unplanned}
 use Rattle.dsr_cli.proofs.Stages.{certified_due, certify_refused}
-use Rattle.dsr_cli.specs.Readings.{IsReadingOf}
+use Rattle.dsr_reading.specs.Readings.{IsReadingOf}
 use Rattle.dsr_script.specs.Moves.{shown}
 use Rattle.dsr_tree.specs.Trees.{tree_shape}
 use Rattle.dsr_cli.proofs.waiting.save_certificate.Goals as goal

@@ -1,6 +1,6 @@
 use Rattle.std.proofs.Common.{ap, subst}
 use Rattle.dsr_cli.proofs.Stages.{text_refused, text_told}
-use Rattle.dsr_cli.specs.Readings.{IsReadingOf}
+use Rattle.dsr_reading.specs.Readings.{IsReadingOf}
 use Rattle.dsr_script.specs.Moves.{shown}
 use Rattle.dsr_script.specs.declared.status.Verdict.TheVariants as verdicts
 use Rattle.dsr_tree.specs.Trees.{tree_shape}

@@ -1,7 +1,7 @@
 // What a text means, or why it means nothing.
 ghost use Rattle.std.specs.Prelude.{◌≢◌, ℕ, List, IfOk};
 ghost use Rattle.dsr_answers.specs.Refused.{IsRefused};
-ghost use Rattle.dsr_cli.specs.Readings.{IsReadingOf};
+ghost use Rattle.dsr_reading.specs.Readings.{IsReadingOf};
 ghost use Rattle.dsr_parse.specs.Faults.{HasFault};
 ghost use Rattle.dsr_parse.specs.declared.parser.SyntaxFault.TheVariants as faults;
 ghost use Rattle.dsr_script.specs.Moves.{shown};

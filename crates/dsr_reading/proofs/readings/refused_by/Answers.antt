@@ -1,8 +1,8 @@
 use Rattle.std.proofs.Common.{ℕ, List}
 use Rattle.dsr_answers.proofs.Refusing.{told_is}
 use Rattle.dsr_answers.specs.Refused.{no_token, past_limit, unexpected}
-use Rattle.dsr_cli.proofs.Once.{RefusesSyntax}
-use Rattle.dsr_cli.proofs.readings.refused_by.Goals as goal
+use Rattle.dsr_reading.proofs.Once.{RefusesSyntax}
+use Rattle.dsr_reading.proofs.readings.refused_by.Goals as goal
 
 pub returns-in-Token-clause-told : goal.returns-in-Token-clause-told
 returns-in-Token-clause-told c =

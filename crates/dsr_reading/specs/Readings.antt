@@ -7,8 +7,8 @@ use Rattle.dsr_script.specs.Moves.{shown}
 use Rattle.dsr_script.specs.Scripts.{Answer}
 use Rattle.dsr_tree.specs.Trees.{TreeShape, tree_shape}
 use Rattle.dsr_typing.specs.Specifications.{specification}
-use Rattle.dsr_cli.specs.declared.readings.Reading.{Reading}
-use Rattle.dsr_cli.specs.declared.readings.Reading.TheVariants as readings
+use Rattle.dsr_reading.specs.declared.readings.Reading.{Reading}
+use Rattle.dsr_reading.specs.declared.readings.Reading.TheVariants as readings
 
 -- a text means a specification, by this tree; or it is refused by this answer
 pub data Found : Type 0 where

@@ -76,7 +76,7 @@ module _ (is_fact : Fact → Type 0) (b : Binding) (decided : AreDecided is_fact
     some_passes none =
         let some = plan.covers number constraint row row_of truth in
         none some.number some.conj some.conj_is (λ n its at tested.
-          holds_out its (some.passes n its at (way_of row some.number n ∙ tested)))
+        holds_out its (some.passes n its at (way_of row some.number n ∙ tested)))
 
     holds_by_way :
         (conj : Conj) (place n : ℕ) (its : Literal) (way : Way) → slice_get conj.literals n ≡ Some its

@@ -2,7 +2,7 @@
 use Rattle.std.specs.Prelude.{◌≡◌, ◌⊎◌, ℕ, List, Option, Some, slice_get}
 use Rattle.dsr_applying.specs.Choices.{IsEntryAt, IsNumberFor, IsPlace, IsUpdateAt, TakesAway}
 use Rattle.dsr_due.specs.declared.dues.Chosen.{Chosen}
-use Rattle.dsr_due.specs.declared.dues.Due.{Due}
+use Rattle.dsr_due.specs.declared.dues.DueLiteral.{DueLiteral}
 use Rattle.dsr_ir.specs.declared.constraints.Literal.{Literal}
 use Rattle.dsr_ir.specs.declared.declarations.Spec.{Spec}
 use Rattle.dsr_ir.specs.declared.layouts.Layout.{Layout}
@@ -28,23 +28,23 @@ pub record IsUpdateBy (template : Template) (rule n : ℕ) (update : Update) : T
   pub rule_is : update.rule ≡ rule
 
 -- the constraint with its binding
-abbrev pub bound_of : Due → BoundConstraint
+abbrev pub bound_of : DueLiteral → BoundConstraint
 bound_of due = record { constraint = due.constraint; binding = due.binding }
 
 -- such a literal is due by the plan
-abbrev pub IsDueOf : (Fact → Type 0) → Spec → Choice → Due → Type 0
+abbrev pub IsDueOf : (Fact → Type 0) → Spec → Choice → DueLiteral → Type 0
 IsDueOf is_fact spec choice due =
     IsDue is_fact spec choice (bound_of due) due.conj due.repaired.place due.repaired.literal.now
     due.repaired.template.now
 
 -- the update is the one that is chosen for it
-abbrev pub IsChosenFor : Spec → Layout → List ℕ → Due → Chosen → Type 0
+abbrev pub IsChosenFor : Spec → Layout → List ℕ → DueLiteral → Chosen → Type 0
 IsChosenFor spec layout bytes due chosen =
     IsUpdateAt spec layout bytes due.binding due.repaired.literal.now.atom due.repaired.template.now
     chosen.place chosen.update.now chosen.stopped
 
 -- the step is for the literal that is due, by the update that is chosen, with this fresh record
-pub record IsStepFor (is_fact : Fact → Type 0) (due : Due) (chosen : Chosen) (fresh : Option Element) (step : Step) : Type 0 where
+pub record IsStepFor (is_fact : Fact → Type 0) (due : DueLiteral) (chosen : Chosen) (fresh : Option Element) (step : Step) : Type 0 where
   pub constraint : step.constraint ≡ due.constraint
   pub binding : step.binding ≡ due.binding
   pub conj : step.conj ≡ due.conj

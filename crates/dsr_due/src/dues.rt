@@ -25,7 +25,7 @@ use dsr_stepping::Step;
 
 /// The literal that is to become true next.
 #[derive(Clone, Copy)]
-pub struct Due<'a> {
+pub struct DueLiteral<'a> {
     pub constraint: u32,
     pub binding: Binding,
     pub conj: u32,
@@ -41,7 +41,7 @@ pub struct Chosen<'a> {
 }
 
 // The literal of the violated constraint that is to become true next.
-fn due_at<'a>(plan: &'a Plan, model: &Model, violation: Violation) -> Due<'a>
+fn due_at<'a>(plan: &'a Plan, model: &Model, violation: Violation) -> DueLiteral<'a>
     requires ordered { model.now.ordered ≡ true }
     requires typed { IsTyped plan.now.0 }
     requires decided { AreDecided (IsInModel model.now) }
@@ -56,7 +56,7 @@ fn due_at<'a>(plan: &'a Plan, model: &Model, violation: Violation) -> Due<'a>
     let Some(repaired) = first_false(model, its, ways, &violation.binding) else {
         unreachable!();
     };
-    Due {
+    DueLiteral {
         constraint: violation.constraint,
         binding: violation.binding,
         conj,
@@ -70,7 +70,7 @@ fn next_due<'a, I: ImageBytes>(
     layout: &Layout,
     _image: &I,
     model: &Model,
-) -> Option<Due<'a>>
+) -> Option<DueLiteral<'a>>
     requires image { IsImageOf plan.now.0 layout.now (I.ImageBytes.bytes _image.now) }
     requires prepared { IsPreparedFor plan.now.0 layout.now model.now }
     requires model { IsModelOf plan.now.0 layout.now (I.ImageBytes.bytes _image.now) model.now }
@@ -88,7 +88,7 @@ fn chosen_for<'a, I: ImageBytes>(
     layout: &Layout,
     image: &I,
     model: &Model,
-    due: &Due<'a>,
+    due: &DueLiteral<'a>,
 ) -> Chosen<'a>
     requires image { IsImageOf plan.now.0 layout.now (I.ImageBytes.bytes image.now) }
     requires prepared { IsPreparedFor plan.now.0 layout.now model.now }
@@ -122,7 +122,7 @@ fn chosen_for<'a, I: ImageBytes>(
 }
 
 // What is needed for the literal where the pool's supply is empty.
-fn need_of(due: &Due, pool: u32) -> Need
+fn need_of(due: &DueLiteral, pool: u32) -> Need
     ensures { result ≡ record {
       pool = pool;
       constraint = due.now.constraint;
@@ -141,7 +141,13 @@ fn need_of(due: &Due, pool: u32) -> Need
 }
 
 // The step by the update that is chosen.
-fn step_of(plan: &Plan, model: &Model, due: &Due, chosen: &Chosen, fresh: Option<Element>) -> Step
+fn step_of(
+    plan: &Plan,
+    model: &Model,
+    due: &DueLiteral,
+    chosen: &Chosen,
+    fresh: Option<Element>,
+) -> Step
     requires ordered { model.now.ordered ≡ true }
     requires complete { IsComplete plan.now.0 due.now.binding chosen.now.stopped chosen.now.update.now }
     ensures { IsStepFor (IsInModel model.now) due.now chosen.now fresh result }

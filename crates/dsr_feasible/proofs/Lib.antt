@@ -1,0 +1,3 @@
+pub mod MakingItems
+pub mod MakingForms
+pub mod MakingRaws

@@ -1,0 +1,4 @@
+use Rattle.dsr_feasible.proofs.making.due_steps_write_no_fixed_field.Goals as goal
+
+pub returns : goal.returns
+returns c = ?

@@ -255,10 +255,10 @@ module _ (is_fact : Fact → Type 0) where
   counted_source (Out v rel) b (Member set e) counted = absurd counted
 
   module _ (spec : Spec) (atom : Atom) where
-    option_written : (v : Option Var) (k : ℕ) (rule : Rule) (write : Write) (goal : Goal) (m : ℕ) → slice_get spec.rules k ≡ Some rule → IsIn write (options spec.base rule)
+    option_written : (v : Option Var) (k : ℕ) (rule : Rule) (write : Write) (goal : Goal) (m : ℕ) (u : Update) → u ≡ removing v k rule write → slice_get spec.rules k ≡ Some rule → IsIn write (options spec.base rule)
         → ((b : Binding) (fact : Fact) → IsToGo is_fact b atom fact → IfSome v (λ x. element_of b x ≡ Some (source_of fact)))
-        → ((b : Binding) → Adds is_fact b atom goal → m ≡ 0 → ⊥) → IsRemoving is_fact spec atom goal m (removing v k rule write)
-    option_written v k rule write goal m rule_is option source never = record {
+        → ((b : Binding) → Adds is_fact b atom goal → m ≡ 0 → ⊥) → IsRemoving is_fact spec atom goal m u
+    option_written v k rule write goal m u is rule_is option source never = subst (IsRemoving is_fact spec atom goal m) (sym is) (record {
       v = v;
       rule = rule;
       rule_is = rule_is;
@@ -269,7 +269,7 @@ module _ (is_fact : Fact → Type 0) where
       option = option;
       source_is = source;
       never_adds = never;
-    }
+    })
 
     removed : (symbol : Symbol) (by : Goal) (v : Option Var) (template : Template) (n : ℕ) (u : Update) (goal : Goal) (m : ℕ) → IsIn template (all_removals spec symbol by v) → slice_get template.updates n ≡ Some u
         → ((b : Binding) (fact : Fact) → IsToGo is_fact b atom fact → IfSome v (λ x. element_of b x ≡ Some (source_of fact)))
@@ -284,9 +284,8 @@ module _ (is_fact : Fact → Type 0) where
         let r = of.item in
         let write = mapped_from (removing v r.0 r.1) (item_or_last (options spec.base r.1) one.item) u of.gives in
         let giver = is_giver spec symbol r of.among in
-        subst (IsRemoving is_fact spec atom goal m) (sym write.1.1)
-        (option_written v r.0 r.1 write.0 goal m giver.rule_is
-        (item_at (options spec.base r.1) (min one.item (length (options spec.base r.1) - 1)) write.0 write.1.0) source never)
+        option_written v r.0 r.1 write.0 goal m u write.1.1 giver.rule_is
+        (item_at (options spec.base r.1) (min one.item (length (options spec.base r.1) - 1)) write.0 write.1.0) source never
 
 -- the goal of a removal
 removal_goal : (spec : Spec) (symbol : Symbol) (by : Goal) (v : Option Var) (template : Template) → IsIn template (all_removals spec symbol by v) → template.goal ≡ by

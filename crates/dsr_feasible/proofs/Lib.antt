@@ -4,3 +4,4 @@ pub mod MakingRaws
 pub mod MakingWrites
 pub mod MakingEntries
 pub mod MakingRecords
+pub mod MakingKnown

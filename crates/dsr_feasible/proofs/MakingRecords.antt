@@ -10,6 +10,7 @@ use Rattle.dsr_ir.specs.declared.constraints.Quant.{Quant}
 use Rattle.dsr_ir.specs.declared.constraints.Quant.TheVariants as quants
 use Rattle.dsr_ir.specs.declared.constraints.Var.{Var}
 use Rattle.dsr_ir.specs.declared.constraints.Var.TheVariants.{Head, First, Second}
+use Rattle.dsr_ir.specs.declared.declarations.Field.{Field}
 use Rattle.dsr_ir.specs.declared.declarations.Rel.{Rel}
 use Rattle.dsr_ir.specs.declared.declarations.SetDecl.{SetDecl}
 use Rattle.dsr_ir.specs.declared.declarations.Spec.{Spec}
@@ -38,6 +39,7 @@ use Rattle.dsr_meaning.specs.Layouts.{layout_of}
 use Rattle.dsr_meaning.specs.Models.{IsFact}
 use Rattle.dsr_meaning.specs.Truth.{element_of, head}
 use Rattle.dsr_meaning.specs.Typed.{GivesTarget, IsPlainSetOf, IsTyped, IsTypedInc, IsTypedQuant, IsTypedRule, Reads, Relates, pool_of_var}
+use Rattle.dsr_resolved.proofs.Entries.{item_below}
 use Rattle.dsr_updating.specs.Givers.{IsGiver, IsGivenBy, is_own}
 use Rattle.dsr_updating.specs.Known.{GivesMembersOf, GivesTargetsTo, IsCounterpart, IsKnown}
 use Rattle.dsr_updating.specs.Templates.{KnownSets, TellsKnown, place_of, starts_at}
@@ -117,9 +119,23 @@ module _ (spec : Spec) (typed : IsTyped spec) where
   own_source rule rel (incs.Slot set pool) inc_typed gives_it own = absurd cc
   own_source rule rel (incs.SlotPair r pool path) inc_typed gives_it own = absurd cc
 
+  -- what a typed path reads
+  read_kind : (rule : Rule) (path : Path) (pool : Option ℕ) → Reads spec.base rule path pool → option_and_then (λ f. kind_pool f.kind) (declared_field spec.base path.field) ≡ pool
+  read_kind rule path pool reads = ap (option_and_then (λ (f : Field). kind_pool f.kind)) reads.typed.is_field.declared ∙ reads.kind
+
+  given_target : (rule : Rule) (rel r source : ℕ) (p path : Path) → GivesTarget spec.base rule r source p → r ≡ rel → p ≡ path → option_and_then (λ (x : Rel). x.target) (slice_get spec.base.rels rel) ≡ option_and_then (λ f. kind_pool f.kind) (declared_field spec.base path.field)
+  given_target rule rel r source p path given same_rel same_path =
+      subst (λ q. option_and_then (λ (x : Rel). x.target) (slice_get spec.base.rels rel) ≡ option_and_then (λ f. kind_pool f.kind) (declared_field spec.base q.field)) same_path
+      (subst (λ q. option_and_then (λ (x : Rel). x.target) (slice_get spec.base.rels q) ≡ option_and_then (λ f. kind_pool f.kind) (declared_field spec.base p.field)) same_rel
+      (related_target r source given.target given.relates ∙ sym (read_kind rule p given.target given.reads)))
+
   -- the target of pairs that a rule gives is what its path reads
   pub target_read : (rule : Rule) (rel : ℕ) (inc : Inc) (path : Path) → IsTypedInc spec.base rule inc → gives (symbols.Rel rel) inc ≡ true → target_of inc ≡ Some path → option_and_then (λ (r : Rel). r.target) (slice_get spec.base.rels rel) ≡ option_and_then (λ f. kind_pool f.kind) (declared_field spec.base path.field)
-  target_read rule rel inc path inc_typed gives_it target = ?
+  target_read rule rel (incs.OwnPair r p) path inc_typed gives_it target = given_target rule rel r (premise_pool spec rule) p path inc_typed (rel_same r rel gives_it) (same_Some p path target)
+  target_read rule rel (incs.SlotPair r pool p) path inc_typed gives_it target = given_target rule rel r pool p path inc_typed.1 (rel_same r rel gives_it) (same_Some p path target)
+  target_read rule rel (incs.Own set) path inc_typed gives_it target = absurd cc
+  target_read rule rel (incs.Target set p) path inc_typed gives_it target = absurd cc
+  target_read rule rel (incs.Slot set pool) path inc_typed gives_it target = absurd cc
 
   -- a member that a rule gives is one of the premise's pool
   own_pool : (rule : Rule) (set : ℕ) (inc : Inc) → IsTypedInc spec.base rule inc → gives (symbols.Set set) inc ≡ true → is_own inc ≡ true → set_pool spec set ≡ premise_pool spec rule
@@ -139,5 +155,70 @@ module _ (spec : Spec) (typed : IsTyped spec) where
       let found = some_and (slice_get spec.base.sets set) (λ s. s.except ≡ None) known in
       slice_get_within spec.base.sets set found.0 found.1.0
 
-  pub known_pool : (quant : Quant) → IsTypedQuant spec.base quant → {v : Var} {set : ℕ} → IsKnown spec quant v set → (pool_of_var spec.base quant v ≡ Some (set_pool spec set)) × (set < length spec.base.sets)
-  known_pool quant quant_typed known = ?
+  -- a rule that gives targets to a set reads records of the set's pool
+  target_set : (rule : Rule) (set : ℕ) (path : Path) (inc : Inc) → IsTypedInc spec.base rule inc → inc ≡ incs.Target set path → (option_and_then (λ f. kind_pool f.kind) (declared_field spec.base path.field) ≡ Some (set_pool spec set)) × (set < length spec.base.sets)
+  target_set rule set path inc inc_typed is =
+      let its : (pool : ℕ) × IsPlainSetOf spec.base pool set × Reads spec.base rule path (Some pool) = subst (IsTypedInc spec.base rule) is inc_typed in
+      let found = some_and (slice_get spec.base.sets set) (λ s. (s.pool ≡ its.0) × (s.except ≡ None)) its.1 in
+      (read_kind rule path (Some its.0) its.2 ∙ ap Some (sym (plain_pool its.0 set its.1)), slice_get_within spec.base.sets set found.0 found.1.0)
+
+  -- the variable's pool is that of each set of which the variable is known to be a member
+  abbrev IsPoolOf : Quant → Var → ℕ → Type 0
+  IsPoolOf quant v set = (pool_of_var spec.base quant v ≡ Some (set_pool spec set)) × (set < length spec.base.sets)
+
+  pub known_pool : (quant : Quant) → IsTypedQuant spec.base quant → {v : Var} {set : ℕ} → IsKnown spec quant v set → IsPoolOf quant v set
+  known_pool quant quant_typed (IsKnown.quantified set e) =
+      let declared : set < length spec.base.sets = subst (IsTypedQuant spec.base) e quant_typed in
+      let found = item_below spec.base.sets set declared in
+      subst (λ q. IsPoolOf q First set) (sym e) (ap (option_map (λ (s : SetDecl). s.pool)) found.1 ∙ sym (ap (λ o. Some (option_map_or (λ (s : SetDecl). s.pool) o 0)) found.1), declared)
+  known_pool quant quant_typed (IsKnown.source rel set e given) =
+      let k = given.some.0 in
+      let rule = given.some.1 in
+      let giver = given.some.2 in
+      let members = given.each k rule giver in
+      let pool = own_source rule rel rule.inc (of_rule k rule giver.rule_is).inc giver.gives members.own in
+      subst (λ q. IsPoolOf q First set) (sym e) (pool ∙ ap Some (premise_set rule set members.premise_is), premise_declared k rule set giver.rule_is members.premise_is)
+  known_pool quant quant_typed (IsKnown.target rel set e given) =
+      let k = given.some.0 in
+      let rule = given.some.1 in
+      let giver = given.some.2 in
+      let targets = given.each k rule giver in
+      let j = targets.0 in
+      let other = targets.1 in
+      let counterpart = targets.3 in
+      let read = target_read rule rel rule.inc counterpart.path (of_rule k rule giver.rule_is).inc giver.gives counterpart.target_is in
+      let to_set = target_set other set counterpart.path other.inc (of_rule j other targets.2.rule_is).inc counterpart.gives_it in
+      subst (λ q. IsPoolOf q Second set) (sym e) (read ∙ to_set.0, to_set.1)
+  known_pool quant quant_typed (IsKnown.base v set below known given) =
+      let k = given.some.0 in
+      let rule = given.some.1 in
+      let giver = given.some.2 in
+      let members = given.each k rule giver in
+      let before = known_pool quant quant_typed known in
+      (before.0 ∙ ap Some (own_pool rule set rule.inc (of_rule k rule giver.rule_is).inc giver.gives members.own ∙ premise_set rule below members.premise_is), premise_declared k rule below giver.rule_is members.premise_is)
+
+-- ---- the record at which a rule starts
+
+pub place_named : (v : Var) (b : Binding) (stopped : Option Instance) (e : Element) → IsPlace b stopped (place_of v) e → element_of b v ≡ Some e
+place_named Head b stopped e at = ap Some (sym at)
+place_named First b stopped e at = at
+place_named Second b stopped e at = at
+
+module _ (spec : Spec) (bytes : List ℕ) (layout : Layout) (is : layout_of spec.base bytes ≡ Some layout) (typed : IsTyped spec) (quant : Quant) (quant_typed : IsTypedQuant spec.base quant) (b : Binding) (bound : IsBinding (IsFact spec layout bytes) quant b) (known : KnownSets) (tells : TellsKnown spec quant known) where
+  known_record : (v : Var) (rule : Rule) (e : Element) → option_map_or (known v) rule.premise false ≡ true → element_of b v ≡ Some e → IsRecordOf layout (premise_pool spec rule) e
+  known_record v rule e starts at =
+      elim rule.premise as (λ o. rule.premise ≡ o → option_map_or (known v) o false ≡ true → IsRecordOf layout (premise_pool spec rule) e) [
+        | None ↦ λ _ no. absurd cc
+        | Some set ↦ λ premise is_known.
+            let pool = (known_pool spec typed quant quant_typed ((tells v set).0 is_known)).0 in
+            var_record spec bytes layout is typed quant b bound v (premise_pool spec rule) e (pool ∙ ap Some (sym (premise_set spec typed rule set premise))) at
+      ] refl starts
+
+  pub start_record : (v : Var) (rule : Rule) (e : Element) → starts_at known v rule ≡ true → element_of b v ≡ Some e → IsRecordOf layout (premise_pool spec rule) e
+  start_record Head rule e starts at =
+      elim rule.premise as (λ o. rule.premise ≡ o → not (is_some o) ≡ true → IsRecordOf layout (premise_pool spec rule) e) [
+        | None ↦ λ premise _. subst (λ p. IsRecordOf layout p e) (sym (ap (pool_of_premise spec.base) premise)) (subst (IsRecordOf layout 0) (same_Some head e at) (head_record layout))
+        | Some set ↦ λ _ no. absurd cc
+      ] refl starts
+  start_record First rule e starts at = known_record First rule e starts at
+  start_record Second rule e starts at = known_record Second rule e starts at

@@ -5,3 +5,5 @@ pub mod MakingWrites
 pub mod MakingEntries
 pub mod MakingRecords
 pub mod MakingKnown
+pub mod MakingCan
+pub mod MakingRemovals

@@ -297,7 +297,7 @@ removal_goal spec symbol by v template is_in =
 
 -- ---- updates that set a value
 
-single_span : (span : Span) → is_single span ≡ true → span ≡ Single
+pub single_span : (span : Span) → is_single span ≡ true → span ≡ Single
 single_span Single e = refl
 single_span (Array place) e = absurd cc
 single_span (Slots pool) e = absurd cc

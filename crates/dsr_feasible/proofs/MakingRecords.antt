@@ -92,7 +92,7 @@ set_same : (s t : ℕ) → is_same_symbol (symbols.Set s) (symbols.Set t) ≡ tr
 set_same s t e = grind (arith, nat_tests, e)
 
 module _ (spec : Spec) (typed : IsTyped spec) where
-  of_rule : (k : ℕ) (rule : Rule) → slice_get spec.rules k ≡ Some rule → IsTypedRule spec.base rule
+  pub of_rule : (k : ℕ) (rule : Rule) → slice_get spec.rules k ≡ Some rule → IsTypedRule spec.base rule
   of_rule k rule is = found_holds (IsTypedRule spec.base) spec.rules k rule typed.rules is
 
   plain_pool : (pool set : ℕ) → IsPlainSetOf spec.base pool set → set_pool spec set ≡ pool

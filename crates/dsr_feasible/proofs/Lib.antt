@@ -7,3 +7,8 @@ pub mod MakingRecords
 pub mod MakingKnown
 pub mod MakingCan
 pub mod MakingRemovals
+pub mod MakingSpans
+pub mod MakingAdditions
+pub mod MakingValues
+pub mod MakingCompensations
+pub mod MakingSteps

@@ -1,5 +1,5 @@
 -- Items of lists that are made from others.
-use Rattle.std.proofs.Common.{◌≡◌, ◌⊎◌, ◌∙◌, ◌+◌, ◌&&◌, ℕ, zero, suc, Bool, true, false, List, [], ◌∷◌, ◌++◌, map, take, Option, None, Some, inl, inr, refl, sym, ap, subst, slice_get, arith}
+use Rattle.std.proofs.Common.{◌≡◌, ◌⊎◌, ◌∙◌, ◌+◌, ◌&&◌, ℕ, zero, suc, Bool, true, false, List, [], ◌∷◌, ◌++◌, map, take, Option, None, Some, IsSomeAnd, inl, inr, refl, sym, ap, subst, slice_get, arith}
 use Rattle.std.specs.List.{cons_option, filter_map, flat_map}
 use Rattle.std.specs.Option.{option_and_then}
 use Rattle.std.specs.Prelude.{if◌then◌else◌, option_map}
@@ -158,3 +158,12 @@ only_item x (suc n) y e = absurd cc
 pub failed_in : {T : Type 0} (b : Bool) (xs : List T) (y : T) → IsIn y (if b then [] else xs) → IsIn y xs
 failed_in true xs y is_in = absurd is_in
 failed_in false xs y is_in = is_in
+
+pub without : {T : Type 0} (b : Bool) (o : Option T) (y : T) → (if b then None else o) ≡ Some y → (b ≡ false) × (o ≡ Some y)
+without true o y e = absurd cc
+without false o y e = (refl, e)
+
+-- what a look-up has
+pub some_and : {X : Type 0} (o : Option X) (P : X → Type 0) → IsSomeAnd o P → (x : X) × ((o ≡ Some x) × P x)
+some_and None P is = absurd is
+some_and (Some x) P is = (x, (refl, is))

@@ -24,6 +24,7 @@ use Rattle.dsr_stepping.specs.Steps.{CanWrite, written_cell, written_index, writ
 use Rattle.dsr_stepping.specs.declared.steps.Step.{Step}
 use Rattle.dsr_updating.specs.Known.{IsKnown}
 use Rattle.dsr_updating.specs.Templates.{KnownSets, TellsKnown}
+use Rattle.dsr_feasible.proofs.MakingItems.{some_and}
 use Rattle.dsr_feasible.proofs.MakingRecords.{known_pool}
 
 -- ---- a table can't be missing
@@ -125,10 +126,6 @@ module _ (spec : Spec) (layout : Layout) (step : Step) (write : Write) where
     subst (λ o. IsSomeAnd o (λ place. (written_index step write < entry_count place) × HasBits layout step.elem (place.bit + (written_index step write + 1) * width_bits place.width))) (sym can.entry.place_is) (can.entry.index_below, can.entry.within),
     subst (λ o. IsSomeAnd o (λ number. IsSomeAnd (written_cell layout step write) (λ cell. number < 2 ^ cell.width))) (sym can.number_is) can.fits,
   )
-
-  some_and : {X : Type 0} (o : Option X) (P : X → Type 0) → IsSomeAnd o P → (x : X) × ((o ≡ Some x) × P x)
-  some_and None P is = absurd is
-  some_and (Some x) P is = (x, (refl, is))
 
   from_parts : Entry → Fits → CanWrite spec layout step write
   from_parts entry fits =

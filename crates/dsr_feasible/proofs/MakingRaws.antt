@@ -46,7 +46,7 @@ use Rattle.dsr_meaning.specs.Truth.{element_of}
 use Rattle.dsr_updating.specs.Givers.{IsGiver, givers, is_own, is_single}
 use Rattle.dsr_updating.specs.Options.{options}
 use Rattle.dsr_updating.specs.Templates.{AreOnce, AreRaw, AreRemovals, AreSized, AreTemplates, AreTrims, AreValued, KnownSets, adding, all_removals, all_true, counted_of, counted_symbol, is_target, item_or_last, joins_by, lacks_option, listed, most_options, pick_of, place_of, referred, relates_by, removal_at, removal_place, removal_updates, removing, serves, set_supplies, setting, settings, supplies, supplies_by, target_supplies, target_writes, value_write, variables, with_trims}
-use Rattle.dsr_feasible.proofs.MakingItems.{both_true, chained_from, failed_in, from_filter, from_flat, from_givers, from_map, is_giver, item_at, mapped_from, of_listed, only_item, passed_from, passed_in}
+use Rattle.dsr_feasible.proofs.MakingItems.{both_true, chained_from, failed_in, from_filter, from_flat, from_givers, from_map, is_giver, item_at, mapped_from, of_listed, only_item, passed_from, passed_in, without}
 
 -- ---- kinds of updates
 
@@ -305,11 +305,6 @@ single_span (Slots pool) e = absurd cc
 no_premise : (premise : Option ℕ) → is_some premise ≡ false → premise ≡ None
 no_premise None e = refl
 no_premise (Some set) e = absurd cc
-
--- where a test stands before it, it fails
-without : {T : Type 0} (b : Bool) (o : Option T) (y : T) → (if b then None else o) ≡ Some y → (b ≡ false) × (o ≡ Some y)
-without true o y e = absurd cc
-without false o y e = (refl, e)
 
 module _ (spec : Spec) (known : KnownSets) where
   set_by : (v : Var) (rel : ℕ) (op : Op) (bound : Bound) (k : ℕ) (rule : Rule) (inc : Inc) (template : Template) (n : ℕ) (u : Update) → rule.inc ≡ inc → reaches_bound op ≡ true → IsGiver spec (symbols.Rel rel) k rule → setting spec.base v (pick_of bound) k rule inc ≡ Some template → slice_get template.updates n ≡ Some u → IsSetting spec (atoms.Value v rel op bound) u

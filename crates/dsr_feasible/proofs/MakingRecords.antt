@@ -43,7 +43,7 @@ use Rattle.dsr_resolved.proofs.Entries.{item_below}
 use Rattle.dsr_updating.specs.Givers.{IsGiver, IsGivenBy, is_own}
 use Rattle.dsr_updating.specs.Known.{GivesMembersOf, GivesTargetsTo, IsCounterpart, IsKnown}
 use Rattle.dsr_updating.specs.Templates.{KnownSets, TellsKnown, place_of, starts_at}
-use Rattle.dsr_feasible.proofs.MakingItems.{chained_from, mapped_from}
+use Rattle.dsr_feasible.proofs.MakingItems.{chained_from, mapped_from, some_and}
 
 -- ---- records of variables
 
@@ -80,12 +80,7 @@ module _ (spec : Spec) (bytes : List ℕ) (layout : Layout) (is : layout_of spec
 
 -- ---- pools of known sets
 
--- what a look-up has
-some_and : {X : Type 0} (o : Option X) (P : X → Type 0) → IsSomeAnd o P → (x : X) × ((o ≡ Some x) × P x)
-some_and None P is = absurd is
-some_and (Some x) P is = (x, (refl, is))
-
-rel_same : (r q : ℕ) → is_same_symbol (symbols.Rel r) (symbols.Rel q) ≡ true → r ≡ q
+pub rel_same : (r q : ℕ) → is_same_symbol (symbols.Rel r) (symbols.Rel q) ≡ true → r ≡ q
 rel_same r q e = grind (arith, nat_tests, e)
 
 set_same : (s t : ℕ) → is_same_symbol (symbols.Set s) (symbols.Set t) ≡ true → s ≡ t
@@ -100,7 +95,7 @@ module _ (spec : Spec) (typed : IsTyped spec) where
       let found = some_and (slice_get spec.base.sets set) (λ s. (s.pool ≡ pool) × (s.except ≡ None)) plain in
       ap (λ o. option_map_or (λ (d : SetDecl). d.pool) o 0) found.1.0 ∙ found.1.1.0
 
-  related_source : (rel source : ℕ) (target : Option ℕ) → Relates spec.base rel source target → option_map (λ (r : Rel). r.source) (slice_get spec.base.rels rel) ≡ Some source
+  pub related_source : (rel source : ℕ) (target : Option ℕ) → Relates spec.base rel source target → option_map (λ (r : Rel). r.source) (slice_get spec.base.rels rel) ≡ Some source
   related_source rel source target relates =
       let found = some_and (slice_get spec.base.rels rel) (λ r. (r.source ≡ source) × (r.target ≡ target)) relates in
       ap (option_map (λ (r : Rel). r.source)) found.1.0 ∙ ap Some found.1.1.0
@@ -111,7 +106,7 @@ module _ (spec : Spec) (typed : IsTyped spec) where
       ap (option_and_then (λ (r : Rel). r.target)) found.1.0 ∙ found.1.1.1
 
   -- the source of pairs that a rule gives with its own record
-  own_source : (rule : Rule) (rel : ℕ) (inc : Inc) → IsTypedInc spec.base rule inc → gives (symbols.Rel rel) inc ≡ true → is_own inc ≡ true → option_map (λ (r : Rel). r.source) (slice_get spec.base.rels rel) ≡ Some (premise_pool spec rule)
+  pub own_source : (rule : Rule) (rel : ℕ) (inc : Inc) → IsTypedInc spec.base rule inc → gives (symbols.Rel rel) inc ≡ true → is_own inc ≡ true → option_map (λ (r : Rel). r.source) (slice_get spec.base.rels rel) ≡ Some (premise_pool spec rule)
   own_source rule rel (incs.OwnPair r path) inc_typed gives_it own =
       subst (λ q. option_map (λ (x : Rel). x.source) (slice_get spec.base.rels q) ≡ Some (premise_pool spec rule)) (rel_same r rel gives_it) (related_source r (premise_pool spec rule) inc_typed.target inc_typed.relates)
   own_source rule rel (incs.Own set) inc_typed gives_it own = absurd cc

@@ -22,7 +22,7 @@ use Rattle.dsr_repairing.specs.Images.{IsFree}
 use Rattle.dsr_updating.specs.Guards.{fitting, guard_write, number_false, number_true, pick_false, pick_true, pick_wanted}
 use Rattle.dsr_updating.specs.Options.{open_pool, reference_write}
 use Rattle.dsr_updating.specs.Templates.{value_write}
-use Rattle.dsr_feasible.proofs.MakingItems.{chained_from, mapped_from}
+use Rattle.dsr_feasible.proofs.MakingItems.{chained_from, mapped_from, without}
 
 -- the write is of this pick to this path, whose field is declared and not fixed
 pub record IsOpenWrite (base : Structures) (path : Path) (pick : Pick) (write : Write) : Type 0 where
@@ -36,10 +36,6 @@ pub is_free : (spec : Spec) (path : Path) (pick : Pick) (write : Write) → IsOp
 is_free spec path pick write by =
     subst (λ (p : Path). IsSomeAnd (declared_field spec.base p.field) (λ f. f.fixed ≡ false)) (sym by.path_is)
     (subst (λ o. IsSomeAnd o (λ f. f.fixed ≡ false)) (sym by.declared) by.open_field)
-
-without : {T : Type 0} (b : Bool) (o : Option T) (y : T) → (if b then None else o) ≡ Some y → (b ≡ false) × (o ≡ Some y)
-without true o y e = absurd cc
-without false o y e = (refl, e)
 
 -- ---- of a guard
 

@@ -1,10 +1,7 @@
 -- An update that adds writes at the record at which its rule starts.
-use Rattle.std.proofs.Common.{◌≡◌, ◌<◌, ◌^◌, ◌∙◌, ℕ, zero, suc, Bool, true, false, List, [], ◌∷◌, ◌++◌, Option, None, Some, IsSomeAnd, MatchOption, inl, inr, refl, sym, ap, subst, slice_get, if◌then◌else◌, arith}
-use Rattle.std.specs.Prelude.{option_map}
+use Rattle.std.proofs.Common.{◌≡◌, ◌<◌, ◌^◌, ◌∙◌, ℕ, List, Option, Some, refl, sym, ap, subst, slice_get, arith}
 use Rattle.std.specs.Option.{option_and_then}
-use Rattle.std.proofs.lemmas.Option.{same_Some}
-use Rattle.dsr_applying.specs.Choices.{IsEntryAt, IsFresh, IsFreshFrom, IsNumberFor, IsPlace, written_size}
-use Rattle.dsr_ir.specs.Rules.{gives, target_of}
+use Rattle.dsr_applying.specs.Choices.{IsEntryAt, IsFresh, IsFreshFrom, IsPlace}
 use Rattle.dsr_ir.specs.declared.constraints.Atom.{Atom}
 use Rattle.dsr_ir.specs.declared.constraints.Atom.TheVariants as atoms
 use Rattle.dsr_ir.specs.declared.constraints.Quant.{Quant}
@@ -17,26 +14,24 @@ use Rattle.dsr_ir.specs.declared.declarations.Rel.{Rel}
 use Rattle.dsr_ir.specs.declared.declarations.Spec.{Spec}
 use Rattle.dsr_ir.specs.declared.layouts.Layout.{Layout}
 use Rattle.dsr_ir.specs.declared.rules.Rule.{Rule}
-use Rattle.dsr_ir.specs.declared.rules.Span.{Span}
-use Rattle.dsr_ir.specs.declared.rules.Span.TheVariants.{Single}
 use Rattle.dsr_ir.specs.declared.tuples.Binding.{Binding}
 use Rattle.dsr_ir.specs.declared.tuples.Binding.TheVariants as bindings
 use Rattle.dsr_ir.specs.declared.tuples.Element.{Element}
 use Rattle.dsr_ir.specs.declared.tuples.Fact.{Fact}
 use Rattle.dsr_ir.specs.declared.tuples.Instance.{Instance}
+use Rattle.dsr_ir.specs.declared.updates.Pick.{Pick}
 use Rattle.dsr_ir.specs.declared.updates.Pick.TheVariants as picks
 use Rattle.dsr_ir.specs.declared.updates.Update.{Update}
 use Rattle.dsr_ir.specs.declared.updates.Write.{Write}
-use Rattle.dsr_layout.specs.InRange.{IsRecordOf}
 use Rattle.dsr_meaning.specs.Cells.{width_bits}
 use Rattle.dsr_meaning.specs.Consistency.{IsBinding}
 use Rattle.dsr_meaning.specs.Counting.{IsIn}
-use Rattle.dsr_meaning.specs.Instances.{IsInstance, declared_field, index_count, kind_pool, premise_pool}
+use Rattle.dsr_meaning.specs.Instances.{IsInstance, declared_field, index_count, kind_pool}
 use Rattle.dsr_meaning.specs.Models.{IsFact}
 use Rattle.dsr_meaning.specs.Refusals.{IsLayoutOf}
 use Rattle.dsr_meaning.specs.Truth.{element_of, head}
 use Rattle.dsr_meaning.specs.Typed.{IsTyped, IsTypedAtom, IsTypedQuant, pool_of_var}
-use Rattle.dsr_stepping.specs.Steps.{IsSlot, code_of}
+use Rattle.dsr_stepping.specs.Steps.{code_of, picked_number}
 use Rattle.dsr_stepping.specs.declared.steps.Step.{Step}
 use Rattle.dsr_updating.specs.Givers.{is_single}
 use Rattle.dsr_updating.specs.Templates.{KnownSets, TellsKnown, referred, starts_at}
@@ -59,6 +54,18 @@ var_bound spec is_fact (quants.Pairs rel) (bindings.Pair x y) bound First pool o
 var_bound spec is_fact (quants.Pairs rel) (bindings.Pair x y) bound Second pool of = (y, refl)
 var_bound spec is_fact (quants.Pairs rel) bindings.Once bound v pool of = absurd bound
 var_bound spec is_fact (quants.Pairs rel) (bindings.Each x) bound v pool of = absurd bound
+
+-- where the code of a record fits, a pick of the record does
+fits_code : (spec : Spec) (layout : Layout) (step : Step) (field : FieldRef) (f : Field) (pick : Pick) (o : Option Element) (e : Element) → o ≡ Some e → picked_number spec layout step field pick ≡ option_and_then (code_of layout) o → (number : ℕ) × ((code_of layout e ≡ Some number) × (number < 2 ^ width_bits f.width)) → FitsField spec layout step field f pick
+fits_code spec layout step field f pick o e there picked code = record {
+  number = code.0;
+  number_is = picked ∙ (ap (option_and_then (code_of layout)) there ∙ code.1.0);
+  fits = code.1.1;
+}
+
+-- the target of a declared relation is what its paths read
+target_same : (r : Rel) (o : Option Rel) (read pool : Option ℕ) → o ≡ Some r → option_and_then (λ (x : Rel). x.target) o ≡ read → read ≡ pool → r.target ≡ pool
+target_same r o read pool is same reads = sym (ap (option_and_then (λ (x : Rel). x.target)) is) ∙ (same ∙ reads)
 
 module _ (spec : Spec) (bytes : List ℕ) (layout : Layout) (is : IsLayoutOf spec bytes layout) (typed : IsTyped spec) (step : Step) (quant : Quant) (quant_typed : IsTypedQuant spec.base quant) (bound : IsBinding (IsFact spec layout bytes) quant step.binding) (known : KnownSets) (tells : TellsKnown spec quant known) (u : Update) (stopped : Option Instance) (place : IsPlace step.binding stopped u.place step.elem) (entry : IsEntryAt step.binding stopped u.at step.index) where
   -- the instance at what is written
@@ -92,12 +99,13 @@ module _ (spec : Spec) (bytes : List ℕ) (layout : Layout) (is : IsLayoutOf spe
       let its : IsTypedAtom spec quant (atoms.Pair relating.v relating.w relating.rel) = subst (IsTypedAtom spec quant) relating.atom_is atom_typed in
       let rel = some_and (slice_get spec.base.rels relating.rel) _ its in
       let read = target_read spec typed rule relating.rel rule.inc relating.path (of_rule spec typed u.rule rule relating.adding_is.rule_is).inc relating.gives_it relating.target_is in
-      let target : rel.0.target ≡ Some pool = sym (ap (option_and_then (λ (r : Rel). r.target)) rel.1.0) ∙ (read ∙ (ap (option_and_then (λ (g : Field). kind_pool g.kind)) declared ∙ refers)) in
+      let refers_to : option_and_then (λ (g : Field). kind_pool g.kind) (declared_field spec.base relating.path.field) ≡ Some pool = ap (option_and_then (λ (g : Field). kind_pool g.kind)) declared ∙ refers in
+      let target : rel.0.target ≡ Some pool = target_same rel.0 (slice_get spec.base.rels relating.rel) (option_and_then (λ (g : Field). kind_pool g.kind) (declared_field spec.base relating.path.field)) (Some pool) rel.1.0 read refers_to in
       let of : pool_of_var spec.base quant relating.w ≡ Some pool = rel.1.1.2 ∙ target in
       let there = var_bound spec (IsFact spec layout bytes) quant step.binding bound relating.w pool of in
       let at = var_record spec bytes layout is.numbers typed quant step.binding bound relating.w pool there.0 of there.1 in
       let code = code_fits_field spec bytes layout is typed step relating.path.field f pool there.0 declared refers at in
-      record { number = code.0; number_is = ap (option_and_then (code_of layout)) there.1 ∙ code.1.0; fits = code.1.1 }
+      fits_code spec layout step relating.path.field f (picks.CodeOf relating.w) (element_of step.binding relating.w) there.0 there.1 refl code
 
   pub relating_made : (atom : Atom) → IsTypedAtom spec quant atom → IsRelating spec known atom u → (write : Write) → IsIn write u.writes → IsMade spec layout step write
   relating_made atom atom_typed relating =
@@ -114,7 +122,7 @@ module _ (spec : Spec) (bytes : List ℕ) (layout : Layout) (is : IsLayoutOf spe
         let e = there.0 in
         let at = slot_record spec bytes layout is typed step e pool there.1.1.supplied.pool_is there.1.1.supplied.slot in
         let code = code_fits_field spec bytes layout is typed step field f pool e declared refers at in
-        record { number = code.0; number_is = ap (option_and_then (code_of layout)) there.1.0 ∙ code.1.0; fits = code.1.1 }
+        fits_code spec layout step field f picks.Fresh step.fresh e there.1.0 refl code
 
     pub supplying_made : IsSupplying spec known u → (write : Write) → IsIn write u.writes → IsMade spec layout step write
     supplying_made supplying =

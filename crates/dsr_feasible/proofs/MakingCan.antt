@@ -1,5 +1,5 @@
 -- The writes of an instance's rule can be made at its record and entry, where what is picked fits.
-use Rattle.std.proofs.Common.{◌≡◌, ◌∙◌, ℕ, Bool, true, false, List, [], ◌∷◌, Option, None, Some, inl, inr, refl, sym, ap, subst, if◌then◌else◌}
+use Rattle.std.proofs.Common.{◌≡◌, ◌∙◌, ℕ, Bool, true, false, List, [], ◌∷◌, None, Some, inl, inr, refl, sym, ap, subst}
 use Rattle.std.specs.List.{filter_map}
 use Rattle.std.specs.Option.{option_and_then, option_map_or}
 use Rattle.std.proofs.lemmas.Option.{same_Some}
@@ -18,7 +18,7 @@ use Rattle.dsr_ir.specs.declared.updates.Write.{Write}
 use Rattle.dsr_meaning.specs.Counting.{IsIn}
 use Rattle.dsr_meaning.specs.Instances.{IsInstance, declared_field, kind_pool}
 use Rattle.dsr_meaning.specs.Refusals.{IsLayoutOf}
-use Rattle.dsr_meaning.specs.Typed.{IsTyped, IsTypedGuard, IsTypedPath, IsTypedRule, IsTypedTest}
+use Rattle.dsr_meaning.specs.Typed.{IsTyped, IsTypedGuard, IsTypedPath, IsTypedRule}
 use Rattle.dsr_repairing.specs.Images.{IsFree}
 use Rattle.dsr_stepped.proofs.AllTrue.{first_true, in_others, target_written}
 use Rattle.dsr_stepped.proofs.Items.{of_all}

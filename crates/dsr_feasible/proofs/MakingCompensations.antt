@@ -1,21 +1,17 @@
 -- The writes that compensate an update can be made at the record that it writes.
-use Rattle.std.proofs.Common.{◌≡◌, ◌<◌, ◌∙◌, ◌||◌, ℕ, zero, suc, Bool, true, false, List, [], ◌∷◌, take, Option, None, Some, IsSomeAnd, MatchBool, inl, inr, refl, sym, ap, subst, slice_get, if◌then◌else◌, arith}
+use Rattle.std.proofs.Common.{◌≡◌, ◌<◌, ◌∙◌, ◌||◌, ℕ, true, false, List, [], ◌∷◌, Option, None, Some, IsSomeAnd, MatchBool, inl, inr, refl, sym, ap, subst, slice_get, if◌then◌else◌, arith}
 use Rattle.std.specs.Prelude.{option_map}
 use Rattle.std.specs.List.{filter_map}
 use Rattle.std.proofs.lemmas.Option.{same_Some}
 use Rattle.dsr_applying.specs.Choices.{IsPlace, IsUpdateAt}
 use Rattle.dsr_ir.specs.declared.constraints.Atom.{Atom}
 use Rattle.dsr_ir.specs.declared.constraints.Constraint.{Constraint}
-use Rattle.dsr_ir.specs.declared.declarations.Field.{Field}
 use Rattle.dsr_ir.specs.declared.declarations.Spec.{Spec}
-use Rattle.dsr_ir.specs.declared.declarations.Structures.{Structures}
 use Rattle.dsr_ir.specs.declared.layouts.Layout.{Layout}
 use Rattle.dsr_ir.specs.declared.rules.Guard.{Guard}
 use Rattle.dsr_ir.specs.declared.rules.Path.{Path}
 use Rattle.dsr_ir.specs.declared.rules.Rule.{Rule}
-use Rattle.dsr_ir.specs.declared.rules.Span.{Span}
 use Rattle.dsr_ir.specs.declared.rules.Span.TheVariants.{Single}
-use Rattle.dsr_ir.specs.declared.tuples.Element.{Element}
 use Rattle.dsr_ir.specs.declared.tuples.Instance.{Instance}
 use Rattle.dsr_ir.specs.declared.updates.Goal.{Goal}
 use Rattle.dsr_ir.specs.declared.updates.Place.{Place}
@@ -31,7 +27,6 @@ use Rattle.dsr_meaning.specs.Counting.{IsIn}
 use Rattle.dsr_meaning.specs.Instances.{IsInstance, index_count, premise_pool}
 use Rattle.dsr_meaning.specs.Models.{IsFact}
 use Rattle.dsr_meaning.specs.Refusals.{IsLayoutOf, first_of}
-use Rattle.dsr_meaning.specs.Truth.{head}
 use Rattle.dsr_meaning.specs.Typed.{IsTyped, IsTypedPath, RunsOver}
 use Rattle.dsr_stepped.proofs.Items.{place_of}
 use Rattle.dsr_stepping.specs.declared.steps.Step.{Step}

@@ -1,5 +1,5 @@
 -- A write to a typed path of an instance's record can be made where its number fits the path's field.
-use Rattle.std.proofs.Common.{◌≡◌, ◌<◌, ◌^◌, ◌∙◌, ◌+◌, ◌*◌, ℕ, zero, suc, length, Bool, true, false, List, [], ◌∷◌, Option, None, Some, IsSomeAnd, refl, sym, ap, subst, slice_get, if◌then◌else◌, arith}
+use Rattle.std.proofs.Common.{◌≡◌, ◌<◌, ◌^◌, ◌∙◌, ◌+◌, ◌*◌, ℕ, zero, suc, length, List, [], ◌∷◌, Option, None, Some, IsSomeAnd, refl, sym, ap, subst, slice_get, if◌then◌else◌, arith}
 use Rattle.std.specs.Prelude.{option_map}
 use Rattle.std.specs.Option.{option_and_then}
 use Rattle.std.proofs.lemmas.Option.{same_Some}
@@ -35,7 +35,7 @@ use Rattle.dsr_meaning.specs.Refusals.{IsLayoutOf}
 use Rattle.dsr_meaning.specs.Typed.{IsPoolNumber, IsTyped, IsTypedKind, IsTypedPath, IsTypedRule}
 use Rattle.dsr_resolved.proofs.Entries.{numbers_of, path_has_entry}
 use Rattle.dsr_resolved.proofs.PlacesOfFields.{collected_has, mapped_before}
-use Rattle.dsr_stepping.specs.Steps.{CanWrite, IsSlot, code_of, none_of, picked_number, written_cell, written_index, written_number}
+use Rattle.dsr_stepping.specs.Steps.{CanWrite, IsSlot, code_of, picked_number}
 use Rattle.dsr_stepping.specs.declared.steps.Step.{Step}
 
 -- ---- the place of a declared field is as wide as the field
@@ -102,8 +102,7 @@ module _ (spec : Spec) (bytes : List ℕ) (layout : Layout) (is : IsLayoutOf spe
       let at = field_found spec.base field f declared in
       let numbers = numbers_of spec bytes layout is typed pool (refers_to field f pool declared refers) in
       let n = numbers.0 in
-      let below : e.slot < n.count = subst (λ m. e.slot < m) (records_of layout pool n numbers.1) at_pool.slot_below in
-      (
+      let below : e.slot < n.count = subst (λ m. e.slot < m) (records_of layout pool n numbers.1) at_pool.slot_below in (
         n.code + e.slot * n.step,
         (
           ap (λ p. option_map (λ m. m.code + e.slot * m.step) (pool_numbers layout p)) at_pool.pool_is ∙ ap (option_map (λ m. m.code + e.slot * m.step)) numbers.1,

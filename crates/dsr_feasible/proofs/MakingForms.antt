@@ -1,6 +1,6 @@
 -- Where the template of a literal that is to become true comes from: it is a raw one, maybe with writes that
 -- compensate it.
-use Rattle.std.proofs.Common.{◌≡◌, ◌∙◌, ◌-◌, ℕ, List, [], ◌∷◌, ◌++◌, map, Option, None, Some, MatchOption, inl, inr, refl, sym, ap, subst, slice_get, append-nil}
+use Rattle.std.proofs.Common.{◌≡◌, ◌∙◌, ◌-◌, ℕ, List, [], ◌∷◌, ◌++◌, map, Option, Some, MatchOption, inl, inr, refl, sym, ap, subst, slice_get, append-nil}
 use Rattle.std.proofs.lemmas.Option.{same_Some}
 use Rattle.std.specs.List.{flat_map}
 use Rattle.dsr_ir.specs.declared.constraints.Atom.{Atom}
@@ -11,15 +11,14 @@ use Rattle.dsr_ir.specs.declared.updates.Template.{Template}
 use Rattle.dsr_ir.specs.declared.updates.Update.{Update}
 use Rattle.dsr_ir.specs.declared.updates.Write.{Write}
 use Rattle.dsr_listing.specs.Candidates.{AreCompensations}
-use Rattle.dsr_listing.specs.Lists.{AreCompensable, AreListed, AreListedOf, AreTaken, Compensable, all_of, compensated_by, two_of, with_one, with_two, with_writes}
+use Rattle.dsr_listing.specs.Lists.{AreCompensable, AreListed, AreTaken, Compensable, all_of, compensated_by, two_of, with_one, with_two, with_writes}
 use Rattle.dsr_listing.specs.Owners.{Owner}
 use Rattle.dsr_meaning.specs.Counting.{IsIn}
-use Rattle.dsr_planning.specs.Plans.{HasTemplate, IsPlan, IsRowOf, IsWayFor, MayRepair, owner_at, way_at}
+use Rattle.dsr_planning.specs.Plans.{HasTemplate, IsPlan, IsRowOf, IsWayFor, MayRepair, owner_at}
 use Rattle.dsr_planning.specs.declared.choices.Choice.{Choice}
 use Rattle.dsr_planning.specs.declared.choices.Row.{Row}
-use Rattle.dsr_planning.specs.declared.choices.Way.{Way}
-use Rattle.dsr_planning.specs.declared.choices.Way.TheVariants.{Test, By}
-use Rattle.dsr_updating.specs.Templates.{AreRaw, AreRawOf, KnownSets, TellsKnown, literal_at}
+use Rattle.dsr_planning.specs.declared.choices.Way.TheVariants.{By}
+use Rattle.dsr_updating.specs.Templates.{AreRaw, KnownSets, TellsKnown, literal_at}
 use Rattle.dsr_feasible.proofs.MakingItems.{from_flat, from_map, in_parts, item_at, mapped_at}
 
 -- ---- the update of a raw one, and writes behind its own
@@ -57,8 +56,7 @@ as_it_is compensations raw n update is = (
 
 with_more : (compensations : List Write) (raw : Template) (more : List Write) → ((write : Write) → IsIn write more → IsIn write compensations) → AreWithSome compensations raw (compensated_by raw more)
 with_more compensations raw more among n update is =
-    let found = mapped_at (with_writes more) raw.updates n update is in
-    (
+    let found = mapped_at (with_writes more) raw.updates n update is in (
       found.0,
       found.1.0,
       record {

@@ -1,23 +1,20 @@
 -- What can be made is so where it is so by any table of known sets: there is no finite table that couldn't be, and
 -- whether a write can be made is decided by numbers.
-use Rattle.std.proofs.Common.{◌≡◌, ◌<◌, ◌≤◌, ◌^◌, ◌*◌, ◌+◌, ◌⊎◌, ◌↔◌, ◌∙◌, ℕ, zero, suc, Bool, true, false, nat_eq, nat_lt, List, length, Option, None, Some, IsSomeAnd, IsTrue, MatchBool, inl, inr, refl, sym, ap, subst, if◌then◌else◌, arith}
+use Rattle.std.proofs.Common.{◌≡◌, ◌<◌, ◌≤◌, ◌^◌, ◌*◌, ◌+◌, ◌↔◌, ℕ, zero, suc, Bool, true, false, nat_eq, nat_lt, length, Option, None, Some, IsSomeAnd, IsTrue, MatchBool, inl, inr, refl, sym, subst, arith}
 use Rattle.std.proofs.lemmas.Bool.Decides.{nat_tests}
-use Rattle.std.proofs.lemmas.Option.{same_Some}
 use Rattle.dsr_decided.proofs.Listed.{numbers}
 use Rattle.dsr_decided.specs.Deciding.{IsDecided}
 use Rattle.dsr_ir.specs.Layouts.{field_place, pool_numbers}
 use Rattle.dsr_ir.specs.declared.constraints.Quant.{Quant}
 use Rattle.dsr_ir.specs.declared.constraints.Var.{Var}
 use Rattle.dsr_ir.specs.declared.constraints.Var.TheVariants.{Head, First, Second}
-use Rattle.dsr_ir.specs.declared.declarations.Field.{Field}
-use Rattle.dsr_ir.specs.declared.declarations.FieldRef.{FieldRef}
 use Rattle.dsr_ir.specs.declared.declarations.Spec.{Spec}
 use Rattle.dsr_ir.specs.declared.layouts.Layout.{Layout}
 use Rattle.dsr_ir.specs.declared.tuples.Element.{Element}
 use Rattle.dsr_ir.specs.declared.updates.Write.{Write}
 use Rattle.dsr_meaning.specs.Cells.{width_bits}
 use Rattle.dsr_meaning.specs.Instances.{declared_field}
-use Rattle.dsr_meaning.specs.Legal.{HasBits, HasEntry, entry_count}
+use Rattle.dsr_meaning.specs.Legal.{HasBits, entry_count}
 use Rattle.dsr_meaning.specs.Typed.{IsTyped, IsTypedQuant}
 use Rattle.dsr_repairing.specs.Images.{IsFree}
 use Rattle.dsr_stepping.specs.Steps.{CanWrite, written_cell, written_index, written_number}
@@ -62,18 +59,18 @@ told_so (inl a) = (λ _. a, λ _. refl)
 told_so (inr never) = (λ no. absurd cc, λ a. absurd (never a))
 
 module _ (spec : Spec) (typed : IsTyped spec) (quant : Quant) (quant_typed : IsTypedQuant spec.base quant) where
-  abbrev Decides_all : Var → Type 0
-  Decides_all v = (set : ℕ) → IsDecided (IsKnown spec quant v set)
+  abbrev DecidesAll : Var → Type 0
+  DecidesAll v = (set : ℕ) → IsDecided (IsKnown spec quant v set)
 
-  var_never : (v : Var) → Never (Decides_all v)
+  var_never : (v : Var) → Never (DecidesAll v)
   var_never v = all_never (IsKnown spec quant v) (length spec.base.sets) (λ set known. (known_pool spec typed quant quant_typed known).1)
 
-  table : Decides_all Head → Decides_all First → Decides_all Second → KnownSets
+  table : DecidesAll Head → DecidesAll First → DecidesAll Second → KnownSets
   table h f s Head set = told (h set)
   table h f s First set = told (f set)
   table h f s Second set = told (s set)
 
-  table_tells : (h : Decides_all Head) (f : Decides_all First) (s : Decides_all Second) → TellsKnown spec quant (table h f s)
+  table_tells : (h : DecidesAll Head) (f : DecidesAll First) (s : DecidesAll Second) → TellsKnown spec quant (table h f s)
   unfolding table
   table_tells h f s Head set = told_so (h set)
   table_tells h f s First set = told_so (f set)

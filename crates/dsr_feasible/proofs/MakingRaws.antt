@@ -31,7 +31,6 @@ use Rattle.dsr_ir.specs.declared.tuples.Target.TheVariants.{Elem}
 use Rattle.dsr_ir.specs.declared.updates.At.TheVariants as ats
 use Rattle.dsr_ir.specs.declared.updates.Goal.{Goal}
 use Rattle.dsr_ir.specs.declared.updates.Goal.TheVariants as goals
-use Rattle.dsr_ir.specs.declared.updates.Pick.{Pick}
 use Rattle.dsr_ir.specs.declared.updates.Pick.TheVariants as picks
 use Rattle.dsr_ir.specs.declared.updates.Place.TheVariants as places
 use Rattle.dsr_ir.specs.declared.updates.Symbol.{Symbol}
@@ -45,7 +44,7 @@ use Rattle.dsr_meaning.specs.Refusals.{reaches_bound}
 use Rattle.dsr_meaning.specs.Truth.{element_of}
 use Rattle.dsr_updating.specs.Givers.{IsGiver, givers, is_own, is_single}
 use Rattle.dsr_updating.specs.Options.{options}
-use Rattle.dsr_updating.specs.Templates.{AreOnce, AreRaw, AreRemovals, AreSized, AreTemplates, AreTrims, AreValued, KnownSets, adding, all_removals, all_true, counted_of, counted_symbol, is_target, item_or_last, joins_by, lacks_option, listed, most_options, pick_of, place_of, referred, relates_by, removal_at, removal_place, removal_updates, removing, serves, set_supplies, setting, settings, supplies, supplies_by, target_supplies, target_writes, value_write, variables, with_trims}
+use Rattle.dsr_updating.specs.Templates.{AreOnce, AreRaw, AreSized, AreTemplates, AreTrims, AreValued, KnownSets, adding, all_removals, all_true, counted_of, counted_symbol, is_target, item_or_last, joins_by, lacks_option, listed, most_options, pick_of, place_of, referred, relates_by, removal_at, removal_place, removal_updates, removing, serves, setting, settings, supplies, supplies_by, target_writes, value_write, variables, with_trims}
 use Rattle.dsr_feasible.proofs.MakingItems.{both_true, chained_from, failed_in, from_filter, from_flat, from_givers, from_map, is_giver, item_at, mapped_from, of_listed, only_item, passed_from, passed_in, without}
 
 -- ---- kinds of updates

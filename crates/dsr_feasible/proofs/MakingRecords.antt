@@ -1,11 +1,11 @@
 -- The record of a variable is one of the variable's pool, and a known set is one of that pool.
-use Rattle.std.proofs.Common.{◌≡◌, ◌<◌, ◌∙◌, ℕ, zero, suc, Bool, true, false, nat_eq, List, length, Option, None, Some, IfSome, IsSomeAnd, IsTrue, is_some, not, refl, sym, ap, subst, slice_get, arith}
+use Rattle.std.proofs.Common.{◌≡◌, ◌<◌, ◌∙◌, ℕ, true, false, List, length, Option, None, Some, IfSome, IsSomeAnd, is_some, not, refl, sym, ap, subst, slice_get, arith}
 use Rattle.std.specs.Prelude.{option_map}
 use Rattle.std.specs.Option.{option_and_then, option_map_or}
 use Rattle.std.proofs.lemmas.Bool.Decides.{nat_tests}
 use Rattle.std.proofs.lemmas.Option.{same_Some, slice_get_within}
 use Rattle.dsr_applying.specs.Choices.{IsPlace}
-use Rattle.dsr_ir.specs.Rules.{gives, is_same_symbol, symbol_of, target_of}
+use Rattle.dsr_ir.specs.Rules.{gives, is_same_symbol, target_of}
 use Rattle.dsr_ir.specs.declared.constraints.Quant.{Quant}
 use Rattle.dsr_ir.specs.declared.constraints.Quant.TheVariants as quants
 use Rattle.dsr_ir.specs.declared.constraints.Var.{Var}
@@ -14,7 +14,6 @@ use Rattle.dsr_ir.specs.declared.declarations.Field.{Field}
 use Rattle.dsr_ir.specs.declared.declarations.Rel.{Rel}
 use Rattle.dsr_ir.specs.declared.declarations.SetDecl.{SetDecl}
 use Rattle.dsr_ir.specs.declared.declarations.Spec.{Spec}
-use Rattle.dsr_ir.specs.declared.declarations.Structures.{Structures}
 use Rattle.dsr_ir.specs.declared.layouts.Layout.{Layout}
 use Rattle.dsr_ir.specs.declared.rules.Inc.{Inc}
 use Rattle.dsr_ir.specs.declared.rules.Inc.TheVariants as incs
@@ -23,25 +22,22 @@ use Rattle.dsr_ir.specs.declared.rules.Rule.{Rule}
 use Rattle.dsr_ir.specs.declared.tuples.Binding.{Binding}
 use Rattle.dsr_ir.specs.declared.tuples.Binding.TheVariants as bindings
 use Rattle.dsr_ir.specs.declared.tuples.Element.{Element}
-use Rattle.dsr_ir.specs.declared.tuples.Fact.{Fact}
 use Rattle.dsr_ir.specs.declared.tuples.Fact.TheVariants.{Member, Pair}
 use Rattle.dsr_ir.specs.declared.tuples.Instance.{Instance}
 use Rattle.dsr_ir.specs.declared.tuples.Target.TheVariants.{Elem}
-use Rattle.dsr_ir.specs.declared.updates.Place.TheVariants as places
-use Rattle.dsr_ir.specs.declared.updates.Symbol.{Symbol}
 use Rattle.dsr_ir.specs.declared.updates.Symbol.TheVariants as symbols
 use Rattle.dsr_layout.proofs.Meanings.{found_holds}
 use Rattle.dsr_layout.proofs.RangeOfFacts.{fact_in_range}
 use Rattle.dsr_layout.specs.InRange.{IsRecordOf, IsTargetOf}
 use Rattle.dsr_meaning.specs.Consistency.{IsBinding}
-use Rattle.dsr_meaning.specs.Instances.{declared_field, kind_pool, pool_of_premise, premise_pool, record_count, set_pool}
+use Rattle.dsr_meaning.specs.Instances.{declared_field, kind_pool, pool_of_premise, premise_pool, set_pool}
 use Rattle.dsr_meaning.specs.Layouts.{layout_of}
 use Rattle.dsr_meaning.specs.Models.{IsFact}
 use Rattle.dsr_meaning.specs.Truth.{element_of, head}
 use Rattle.dsr_meaning.specs.Typed.{GivesTarget, IsPlainSetOf, IsTyped, IsTypedInc, IsTypedQuant, IsTypedRule, Reads, Relates, pool_of_var}
 use Rattle.dsr_resolved.proofs.Entries.{item_below}
-use Rattle.dsr_updating.specs.Givers.{IsGiver, IsGivenBy, is_own}
-use Rattle.dsr_updating.specs.Known.{GivesMembersOf, GivesTargetsTo, IsCounterpart, IsKnown}
+use Rattle.dsr_updating.specs.Givers.{is_own}
+use Rattle.dsr_updating.specs.Known.{IsKnown}
 use Rattle.dsr_updating.specs.Templates.{KnownSets, TellsKnown, place_of, starts_at}
 use Rattle.dsr_feasible.proofs.MakingItems.{chained_from, mapped_from, some_and}
 

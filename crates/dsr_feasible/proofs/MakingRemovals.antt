@@ -1,8 +1,7 @@
 -- An update that removes writes at the record and the entry of the instance that it stops.
-use Rattle.std.proofs.Common.{◌≡◌, ◌<◌, ◌∙◌, ◌&&◌, ℕ, zero, suc, Bool, true, false, List, [], ◌∷◌, Option, None, Some, IfSome, IsSomeAnd, is_some, inl, inr, refl, sym, ap, subst, slice_get, if◌then◌else◌, arith}
-use Rattle.std.specs.Option.{option_map_or}
+use Rattle.std.proofs.Common.{◌≡◌, ◌<◌, ◌∙◌, ◌&&◌, ℕ, Bool, true, false, List, [], ◌∷◌, Option, None, Some, IfSome, IsSomeAnd, is_some, inl, inr, refl, sym, ap, subst, slice_get, if◌then◌else◌, arith}
 use Rattle.std.proofs.lemmas.Option.{same_Some}
-use Rattle.dsr_applying.specs.Choices.{Adds, IsEntryAt, IsPlace, IsToGo, IsUpdateAt}
+use Rattle.dsr_applying.specs.Choices.{IsEntryAt, IsPlace, IsUpdateAt}
 use Rattle.dsr_ir.specs.declared.constraints.Atom.{Atom}
 use Rattle.dsr_ir.specs.declared.constraints.Var.{Var}
 use Rattle.dsr_ir.specs.declared.constraints.Var.TheVariants.{Head, First, Second}
@@ -10,10 +9,7 @@ use Rattle.dsr_ir.specs.declared.declarations.Spec.{Spec}
 use Rattle.dsr_ir.specs.declared.layouts.Layout.{Layout}
 use Rattle.dsr_ir.specs.declared.rules.Inc.{Inc}
 use Rattle.dsr_ir.specs.declared.rules.Inc.TheVariants as incs
-use Rattle.dsr_ir.specs.declared.rules.Path.{Path}
 use Rattle.dsr_ir.specs.declared.rules.Rule.{Rule}
-use Rattle.dsr_ir.specs.declared.rules.Span.{Span}
-use Rattle.dsr_ir.specs.declared.rules.Span.TheVariants.{Single}
 use Rattle.dsr_ir.specs.declared.tuples.Binding.{Binding}
 use Rattle.dsr_ir.specs.declared.tuples.Element.{Element}
 use Rattle.dsr_ir.specs.declared.tuples.Fact.{Fact}
@@ -24,17 +20,16 @@ use Rattle.dsr_ir.specs.declared.updates.Template.{Template}
 use Rattle.dsr_ir.specs.declared.updates.Update.{Update}
 use Rattle.dsr_ir.specs.declared.updates.Write.{Write}
 use Rattle.dsr_meaning.specs.Counting.{IsIn}
-use Rattle.dsr_meaning.specs.Instances.{Gives, Includes, IsInstance, index_count, pool_of_premise, premise_pool, record_count}
+use Rattle.dsr_meaning.specs.Instances.{Gives, Includes, index_count, pool_of_premise, record_count}
 use Rattle.dsr_meaning.specs.Models.{Chain, IsDerivedBy, IsFact, begin, follow}
 use Rattle.dsr_meaning.specs.Refusals.{IsLayoutOf}
 use Rattle.dsr_meaning.specs.Truth.{element_of, head}
-use Rattle.dsr_meaning.specs.Typed.{IsTyped, IsTypedPath}
+use Rattle.dsr_meaning.specs.Typed.{IsTyped}
 use Rattle.dsr_stepping.specs.declared.steps.Step.{Step}
 use Rattle.dsr_updating.specs.Givers.{is_own, is_single, is_slot}
 use Rattle.dsr_updating.specs.Options.{options}
 use Rattle.dsr_updating.specs.Templates.{removal_at, removal_place}
 use Rattle.dsr_feasible.proofs.MakingCan.{IsMade, option_made}
-use Rattle.dsr_feasible.proofs.MakingEntries.{SameEntry}
 use Rattle.dsr_feasible.proofs.MakingRaws.{IsRemoving, single_span, source_of}
 use Rattle.dsr_feasible.proofs.MakingRecords.{of_rule}
 

@@ -1,10 +1,9 @@
 -- A slot of a pool is an index of a span that counts the pool's slots.
-use Rattle.std.proofs.Common.{◌≡◌, ◌<◌, ◌≤◌, ◌-◌, ◌∙◌, ℕ, zero, suc, Bool, true, false, nat_eq, List, [], ◌∷◌, length, Option, None, Some, refl, sym, ap, subst, slice_get, unwrap_or, if◌then◌else◌, arith}
+use Rattle.std.proofs.Common.{◌≡◌, ◌<◌, ◌-◌, ◌∙◌, ℕ, false, nat_eq, List, length, Option, None, Some, sym, ap, subst, slice_get, unwrap_or, if◌then◌else◌, arith}
 use Rattle.std.specs.Prelude.{option_map}
 use Rattle.std.specs.Option.{option_and_then, option_map_or}
 use Rattle.std.proofs.lemmas.Bool.{ne_eqb}
-use Rattle.std.proofs.lemmas.Option.{same_Some}
-use Rattle.dsr_ir.specs.Layouts.{field_place, pool_numbers}
+use Rattle.dsr_ir.specs.Layouts.{pool_numbers}
 use Rattle.dsr_ir.specs.declared.declarations.Field.{Field}
 use Rattle.dsr_ir.specs.declared.declarations.Pool.{Pool}
 use Rattle.dsr_ir.specs.declared.declarations.Structures.{Structures}
@@ -23,10 +22,10 @@ use Rattle.dsr_meaning.specs.FixedFields.{fixed_value}
 use Rattle.dsr_meaning.specs.Instances.{declared_field, index_count, record_count}
 use Rattle.dsr_meaning.specs.Layouts.{layout_of, pool_of, slot_bytes}
 use Rattle.dsr_meaning.specs.Places.{size_of}
-use Rattle.dsr_meaning.specs.Typed.{CountsSlots, IsPoolNumber, IsTypedSpan, pool_at, span_length}
+use Rattle.dsr_meaning.specs.Typed.{CountsSlots, IsPoolNumber, IsTypedSpan, pool_at}
 use Rattle.dsr_resolved.proofs.Entries.{item_below}
 use Rattle.dsr_resolved.proofs.PlacesOfFields.{place_of}
-use Rattle.dsr_feasible.proofs.MakingItems.{chained_from, mapped_from}
+use Rattle.dsr_feasible.proofs.MakingItems.{chained_from}
 
 -- the count of a pool's numbers is the one that was computed
 numbers_count : (count slot start code step none : Option ℕ) (n : PoolNumbers) → option_and_then (λ count. option_and_then (λ slot. option_and_then (λ start. option_and_then (λ code. option_and_then (λ step. option_map (λ none. record { start = start; slot = slot; count = count; code = code; step = step; none = none }) none) step) code) start) slot) count ≡ Some n → count ≡ Some n.count

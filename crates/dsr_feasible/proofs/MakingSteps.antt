@@ -1,6 +1,5 @@
 -- A step that is due can be made, and writes no fixed field.
-use Rattle.std.proofs.Common.{◌≡◌, ◌∙◌, ℕ, List, [], ◌∷◌, ◌++◌, All, length, Option, None, Some, IfSome, IsSomeAnd, inl, inr, refl, sym, ap, subst, slice_get}
-use Rattle.std.specs.Option.{option_and_then}
+use Rattle.std.proofs.Common.{◌≡◌, ◌∙◌, ℕ, List, ◌++◌, All, length, Option, None, Some, IfSome, inl, inr, refl, sym, subst, slice_get}
 use Rattle.std.proofs.lemmas.Option.{same_Some}
 use Rattle.dsr_applying.specs.Choices.{IsEntryAt, IsFresh, IsFreshFrom, IsNumberFor, IsPlace, IsUpdateAt}
 use Rattle.dsr_ir.specs.declared.constraints.Atom.{Atom}

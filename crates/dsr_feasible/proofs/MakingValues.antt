@@ -1,32 +1,20 @@
 -- An update that sets a value writes in the record of the variable, or in the head at its slot, and the value fits.
-use Rattle.std.proofs.Common.{◌≡◌, ◌<◌, ◌≤◌, ◌^◌, ◌∙◌, ℕ, zero, suc, Bool, true, false, List, [], ◌∷◌, ◌++◌, Option, None, Some, IsSomeAnd, MatchOption, inl, inr, refl, sym, ap, subst, slice_get, if◌then◌else◌, arith}
+use Rattle.std.proofs.Common.{◌≡◌, ◌<◌, ◌≤◌, ◌^◌, ◌∙◌, ℕ, List, ◌++◌, Option, None, Some, MatchOption, inl, inr, refl, sym, ap, subst, slice_get, if◌then◌else◌, arith}
 use Rattle.std.specs.Prelude.{option_map}
-use Rattle.std.specs.Option.{option_and_then}
-use Rattle.std.proofs.lemmas.Option.{same_Some}
 use Rattle.dsr_applying.specs.Choices.{IsEntryAt, IsNumberFor, IsPlace, size_or, written_size}
 use Rattle.dsr_ir.specs.Rules.{gives, target_of}
-use Rattle.dsr_ir.specs.declared.constraints.Atom.{Atom}
 use Rattle.dsr_ir.specs.declared.constraints.Atom.TheVariants as atoms
 use Rattle.dsr_ir.specs.declared.constraints.Bound.{Bound}
 use Rattle.dsr_ir.specs.declared.constraints.Bound.TheVariants as bounds
 use Rattle.dsr_ir.specs.declared.constraints.Conj.{Conj}
 use Rattle.dsr_ir.specs.declared.constraints.Constraint.{Constraint}
 use Rattle.dsr_ir.specs.declared.constraints.Literal.{Literal}
-use Rattle.dsr_ir.specs.declared.constraints.Measure.{Measure}
-use Rattle.dsr_ir.specs.declared.constraints.Var.{Var}
 use Rattle.dsr_ir.specs.declared.declarations.Field.{Field}
 use Rattle.dsr_ir.specs.declared.declarations.Rel.{Rel}
 use Rattle.dsr_ir.specs.declared.declarations.Spec.{Spec}
 use Rattle.dsr_ir.specs.declared.layouts.Layout.{Layout}
-use Rattle.dsr_ir.specs.declared.rules.Inc.{Inc}
-use Rattle.dsr_ir.specs.declared.rules.Inc.TheVariants.{OwnPair, SlotPair}
-use Rattle.dsr_ir.specs.declared.rules.Op.{Op}
-use Rattle.dsr_ir.specs.declared.rules.Path.{Path}
 use Rattle.dsr_ir.specs.declared.rules.Rule.{Rule}
-use Rattle.dsr_ir.specs.declared.tuples.Binding.{Binding}
-use Rattle.dsr_ir.specs.declared.tuples.Element.{Element}
 use Rattle.dsr_ir.specs.declared.tuples.Instance.{Instance}
-use Rattle.dsr_ir.specs.declared.updates.Pick.{Pick}
 use Rattle.dsr_ir.specs.declared.updates.Pick.TheVariants as picks
 use Rattle.dsr_ir.specs.declared.updates.Symbol.TheVariants as symbols
 use Rattle.dsr_ir.specs.declared.updates.Update.{Update}
@@ -44,7 +32,6 @@ use Rattle.dsr_meaning.specs.Refusals.{IsLayoutOf, given_path, greatest_size}
 use Rattle.dsr_meaning.specs.Truth.{HasSize, element_of, head}
 use Rattle.dsr_meaning.specs.Typed.{CountsSlots, GivesTarget, IsTyped, IsTypedAtom, IsTypedBound, IsTypedInc, pool_of_var}
 use Rattle.dsr_resolved.proofs.PlacesOfFields.{place_of}
-use Rattle.dsr_stepping.specs.Steps.{IsSlot}
 use Rattle.dsr_stepping.specs.declared.steps.Step.{Step}
 use Rattle.dsr_updating.specs.Givers.{is_own}
 use Rattle.dsr_updating.specs.Templates.{pick_of}

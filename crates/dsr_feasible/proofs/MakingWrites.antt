@@ -1,11 +1,10 @@
 -- What is written: to a path of a field that isn't fixed.
-use Rattle.std.proofs.Common.{◌≡◌, ◌<◌, ◌^◌, ◌∙◌, ℕ, Bool, true, false, nat_lt, Option, None, Some, IsSome, IsSomeAnd, refl, sym, ap, subst, if◌then◌else◌, arith}
+use Rattle.std.proofs.Common.{◌≡◌, ◌<◌, ◌^◌, ℕ, Bool, true, false, nat_lt, Option, None, Some, IsSome, IsSomeAnd, refl, sym, ap, subst, if◌then◌else◌, arith}
 use Rattle.std.specs.Prelude.{option_map}
 use Rattle.std.specs.Option.{option_and_then}
 use Rattle.std.proofs.lemmas.Bool.Decides.{nat_tests}
 use Rattle.std.proofs.lemmas.Option.{same_Some}
 use Rattle.dsr_ir.specs.declared.declarations.Field.{Field}
-use Rattle.dsr_ir.specs.declared.declarations.FieldRef.{FieldRef}
 use Rattle.dsr_ir.specs.declared.declarations.Spec.{Spec}
 use Rattle.dsr_ir.specs.declared.declarations.Structures.{Structures}
 use Rattle.dsr_ir.specs.declared.rules.Guard.{Guard}
@@ -19,7 +18,7 @@ use Rattle.dsr_meaning.specs.Cells.{width_bits}
 use Rattle.dsr_meaning.specs.Instances.{declared_field, kind_pool}
 use Rattle.dsr_meaning.specs.Typed.{IsTypedTest}
 use Rattle.dsr_repairing.specs.Images.{IsFree}
-use Rattle.dsr_updating.specs.Guards.{fitting, guard_write, number_false, number_true, pick_false, pick_true, pick_wanted}
+use Rattle.dsr_updating.specs.Guards.{fitting, guard_write, number_false, number_true, pick_wanted}
 use Rattle.dsr_updating.specs.Options.{open_pool, reference_write}
 use Rattle.dsr_updating.specs.Templates.{value_write}
 use Rattle.dsr_feasible.proofs.MakingItems.{chained_from, mapped_from, without}

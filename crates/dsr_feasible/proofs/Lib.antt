@@ -1,0 +1,14 @@
+pub mod MakingItems
+pub mod MakingForms
+pub mod MakingRaws
+pub mod MakingWrites
+pub mod MakingEntries
+pub mod MakingRecords
+pub mod MakingKnown
+pub mod MakingCan
+pub mod MakingRemovals
+pub mod MakingSpans
+pub mod MakingAdditions
+pub mod MakingValues
+pub mod MakingCompensations
+pub mod MakingSteps

@@ -3,6 +3,7 @@ ghost use Rattle.std.specs.Prelude.{◌≡◌, ◌↔◌, ◌≤◌, vec_len, ta
 ghost use Rattle.std.specs.IoError.{error_kind};
 
 use crate::outside::{Missed, Shelf, ShelfFault, Sink, SinkFault};
+use crate::replacing::save_whole;
 use std::alloc::Global;
 use std::fs;
 use std::io::{self, ErrorKind, Read, Write};
@@ -12,7 +13,7 @@ use std::rt::Files;
 const CHUNK: usize = 4096;
 
 // What an error of the system is told as.
-fn fault_of(error: &io::Error) -> ShelfFault
+pub(crate) fn fault_of(error: &io::Error) -> ShelfFault
     ensures { (result ≡ ShelfFault.NoMemory) ↔ (error_kind error.now ≡ ErrorKind.OutOfMemory) }
 {
     match error.kind() {
@@ -57,13 +58,6 @@ fn load_front<R: Files>(alloc: Global, rt: &R, name: &str, cap: u64) -> Result<V
     }
 }
 
-// Makes these the file's only bytes. `write_all` gives an error for a write that takes nothing of
-// what is left.
-fn write_whole<R: Files>(rt: &R, name: &str, bytes: &[u8]) -> io::Result<()> {
-    let mut file = fs::create(rt, name)?;
-    file.write_all(bytes)
-}
-
 /// The system's files, by their paths. What they hold isn't told, since others may write them too.
 #[derive(Drop)]
 pub struct FileShelf<'a, R: Files> {
@@ -97,13 +91,13 @@ impl<'a, R: Files> Shelf for FileShelf<'a, R> {
 
     fn save(&mut self, alloc: Global, name: &str, bytes: &[u8]) -> Result<(), ShelfFault> {
         let missed = Missed::new(alloc, true, name)?;
-        match write_whole(self.rt, name, bytes) {
-            Ok(()) => Ok(()),
-            Err(_) => {
+        match save_whole(alloc, self.rt, name, bytes) {
+            Err(ShelfFault::Failed) => {
                 self.faults = self.faults.saturating_add(1);
                 self.last = Some(missed);
                 Err(ShelfFault::Failed)
             }
+            saved => saved,
         }
     }
 }

@@ -60,26 +60,29 @@ fn target_of<R: Files>(alloc: Global, rt: &R, name: &str) -> io::Result<Target> 
     match fs::metadata(rt, name) {
         Ok(found) if found.is_file() => file_target(alloc, rt, name),
         Ok(_) => Ok(Target::Other),
-        Err(error) if error.kind() == ErrorKind::NotFound => Ok(Target::Plain {
-            path: end_of_links(alloc, rt, name)?,
-            mode: None,
-        }),
+        Err(error) if error.kind() == ErrorKind::NotFound => {
+            let (path, _) = end_of_links(alloc, rt, name)?;
+            Ok(Target::Plain { path, mode: None })
+        }
         Err(error) => Err(error),
     }
 }
 
-// The target where a plain file stands. It is opened, since the system lets a file be replaced by
-// who may not write it.
+// The target where a plain file stands. It is opened first, since a folder that may be written lets
+// its files be replaced by those who may not write them.
 fn file_target<R: Files>(alloc: Global, rt: &R, name: &str) -> io::Result<Target> {
     let held = OpenOptions::new().write(true).open(rt, name)?.metadata()?;
-    let path = end_of_links(alloc, rt, name)?;
-    match fs::symlink_metadata(rt, path.as_path()) {
-        Ok(found) if is_same(&held, &found) => Ok(Target::Plain {
-            path,
-            mode: Some(held.mode() & PERMISSION_BITS),
-        }),
-        // A link to an open file, as those of /proc are, whose name is gone.
-        _ => Ok(Target::Other),
+    let (path, found) = end_of_links(alloc, rt, name)?;
+    let mode = Some(held.mode() & PERMISSION_BITS);
+    if path.as_str() == name {
+        return Ok(Target::Plain { path, mode });
+    }
+    // A link of /proc leads to an open file, which may be gone from the path that the link tells, or
+    // be another one than stands there.
+    match found {
+        Some(found) if is_same(&held, &found) => Ok(Target::Plain { path, mode }),
+        Some(_) => Err(ErrorKind::ResourceBusy.into()),
+        None => Ok(Target::Other),
     }
 }
 
@@ -87,8 +90,12 @@ fn is_same(one: &Metadata, other: &Metadata) -> bool {
     one.dev() == other.dev() && one.ino() == other.ino()
 }
 
-// The path of what the name stands for, where it is a link, or a link to a link.
-fn end_of_links<R: Files>(alloc: Global, rt: &R, name: &str) -> io::Result<PathBuf> {
+// The path that the name stands for, where it is a link or a link to a link, and what stands there.
+fn end_of_links<R: Files>(
+    alloc: Global,
+    rt: &R,
+    name: &str,
+) -> io::Result<(PathBuf, Option<Metadata>)> {
     let mut path = PathBuf::from_str(alloc, name)?;
     for _link in 0..LINKS {
         match fs::symlink_metadata(rt, path.as_path()) {
@@ -96,7 +103,9 @@ fn end_of_links<R: Files>(alloc: Global, rt: &R, name: &str) -> io::Result<PathB
                 let next = rt.read_link(alloc, path.as_str())?;
                 path.set_file_name(next.as_str())?;
             }
-            _ => return Ok(path),
+            Ok(found) => return Ok((path, Some(found))),
+            Err(error) if error.kind() == ErrorKind::NotFound => return Ok((path, None)),
+            Err(error) => return Err(error),
         }
     }
     Err(ErrorKind::FilesystemLoop.into())
@@ -111,21 +120,20 @@ fn replace<R: Files>(
     bytes: &[u8],
 ) -> io::Result<()> {
     let (name, file) = new_file(alloc, rt, path, mode)?;
-    let filled = fill(file, mode, bytes);
-    let moved = match filled {
+    let moved = match fill(file, mode, bytes) {
         Ok(()) => fs::rename(rt, name.as_str(), path),
         Err(error) => Err(error),
     };
     match moved {
         Ok(()) => sync_folder(rt, path),
-        // Where this fails as well, the new file stays, as after a crash.
+        // Where this fails too, the new file stays, as after a crash.
         Err(_) => drop(fs::remove_file(rt, name.as_str())),
     }
     moved
 }
 
-// Makes a file beside the path, under a name that nothing has. Nobody may read it who may not read
-// the old one.
+// Makes a file beside the path, under a name that nothing has. Its mode is the old one's from the
+// start, so that bytes which few may read aren't there for all meanwhile.
 fn new_file<R: Files>(
     alloc: Global,
     rt: &R,
@@ -155,8 +163,8 @@ fn new_name(alloc: Global, path: &str, number: u8) -> Result<String, AllocError>
     format!(in alloc; "{path}.dsr-new{number}")
 }
 
-// Writes all of a new file to the disk, and closes it. Its mode is set anew, since the system takes bits off the one that a
-// file is made with.
+// Writes all of a new file to the disk, and closes it. Its mode is set once more, since the system
+// takes bits off the one that a file is made with.
 fn fill<F: Write + OpenFile + Drop>(
     mut file: F,
     mode: Option<u32>,
@@ -169,9 +177,9 @@ fn fill<F: Write + OpenFile + Drop>(
     file.sync_all()
 }
 
-// Has the folder's new entry written to the disk. No failure of the save comes of it: the bytes
-// stand whole under the name already, and without it a crash of the system can at most bring the old
-// file back. Some systems open no folder.
+// Has the folder's new entry written to the disk. A failure here is none of the save: the bytes stand
+// whole under the name already, and all that a crash of the system can do is to bring the old file
+// back. Not every runtime or file system opens or syncs a folder.
 fn sync_folder<R: Files>(rt: &R, path: &str) {
     let folder = match Path::new(path).parent() {
         Some(folder) if folder.as_str().is_empty() => ".",

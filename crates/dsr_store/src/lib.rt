@@ -5,6 +5,7 @@
 mod keeping;
 mod memory;
 mod outside;
+mod replacing;
 mod system;
 
 pub use memory::{MemoryShelf, MemorySink, SureShelf, SureSink};

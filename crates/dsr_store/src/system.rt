@@ -3,6 +3,7 @@ ghost use Rattle.std.specs.Prelude.{◌≡◌, ◌↔◌, ◌≤◌, vec_len, ta
 ghost use Rattle.std.specs.IoError.{error_kind};
 
 use crate::outside::{Missed, Shelf, ShelfFault, Sink, SinkFault};
+use crate::replacing::save_whole;
 use std::alloc::Global;
 use std::fs;
 use std::io::{self, ErrorKind, Read, Write};
@@ -12,7 +13,7 @@ use std::rt::Files;
 const CHUNK: usize = 4096;
 
 // What an error of the system is told as.
-fn fault_of(error: &io::Error) -> ShelfFault
+pub(crate) fn fault_of(error: &io::Error) -> ShelfFault
     ensures { (result ≡ ShelfFault.NoMemory) ↔ (error_kind error.now ≡ ErrorKind.OutOfMemory) }
 {
     match error.kind() {
@@ -57,14 +58,22 @@ fn load_front<R: Files>(alloc: Global, rt: &R, name: &str, cap: u64) -> Result<V
     }
 }
 
-// Makes these the file's only bytes. `write_all` gives an error for a write that takes nothing of
-// what is left.
-fn write_whole<R: Files>(rt: &R, name: &str, bytes: &[u8]) -> io::Result<()> {
-    let mut file = fs::create(rt, name)?;
-    file.write_all(bytes)
-}
-
 /// The system's files, by their paths. What they hold isn't told, since others may write them too.
+///
+/// A save never ruins a file. It makes a new file in the same folder, `NAME.dsr-new`, or where that
+/// is taken one of `NAME.dsr-new1` to `NAME.dsr-new99`, writes all bytes of it to the disk, gives it
+/// the permission bits of the file that it replaces, and renames it to NAME.
+///
+/// - After a kill or a crash, NAME has all its old bytes or all the new ones; if there was no such
+///   file, there is none, or the whole new one. The file `NAME.dsr-new` may be left. No save
+///   reads it or waits for it, and it can be removed.
+/// - After a failure, for want of room, of leave or of memory, NAME is as it was, and the new file is
+///   removed. Leave is wanted to write the folder as well as the file, if there is one.
+/// - Where NAME is a symbolic link, it stays, and the file that it leads to is the one that is
+///   replaced, in that file's folder. Other hard links of a file keep the old bytes. The new
+///   file has the user and the group of the program, and no attributes but its permission bits.
+/// - What is no plain file, as a device or a pipe, is written to as it stands, so a failure or a kill
+///   may come when it has taken a part.
 #[derive(Drop)]
 pub struct FileShelf<'a, R: Files> {
     /// The runtime that the files are reached through.
@@ -97,13 +106,13 @@ impl<'a, R: Files> Shelf for FileShelf<'a, R> {
 
     fn save(&mut self, alloc: Global, name: &str, bytes: &[u8]) -> Result<(), ShelfFault> {
         let missed = Missed::new(alloc, true, name)?;
-        match write_whole(self.rt, name, bytes) {
-            Ok(()) => Ok(()),
-            Err(_) => {
+        match save_whole(alloc, self.rt, name, bytes) {
+            Err(ShelfFault::Failed) => {
                 self.faults = self.faults.saturating_add(1);
                 self.last = Some(missed);
                 Err(ShelfFault::Failed)
             }
+            saved => saved,
         }
     }
 }

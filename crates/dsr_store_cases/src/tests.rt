@@ -4,7 +4,8 @@ use dsr_store::{
     SinkFault, StdSink, SureShelf, SureSink,
 };
 use std::alloc::{AllocError, Global};
-use std::fs;
+use std::fs::{self, Permissions};
+use std::os::unix::fs::{PermissionsExt, symlink};
 use std::test::Fail;
 
 // A call of a shelf, and how it is to end.
@@ -165,6 +166,40 @@ fn a_file_is_saved_and_loaded(rt: HostRuntime) -> Result<(), Fail> {
     assert_eq!(rt; first_wrong(alloc, &mut shelf, &nowhere)?, None);
     assert!(rt; shelf.faults == 2);
     assert!(rt; is_missed(&shelf.last, true, "absent/file.bin"));
+    Ok(())
+}
+
+#[test]
+fn a_save_replaces_a_file(rt: HostRuntime) -> Result<(), Fail> {
+    let alloc = rt.alloc();
+    let (name, link, left) = ("replaced.bin", "replaced.link", "replaced.bin.dsr-new");
+    let mut shelf = FileShelf {
+        rt: &rt,
+        faults: 0,
+        last: None,
+    };
+    fs::write(&rt, name, "longer than the new bytes")?;
+    fs::set_permissions(&rt, name, Permissions::from_mode(0o640))?;
+    symlink(&rt, name, link)?;
+    // A save that was killed left this one.
+    fs::write(&rt, left, "left")?;
+
+    let calls = [
+        Call::Save(link, b"new", true),
+        Call::Load(name, 99, Some(b"new")),
+        Call::Load(left, 99, Some(b"left")),
+        Call::Load("replaced.bin.dsr-new1", 99, None),
+        Call::Save(".", b"new", false),
+    ];
+    let wrong = first_wrong(alloc, &mut shelf, &calls)?;
+    let mode = fs::metadata(&rt, name)?.permissions().mode() & 0o777;
+    let stays = fs::symlink_metadata(&rt, link)?.is_symlink();
+    for file in [name, link, left] {
+        fs::remove_file(&rt, file)?;
+    }
+    assert_eq!(rt; wrong, None);
+    assert!(rt; mode == 0o640 && stays && shelf.faults == 2);
+    assert!(rt; is_missed(&shelf.last, true, "."));
     Ok(())
 }
 

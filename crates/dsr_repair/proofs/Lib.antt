@@ -1,3 +1,1 @@
-pub mod Changed
 pub mod RunOn
-pub mod Sets

@@ -1,3 +1,2 @@
-pub mod Changes
-pub mod Made
+pub mod Planned
 pub mod Stepping

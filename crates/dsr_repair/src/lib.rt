@@ -4,8 +4,6 @@
 //! That a violated constraint is repaired by making the literals of one conjunction true is after OOPSLA 2003.
 #![tactic(auto)]
 
-mod changes;
-mod entries;
 mod repairs;
 mod steps;
 

@@ -1,16 +1,15 @@
 // One step.
 ghost use Rattle.std.specs.Prelude.{◌≡◌, IfOk, OnErr, option_map};
-ghost use Rattle.dsr_repair.specs.Made.{chosen_update};
+ghost use Rattle.dsr_repair.specs.Planned.{chosen_update};
 ghost use Rattle.dsr_repair.specs.Stepping.{IsModelled, IsTaken, Stays};
 ghost use Rattle.dsr_repairing.specs.Turns.{IsTurn};
 
-use crate::changes::{claim_changes, make_changes};
-use crate::entries::entry_of;
 use dsr_due::due;
 use dsr_fixpoint::rebuild;
 use dsr_image::ImageBytes;
 use dsr_ir::{Layout, NoMemory, Update};
 use dsr_log::Log;
+use dsr_made::{claim_changes, entry_of, make_changes};
 use dsr_model::Model;
 use dsr_planning::{Plan, Way};
 use dsr_repairing::Turn;

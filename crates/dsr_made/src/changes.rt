@@ -1,7 +1,7 @@
 // The bytes in which two images differ.
 ghost use Rattle.std.specs.Prelude.{◌≡◌, ◌≤◌, ℕ, List, IfOk, OnOk, length};
 ghost use Rattle.dsr_image.specs.Images.{StayClaimed};
-ghost use Rattle.dsr_repair.specs.Changes.{AreRoomFor, AreWithin};
+ghost use Rattle.dsr_made.specs.Changes.{AreRoomFor, AreWithin};
 ghost use Rattle.dsr_repairing.specs.Entries as said;
 ghost use Rattle.dsr_stepping.specs.Resets as resets;
 

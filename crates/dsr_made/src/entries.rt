@@ -3,7 +3,7 @@ ghost use Rattle.std.specs.Prelude.{◌≡◌, [], ◌∷◌, All, IfOk, IfSome,
 ghost use Rattle.dsr_ir.specs.Layouts as layouts;
 ghost use Rattle.dsr_meaning.specs.Instances as meaning;
 ghost use Rattle.dsr_meaning.specs.Legal.{IsLegalLayout};
-ghost use Rattle.dsr_repair.specs.Made.{IsMade, set_of};
+ghost use Rattle.dsr_made.specs.Made.{IsMade, set_of};
 ghost use Rattle.dsr_repairing.specs.Entries.{AreSet};
 ghost use Rattle.dsr_stepping.specs.Steps.{CanStep, CanWrite};
 

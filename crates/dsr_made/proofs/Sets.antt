@@ -4,9 +4,13 @@ use Rattle.std.proofs.lemmas.List.{take_more}
 use Rattle.dsr_ir.specs.declared.declarations.Spec.{Spec}
 use Rattle.dsr_ir.specs.declared.layouts.Layout.{Layout}
 use Rattle.dsr_ir.specs.declared.updates.Write.{Write}
+use Rattle.dsr_ir.specs.declared.layouts.Cell.{Cell}
+use Rattle.dsr_meaning.specs.Cells.{cell_value}
 use Rattle.dsr_repairing.specs.Entries.{AreSet}
 use Rattle.dsr_repairing.specs.Entries.AreSet.{done, made, skipped}
 use Rattle.dsr_repairing.specs.declared.entries.CellSet.{CellSet}
+use Rattle.dsr_stepping.specs.Puts.{IsPut}
+use Rattle.dsr_stepping.specs.Steps.{IsWanted, written_cell, written_index, written_number}
 use Rattle.dsr_stepping.specs.declared.steps.Step.{Step}
 
 module _ (spec : Spec) (layout : Layout) (step : Step) where
@@ -31,3 +35,25 @@ module _ (spec : Spec) (layout : Layout) (step : Step) where
       subst (λ ws. AreSet spec layout step ws old new (sets ++ more))
       (sym (take_more writes n write below ∙ ap (λ w. take n writes ++ w ∷ []) (sym is)))
       (sets_joined first last)
+
+-- one write that isn't made
+pub set_skipped :
+    (spec : Spec) (layout : Layout) (step : Step) (write : Write) (cell : Cell) (number value : ℕ) (old : List ℕ)
+    → written_cell layout step write ≡ Some cell → written_number spec layout step write ≡ Some number
+    → value ≡ cell_value old cell → IsWanted spec layout write number value
+    → AreSet spec layout step (write ∷ []) old old []
+set_skipped spec layout step write cell number value old cell_is number_is read wanted =
+    skipped write cell number cell_is number_is (subst (IsWanted spec layout write number) read wanted) done
+
+-- one that is
+pub set_made :
+    (spec : Spec) (layout : Layout) (step : Step) (write : Write) (cell : Cell) (number value index : ℕ) (old new : List ℕ)
+    → written_cell layout step write ≡ Some cell → written_number spec layout step write ≡ Some number
+    → value ≡ cell_value old cell → index ≡ written_index step write
+    → (IsWanted spec layout write number value → ⊥) → IsPut cell number old new
+    → AreSet spec layout step (write ∷ []) old new
+    (record { elem = step.elem; path = write.path; index = index; old = value; new = number } ∷ [])
+set_made spec layout step write cell number value index old new cell_is number_is read index_is unwanted put =
+    subst (λ k. AreSet spec layout step (write ∷ []) old new (record { elem = step.elem; path = write.path; index = k; old = value; new = number } ∷ [])) (sym index_is)
+    (subst (λ v. AreSet spec layout step (write ∷ []) old new (record { elem = step.elem; path = write.path; index = written_index step write; old = v; new = number } ∷ [])) (sym read)
+    (made write cell number cell_is number_is (λ wanted. unwanted (subst (IsWanted spec layout write number) (sym read) wanted)) put done))

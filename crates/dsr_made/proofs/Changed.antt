@@ -1,5 +1,5 @@
 -- What is left of the bytes that differ, once one of them was changed.
-use Rattle.std.proofs.Common.{◌≡◌, ◌≢◌, ◌<◌, ◌≤◌, ◌+◌, ◌*◌, ◌%◌, ℕ, zero, suc, Bool, true, false, nat_eq, List, [], ◌∷◌, length, All, slice_get, slice_index, Option, None, Some, inl, inr, refl, sym, ap, subst, ◌∙◌, arith, if◌then◌else◌}
+use Rattle.std.proofs.Common.{◌≡◌, ◌≢◌, ◌<◌, ◌≤◌, ◌+◌, ◌*◌, ◌%◌, ℕ, zero, suc, Bool, true, false, nat_eq, List, [], ◌∷◌, ◌++◌, length, All, slice_get, slice_index, Option, None, Some, inl, inr, refl, sym, ap, subst, ◌∙◌, arith, if◌then◌else◌}
 use Rattle.std.proofs.lemmas.Bool.Decides.{nat_tests}
 use Rattle.std.specs.Option.{option_map_or}
 use Rattle.dsr_repairing.specs.Entries.{changes, changes_from}
@@ -104,3 +104,14 @@ all_within at (x ∷ a) (z ∷ b) c n is = elim (nat_eq x z) as (λ t. slice_get
   | true ↦ λ later. next_within at (length a) c (all_within (suc at) a b c n later)
   | false ↦ λ here. one_within at (length a) (record { place = at; old = x; new = z }) c (changes_from (suc at) a b) refl (λ k. all_within (suc at) a b c k) n here
 ] is
+
+-- ---- the changes, found one after the other
+
+pub found_more :
+    (at : ℕ) (a b : List ℕ) (x z : ℕ) (xs zs : List ℕ) → a ≡ x ∷ xs → b ≡ z ∷ zs
+    → changes_from at a b ≡ (if nat_eq x z then [] else record { place = at; old = x; new = z } ∷ []) ++ changes_from (suc at) xs zs
+found_more at a b x z xs zs a_is b_is = (λ i. changes_from at (a_is i) (b_is i)) ∙ by_test (nat_eq x z) where
+  by_test : (t : Bool) → (if t then changes_from (suc at) xs zs else record { place = at; old = x; new = z } ∷ changes_from (suc at) xs zs)
+      ≡ (if t then [] else record { place = at; old = x; new = z } ∷ []) ++ changes_from (suc at) xs zs
+  by_test true = refl
+  by_test false = refl

@@ -1,0 +1,3 @@
+pub mod FormItems
+pub mod KnownSets
+pub mod Forms

@@ -4,3 +4,6 @@ pub mod Forms
 pub mod BoundVars
 pub mod Choosable
 pub mod RawForms
+pub mod DueForms
+pub mod TakenGoals
+pub mod Updates

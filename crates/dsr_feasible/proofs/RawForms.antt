@@ -136,12 +136,12 @@ once_in (AreOnce.first x new later) y (inl same) = inl same
 once_in (AreOnce.first x new later) y (inr behind) = inr (once_in later y behind)
 
 -- what a chain of options is made of
-record IsChained {A B : Type 0} (f : A → Option B) (o : Option A) (y : B) : Type 0 where
-  item : A
-  there : o ≡ Some item
-  is : f item ≡ Some y
+pub record IsChained {A B : Type 0} (f : A → Option B) (o : Option A) (y : B) : Type 0 where
+  pub item : A
+  pub there : o ≡ Some item
+  pub is : f item ≡ Some y
 
-chained : {A B : Type 0} (f : A → Option B) (o : Option A) (y : B) → option_and_then f o ≡ Some y → IsChained f o y
+pub chained : {A B : Type 0} (f : A → Option B) (o : Option A) (y : B) → option_and_then f o ≡ Some y → IsChained f o y
 chained f None y e = absurd cc
 chained f (Some x) y e = record { item = x; there = refl; is = e }
 

@@ -1,5 +1,4 @@
-use Rattle.dsr_feasible.proofs.RawForms.{raw_form}
 use Rattle.dsr_feasible.proofs.choosing.choices_are_complete.Goals as goal
 
 pub returns : goal.returns
-returns c = let f = raw_form in ?
+returns c = ?

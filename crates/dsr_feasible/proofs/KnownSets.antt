@@ -77,7 +77,7 @@ spans_same (spans.Array a) (spans.Array b) = by_logic (λ e. ap spans.Array e) (
 spans_same (spans.Slots a) (spans.Slots b) = by_logic (λ e. ap spans.Slots e) (λ (e : spans.Slots a ≡ spans.Slots b). let q : a ≡ b = cc in q) (numbers a b)
 spans_same _ _ = inr (λ e. absurd cc)
 
-maybe_same : {A : Type 0} → AreCompared A → AreCompared (Option A)
+pub maybe_same : {A : Type 0} → AreCompared A → AreCompared (Option A)
 maybe_same same None None = inl refl
 maybe_same same None (Some b) = inr (λ (e : None ≡ Some b). absurd cc)
 maybe_same same (Some a) None = inr (λ (e : Some a ≡ None). absurd cc)

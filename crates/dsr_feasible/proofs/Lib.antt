@@ -7,3 +7,6 @@ pub mod RawForms
 pub mod DueForms
 pub mod TakenGoals
 pub mod Updates
+pub mod Complete
+pub mod GreatestFact
+pub mod ToGo

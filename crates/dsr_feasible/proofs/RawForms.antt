@@ -116,12 +116,12 @@ in_listed (Some y) x (inl same) = ap Some (sym same)
 in_listed (Some y) x (inr none) = absurd none
 
 -- what a mapped option is made of
-record IsFrom {A B : Type 0} (f : A → B) (o : Option A) (y : B) : Type 0 where
-  item : A
-  there : o ≡ Some item
-  is : y ≡ f item
+pub record IsFrom {A B : Type 0} (f : A → B) (o : Option A) (y : B) : Type 0 where
+  pub item : A
+  pub there : o ≡ Some item
+  pub is : y ≡ f item
 
-mapped : {A B : Type 0} (f : A → B) (o : Option A) (y : B) → option_map f o ≡ Some y → IsFrom f o y
+pub mapped : {A B : Type 0} (f : A → B) (o : Option A) (y : B) → option_map f o ≡ Some y → IsFrom f o y
 mapped f None y e = absurd cc
 mapped f (Some x) y e = record { item = x; there = refl; is = sym (same_Some (f x) y e) }
 
@@ -263,6 +263,26 @@ module _ (b : Binding) where
 
 -- ---- literals
 
+module _ (is_fact : Fact → Type 0) (spec : Spec) (quant : Quant) (b : Binding) (is : IsBinding is_fact quant b) where
+  pub member_bound : (v : Var) (set : ℕ) → IsTypedAtom spec quant (atoms.Member v set) → IsBound b v
+  member_bound v set typed = with_pool is_fact spec.base quant b v typed.0 is typed.1
+
+  pub pair_bound : (v w : Var) (o : Option Rel) → IsSomeAnd o (λ r. IsSome r.target × (pool_of_var spec.base quant v ≡ Some r.source) × (pool_of_var spec.base quant w ≡ r.target)) → IsBound b v × IsBound b w
+  pair_bound v w None h = absurd h
+  pair_bound v w (Some r) h = (with_pool is_fact spec.base quant b v r.source is h.1, with_target is_fact spec.base quant b w r.target is h.0 h.2)
+
+  pub counted_bound : (measure : Measure) → IsTypedMeasure spec.base quant measure → IfSome (counted_of measure) (IsBound b)
+  counted_bound (Whole set) typed = tt
+  counted_bound (Out v rel) typed = measured is_fact spec.base quant b (Out v rel) is typed
+  counted_bound (Into rel v) typed = tt
+
+  -- the variable whose member, source or target goes is bound
+  pub taken_bound : (atom : Atom) → IsTypedAtom spec quant atom → IfSome (taken_var atom) (IsBound b)
+  taken_bound (atoms.Member v set) typed = member_bound v set typed
+  taken_bound (atoms.Pair v w rel) typed = (pair_bound v w (slice_get spec.base.rels rel) typed).0
+  taken_bound (atoms.Count measure op k) typed = counted_bound measure typed.0
+  taken_bound (atoms.Value v rel op bound) typed = tt
+
 module _ (is_fact : Fact → Type 0) (spec : Spec) (known : KnownSets) (quant : Quant) (b : Binding) (is : IsBinding is_fact quant b) where
   supplied_one : (measure : Measure) (t : Template) → IsTypedMeasure spec.base quant measure → IsIn t (supplies spec known quant measure) → AddsOne b t
   supplied_one (Whole set) t typed is_in = set_supplied b spec known quant set t (λ v i. in_quant is_fact quant b v is i) is_in
@@ -326,35 +346,16 @@ module _ (is_fact : Fact → Type 0) (spec : Spec) (known : KnownSets) (quant : 
   valued v rel Lt bound negated ts t typed are is_in = none_there ts t are is_in
   valued v rel Gt bound negated ts t typed are is_in = none_there ts t are is_in
 
-  pub member_bound : (v : Var) (set : ℕ) → IsTypedAtom spec quant (atoms.Member v set) → IsBound b v
-  member_bound v set typed = with_pool is_fact spec.base quant b v typed.0 is typed.1
-
-  pub pair_bound : (v w : Var) (o : Option Rel) → IsSomeAnd o (λ r. IsSome r.target × (pool_of_var spec.base quant v ≡ Some r.source) × (pool_of_var spec.base quant w ≡ r.target)) → IsBound b v × IsBound b w
-  pair_bound v w None h = absurd h
-  pair_bound v w (Some r) h = (with_pool is_fact spec.base quant b v r.source is h.1, with_target is_fact spec.base quant b w r.target is h.0 h.2)
-
-  pub counted_bound : (measure : Measure) → IsTypedMeasure spec.base quant measure → IfSome (counted_of measure) (IsBound b)
-  counted_bound (Whole set) typed = tt
-  counted_bound (Out v rel) typed = measured is_fact spec.base quant b (Out v rel) is typed
-  counted_bound (Into rel v) typed = tt
-
-  -- the variable whose member, source or target goes is bound
-  pub taken_bound : (atom : Atom) → IsTypedAtom spec quant atom → IfSome (taken_var atom) (IsBound b)
-  taken_bound (atoms.Member v set) typed = member_bound v set typed
-  taken_bound (atoms.Pair v w rel) typed = (pair_bound v w (slice_get spec.base.rels rel) typed).0
-  taken_bound (atoms.Count measure op k) typed = counted_bound measure typed.0
-  taken_bound (atoms.Value v rel op bound) typed = tt
-
   pub raw_form : (atom : Atom) (negated : Bool) (ts : List Template) (t : Template) → IsTypedAtom spec quant atom → AreTemplates spec known quant atom negated ts → IsIn t ts → RawForm spec b atom negated t
   raw_form (atoms.Member v set) false ts t typed are is_in =
       let by = in_giver spec (symbols.Set set) (joins_by spec.base known v) t (subst (IsIn t) are is_in) in
-      inl (joined b spec known v by.number by.rule t (member_bound v set typed) by.is_in)
+      inl (joined b spec known v by.number by.rule t (member_bound is_fact spec quant b is v set typed) by.is_in)
   raw_form (atoms.Member v set) true ts t typed are is_in =
       let by = removing_of spec (symbols.Set set) goals.RemoveSet (Some v) t (once_in are t is_in) in
       inr (inl (record { goal = subst (λ g. IsTakenBy g (atoms.Member v set) true) (sym by.goal_is) tt; removal = by.removal }))
   raw_form (atoms.Pair v w rel) false ts t typed are is_in =
       let by = in_giver spec (symbols.Rel rel) (relates_by spec.base known v w) t (subst (IsIn t) are is_in) in
-      inl (related b spec known v w by.number by.rule t (pair_bound v w (slice_get spec.base.rels rel) typed).0 by.is_in)
+      inl (related b spec known v w by.number by.rule t (pair_bound is_fact spec quant b is v w (slice_get spec.base.rels rel) typed).0 by.is_in)
   raw_form (atoms.Pair v w rel) true ts t typed are is_in =
       let by = removing_of spec (symbols.Rel rel) goals.RemoveTuple (Some v) t (once_in are t is_in) in
       inr (inl (record { goal = subst (λ g. IsTakenBy g (atoms.Pair v w rel) true) (sym by.goal_is) tt; removal = by.removal }))

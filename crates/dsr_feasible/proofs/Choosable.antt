@@ -1,5 +1,5 @@
 -- Of which updates all that a step leaves open is there.
-use Rattle.std.proofs.Common.{◌≡◌, ◌∙◌, ℕ, zero, suc, Bool, true, false, List, [], ◌∷◌, ◌++◌, take, Option, None, Some, IsTrue, IsSome, inl, inr, refl, sym, ap, subst}
+use Rattle.std.proofs.Common.{◌≡◌, ℕ, zero, suc, Bool, true, false, List, [], ◌∷◌, take, Option, None, Some, IsTrue, inl, inr, refl, sym, subst}
 use Rattle.std.specs.Option.{option_map_or}
 use Rattle.std.specs.Prelude.{IfSome, is_some, option_and_then, if◌then◌else◌, ◌&&◌}
 use Rattle.std.specs.List.{filter_map}
@@ -11,7 +11,6 @@ use Rattle.dsr_ir.specs.declared.declarations.Field.{Field}
 use Rattle.dsr_ir.specs.declared.declarations.Spec.{Spec}
 use Rattle.dsr_ir.specs.declared.declarations.Structures.{Structures}
 use Rattle.dsr_ir.specs.declared.rules.Guard.{Guard}
-use Rattle.dsr_ir.specs.declared.rules.Inc.{Inc}
 use Rattle.dsr_ir.specs.declared.rules.Path.{Path}
 use Rattle.dsr_ir.specs.declared.rules.Rule.{Rule}
 use Rattle.dsr_ir.specs.declared.rules.Test.{Test}
@@ -26,7 +25,7 @@ use Rattle.dsr_ir.specs.declared.updates.Place.TheVariants as places
 use Rattle.dsr_ir.specs.declared.updates.Template.{Template}
 use Rattle.dsr_ir.specs.declared.updates.Update.{Update}
 use Rattle.dsr_ir.specs.declared.updates.Write.{Write}
-use Rattle.dsr_listing.specs.Candidates.{AreCompensations, ArePreventing, preventing, preventing_write, reads_itself}
+use Rattle.dsr_listing.specs.Candidates.{AreCompensations, ArePreventing, preventing, preventing_write}
 use Rattle.dsr_listing.specs.Lists.{with_writes}
 use Rattle.dsr_listing.specs.Owners.{Owner}
 use Rattle.dsr_meaning.specs.Counting.{IsIn}
@@ -36,9 +35,9 @@ use Rattle.dsr_stepped.proofs.AllTrue.{first_true, target_written}
 use Rattle.dsr_stepped.proofs.GuardWrites.{guard_written}
 use Rattle.dsr_stepped.proofs.ReferenceWrites.{reference_written}
 use Rattle.dsr_stepped.proofs.Removed.{picked_same}
-use Rattle.dsr_updating.specs.Changes.{Change, is_written}
+use Rattle.dsr_updating.specs.Changes.{Change}
 use Rattle.dsr_updating.specs.Givers.{is_own, is_single, is_slot}
-use Rattle.dsr_updating.specs.Guards.{fitting, guard_write, number_false, number_true, pick_wanted}
+use Rattle.dsr_updating.specs.Guards.{guard_write, pick_wanted}
 use Rattle.dsr_updating.specs.Options.{options, reference_write, target_option}
 use Rattle.dsr_updating.specs.Templates.{all_true, others, place_of, removal_at, removal_place, removing, target_writes}
 use Rattle.dsr_feasible.proofs.BoundVars.{IsBound}

@@ -1,11 +1,10 @@
 -- All that the update which is chosen leaves open is there.
-use Rattle.std.proofs.Common.{◌≡◌, ◌∙◌, ℕ, zero, suc, Bool, true, false, List, [], ◌∷◌, Option, None, Some, IsTrue, IsSome, IsSomeAnd, inl, inr, refl, sym, ap, subst}
+use Rattle.std.proofs.Common.{◌≡◌, ◌∙◌, ℕ, zero, suc, Bool, true, false, List, [], ◌∷◌, Option, None, Some, IsTrue, IsSome, IsSomeAnd, inl, inr, refl, sym, subst}
 use Rattle.std.specs.Prelude.{IfSome, is_some, option_map, slice_get}
 use Rattle.std.proofs.lemmas.Bool.{false≢true}
 use Rattle.std.proofs.lemmas.Option.{same_Some}
 use Rattle.dsr_applying.specs.Choices.{Adds, IsEntryAt, IsPlace, IsUpdateAt, TakesAway, size_or, written_size}
 use Rattle.dsr_feasible.specs.Chosen.{IsComplete}
-use Rattle.dsr_ir.specs.declared.constraints.Atom.{Atom}
 use Rattle.dsr_ir.specs.declared.constraints.Literal.{Literal}
 use Rattle.dsr_ir.specs.declared.constraints.Measure.{Measure}
 use Rattle.dsr_ir.specs.declared.constraints.Var.{Var}
@@ -15,11 +14,9 @@ use Rattle.dsr_ir.specs.declared.layouts.Layout.{Layout}
 use Rattle.dsr_ir.specs.declared.rules.Rule.{Rule}
 use Rattle.dsr_ir.specs.declared.tuples.Binding.{Binding}
 use Rattle.dsr_ir.specs.declared.tuples.Element.{Element}
-use Rattle.dsr_ir.specs.declared.tuples.Fact.{Fact}
 use Rattle.dsr_ir.specs.declared.tuples.Instance.{Instance}
 use Rattle.dsr_ir.specs.declared.updates.At.{At}
 use Rattle.dsr_ir.specs.declared.updates.At.TheVariants as ats
-use Rattle.dsr_ir.specs.declared.updates.Goal.{Goal}
 use Rattle.dsr_ir.specs.declared.updates.Goal.TheVariants as goals
 use Rattle.dsr_ir.specs.declared.updates.Pick.{Pick}
 use Rattle.dsr_ir.specs.declared.updates.Pick.TheVariants as picks
@@ -29,9 +26,8 @@ use Rattle.dsr_ir.specs.declared.updates.Symbol.{Symbol}
 use Rattle.dsr_ir.specs.declared.updates.Template.{Template}
 use Rattle.dsr_ir.specs.declared.updates.Update.{Update}
 use Rattle.dsr_ir.specs.declared.updates.Write.{Write}
-use Rattle.dsr_listing.specs.Lists.{with_writes}
 use Rattle.dsr_listing.specs.Owners.{change_of, goal_at}
-use Rattle.dsr_listing.specs.Sides.{IsKept, MaySupply, atom_symbol}
+use Rattle.dsr_listing.specs.Sides.{MaySupply, atom_symbol}
 use Rattle.dsr_meaning.specs.Counting.{IsIn}
 use Rattle.dsr_meaning.specs.Models.{IsFact}
 use Rattle.dsr_meaning.specs.Truth.{HasVariable, element_of, head}

@@ -1,24 +1,19 @@
 -- What is so of the literal that is due, and of its template.
-use Rattle.std.proofs.Common.{◌≡◌, ◌∙◌, ℕ, Bool, true, false, List, [], ◌∷◌, map, Option, None, Some, IsTrue, MatchBool, inl, inr, refl, sym, ap, subst}
+use Rattle.std.proofs.Common.{◌≡◌, ◌∙◌, ℕ, List, map, Option, None, Some, refl, sym, ap, subst}
 use Rattle.std.specs.Prelude.{option_map, slice_get}
-use Rattle.std.specs.Option.{option_and_then}
 use Rattle.std.proofs.lemmas.Option.{same_Some, slice_get-map}
-use Rattle.dsr_ir.specs.declared.constraints.Atom.{Atom}
 use Rattle.dsr_ir.specs.declared.constraints.Conj.{Conj}
 use Rattle.dsr_ir.specs.declared.constraints.Constraint.{Constraint}
 use Rattle.dsr_ir.specs.declared.constraints.Literal.{Literal}
-use Rattle.dsr_ir.specs.declared.constraints.Quant.{Quant}
 use Rattle.dsr_ir.specs.declared.declarations.Spec.{Spec}
 use Rattle.dsr_ir.specs.declared.tuples.Binding.{Binding}
 use Rattle.dsr_ir.specs.declared.tuples.Fact.{Fact}
-use Rattle.dsr_ir.specs.declared.updates.Goal.{Goal}
 use Rattle.dsr_ir.specs.declared.updates.Template.{Template}
 use Rattle.dsr_ir.specs.declared.updates.Update.{Update}
 use Rattle.dsr_ir.specs.declared.updates.Write.{Write}
 use Rattle.dsr_listing.specs.Lists.{compensated_by, with_writes}
 use Rattle.dsr_listing.specs.Sides.{IsKept}
 use Rattle.dsr_meaning.specs.Consistency.{BoundConstraint, IsBinding}
-use Rattle.dsr_meaning.specs.Counting.{IsIn}
 use Rattle.dsr_meaning.specs.Truth.{LiteralHolds}
 use Rattle.dsr_meaning.specs.Typed.{IsTyped, IsTypedConj, IsTypedConstraint, IsTypedLiteral}
 use Rattle.dsr_planning.specs.Plans.{IsPlan, owner_at}
@@ -28,7 +23,7 @@ use Rattle.dsr_stepped.proofs.Items.{item_at, of_all}
 use Rattle.dsr_updating.specs.Templates.{literal_at}
 use Rattle.dsr_feasible.proofs.Choosable.{HavePicked, compensations_picked}
 use Rattle.dsr_feasible.proofs.Forms.{due_form}
-use Rattle.dsr_feasible.proofs.RawForms.{IsChained, RawForm, chained, raw_form}
+use Rattle.dsr_feasible.proofs.RawForms.{RawForm, chained, raw_form}
 
 -- the literal of a typed specification's constraint is typed
 pub literal_typed : (spec : Spec) (n : ℕ) (constraint : Constraint) (conj literal : ℕ) (its : Literal) → IsTyped spec → slice_get spec.constraints n ≡ Some constraint → literal_at constraint conj literal ≡ Some its → IsTypedLiteral spec constraint.quant its

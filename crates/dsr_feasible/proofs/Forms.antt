@@ -1,6 +1,6 @@
 -- What a template is that the row of a plan has: one that is tried for its literal, perhaps compensated.
-use Rattle.std.proofs.Common.{◌≡◌, ◌-◌, ◌∙◌, ℕ, zero, suc, Bool, List, [], ◌∷◌, ◌++◌, map, take, Option, None, Some, inl, inr, refl, sym, ap, subst}
-use Rattle.std.specs.Prelude.{MatchOption, slice_get}
+use Rattle.std.proofs.Common.{◌≡◌, ◌-◌, ◌∙◌, ℕ, List, [], ◌∷◌, ◌++◌, map, Option, Some, inl, inr, refl, sym, subst}
+use Rattle.std.specs.Prelude.{MatchOption}
 use Rattle.std.specs.List.{flat_map}
 use Rattle.std.proofs.lemmas.List.{append-nil}
 use Rattle.std.proofs.lemmas.Option.{same_Some}
@@ -18,14 +18,14 @@ use Rattle.dsr_listing.specs.Owners.{Owner}
 use Rattle.dsr_listing.specs.Sides.{IsKept}
 use Rattle.dsr_meaning.specs.Consistency.{BoundConstraint}
 use Rattle.dsr_meaning.specs.Counting.{IsIn}
-use Rattle.dsr_planning.specs.Plans.{HasTemplate, IsListedAt, IsPlan, IsRowOf, IsWayFor, MayRepair, owner_at, way_at}
+use Rattle.dsr_planning.specs.Plans.{HasTemplate, IsListedAt, IsPlan, IsRowOf, IsWayFor, MayRepair, owner_at}
 use Rattle.dsr_planning.specs.declared.choices.Choice.{Choice}
 use Rattle.dsr_planning.specs.declared.choices.Row.{Row}
 use Rattle.dsr_planning.specs.declared.choices.Way.{Way}
-use Rattle.dsr_planning.specs.declared.choices.Way.TheVariants.{Test, By}
+use Rattle.dsr_planning.specs.declared.choices.Way.TheVariants.{By}
 use Rattle.dsr_repairing.specs.Due.{IsDue}
 use Rattle.dsr_stepped.proofs.Items.{item_at}
-use Rattle.dsr_updating.specs.Templates.{AreRaw, AreRawOf, KnownSets, TellsKnown, literal_at}
+use Rattle.dsr_updating.specs.Templates.{AreRaw, KnownSets, TellsKnown, literal_at}
 use Rattle.dsr_feasible.proofs.FormItems.{in_either, in_flat, in_map}
 use Rattle.dsr_feasible.proofs.KnownSets.{told}
 
@@ -131,9 +131,6 @@ pub record IsFormOf (owner : Owner) (its : Literal) (template : Template) : Type
   pub of_compensations : (write : Write) → IsIn write more → IsIn write compensations
   pub is : template ≡ compensated_by raw more
   pub kept : IsKept owner its.atom template
-
-abbrev Tried : Owner → KnownSets → List Template → Option Literal → Type 0
-Tried owner known tried o = MatchOption o (tried ≡ []) (λ l. (known : KnownSets) → TellsKnown owner.spec owner.constraint.quant known → AreRaw owner.spec known owner.constraint.quant l tried)
 
 pub listed_form : (owner : Owner) (conj literal : ℕ) (its : Literal) (number : ℕ) (template : Template) → literal_at owner.constraint conj literal ≡ Some its → IsListedAt owner conj literal number template → IsFormOf owner its template
 listed_form owner conj literal its number template literal_is at =

@@ -4,7 +4,7 @@ use Rattle.std.specs.Cmp.{booleans_Decides}
 use Rattle.std.proofs.lemmas.Bool.{false≢true}
 use Rattle.std.proofs.lemmas.Bool.Decides.{nat_tests}
 use Rattle.std.proofs.lemmas.Option.{same_Some}
-use Rattle.dsr_decided.proofs.Derived.{IsLeast, Path, derived_decided, first, next}
+use Rattle.dsr_decided.proofs.Derived.{Path, derived_decided, first, next}
 use Rattle.dsr_decided.proofs.Listed.{IsListed, alike, each, every, known, nothing, numbers, one, some_one, those, two_kinds}
 use Rattle.dsr_decided.proofs.Ways.{Arc, AreCompared, At, both, by_logic, either}
 use Rattle.dsr_decided.specs.Deciding.{IsDecided}
@@ -30,7 +30,7 @@ use Rattle.dsr_ir.specs.declared.updates.Symbol.{Symbol}
 use Rattle.dsr_ir.specs.declared.updates.Symbol.TheVariants.{Rel, Set}
 use Rattle.dsr_meaning.specs.Counting.{IsIn}
 use Rattle.dsr_stepped.proofs.Items.{item_at}
-use Rattle.dsr_updating.specs.Givers.{HasGiver, IsGivenBy, IsGiver, givers, is_own}
+use Rattle.dsr_updating.specs.Givers.{IsGivenBy, IsGiver, givers, is_own}
 use Rattle.dsr_updating.specs.Known.{GivesMembersOf, GivesTargetsTo, IsCounterpart, IsKnown}
 use Rattle.dsr_updating.specs.Templates.{KnownSets, TellsKnown}
 use Rattle.dsr_feasible.proofs.FormItems.{giver_in, in_givers}

@@ -1,6 +1,6 @@
 -- What the templates are that are tried for a literal.
-use Rattle.std.proofs.Common.{◌≡◌, ◌∙◌, ◌⊎◌, ℕ, zero, suc, Bool, true, false, List, [], ◌∷◌, ◌++◌, map, Option, None, Some, IsTrue, IsSome, IsSomeAnd, inl, inr, refl, sym, ap, subst}
-use Rattle.std.specs.Prelude.{IfSome, is_some, not, option_map, option_and_then, slice_get, if◌then◌else◌, ◌&&◌}
+use Rattle.std.proofs.Common.{◌≡◌, ◌∙◌, ◌⊎◌, ℕ, zero, suc, Bool, true, false, List, [], ◌∷◌, ◌++◌, map, Option, None, Some, IsSome, IsSomeAnd, inl, inr, refl, sym, ap, subst}
+use Rattle.std.specs.Prelude.{IfSome, is_some, option_map, option_and_then, slice_get, if◌then◌else◌, ◌&&◌}
 use Rattle.std.specs.List.{flat_map, range_with_len}
 use Rattle.std.proofs.lemmas.Option.{same_Some}
 use Rattle.dsr_ir.specs.Rules.{target_of}
@@ -43,7 +43,7 @@ use Rattle.dsr_updating.specs.Givers.{HasGiver, IsGiver, givers, is_own, is_sing
 use Rattle.dsr_updating.specs.Templates.{AreOnce, AreSized, AreTemplates, AreTrims, AreValued, KnownSets, adding, all_removals, all_true, counted_of, counted_symbol, is_target, joins_by, lacks_option, listed, most_options, pick_of, referred, relates_by, removal_updates, serves, set_supplies, setting, settings, supplies, supplies_by, target_supplies, target_writes, value_write, variables, with_trims}
 use Rattle.dsr_feasible.proofs.BoundVars.{IsBound, in_quant, measured, with_pool, with_target}
 use Rattle.dsr_feasible.proofs.Choosable.{HasPicked, HavePicked, IsChoosable, guards_picked, target_picked, var_place}
-use Rattle.dsr_feasible.proofs.FormItems.{in_either, in_flat, in_giver, in_givers, in_map}
+use Rattle.dsr_feasible.proofs.FormItems.{in_flat, in_giver, in_givers, in_map}
 
 -- ---- three forms
 
@@ -334,14 +334,14 @@ module _ (is_fact : Fact → Type 0) (spec : Spec) (known : KnownSets) (quant : 
   bound_picked rel (bounds.Num k) typed = tt
   bound_picked rel (bounds.Size measure) typed = measured is_fact spec.base quant b measure is typed.0
 
-  set_to : (v : Var) (rel : ℕ) (bound : Bound) (ts : List Template) (t : Template) (op : Op) {negated : Bool} → IsTypedAtom spec quant (atoms.Value v rel op bound) → ts ≡ settings spec.base v (pick_of bound) (givers spec (symbols.Rel rel)) → IsIn t ts → RawForm spec b (atoms.Value v rel op bound) negated t
-  set_to v rel bound ts t op typed are is_in =
+  set_to : (v : Var) (rel : ℕ) (bound : Bound) (ts : List Template) (t : Template) {op : Op} {negated : Bool} → IsTypedAtom spec quant (atoms.Value v rel op bound) → ts ≡ settings spec.base v (pick_of bound) (givers spec (symbols.Rel rel)) → IsIn t ts → RawForm spec b (atoms.Value v rel op bound) negated t
+  set_to v rel bound ts t typed are is_in =
       inl (settled b spec known v (pick_of bound) (givers spec (symbols.Rel rel)) t (source_bound v (slice_get spec.base.rels rel) typed.0) (bound_picked rel bound typed.1) (subst (IsIn t) are is_in))
 
   valued : (v : Var) (rel : ℕ) (op : Op) (bound : Bound) (negated : Bool) (ts : List Template) (t : Template) → IsTypedAtom spec quant (atoms.Value v rel op bound) → AreValued spec v rel op bound ts → IsIn t ts → RawForm spec b (atoms.Value v rel op bound) negated t
-  valued v rel Eq bound negated ts t typed are is_in = set_to v rel bound ts t Eq typed are is_in
-  valued v rel Le bound negated ts t typed are is_in = set_to v rel bound ts t Le typed are is_in
-  valued v rel Ge bound negated ts t typed are is_in = set_to v rel bound ts t Ge typed are is_in
+  valued v rel Eq bound negated ts t typed are is_in = set_to v rel bound ts t typed are is_in
+  valued v rel Le bound negated ts t typed are is_in = set_to v rel bound ts t typed are is_in
+  valued v rel Ge bound negated ts t typed are is_in = set_to v rel bound ts t typed are is_in
   valued v rel Ne bound negated ts t typed are is_in = none_there ts t are is_in
   valued v rel Lt bound negated ts t typed are is_in = none_there ts t are is_in
   valued v rel Gt bound negated ts t typed are is_in = none_there ts t are is_in

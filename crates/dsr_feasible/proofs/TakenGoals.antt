@@ -1,8 +1,7 @@
 -- Which goals add, and which take away.
-use Rattle.std.proofs.Common.{◌≡◌, ℕ, zero, suc, Bool, true, false, sym, subst}
-use Rattle.dsr_applying.specs.Choices.{Adds, CountsNothing, TakesAway}
+use Rattle.std.proofs.Common.{ℕ, Bool}
+use Rattle.dsr_applying.specs.Choices.{Adds, TakesAway}
 use Rattle.dsr_ir.specs.declared.constraints.Atom.{Atom}
-use Rattle.dsr_ir.specs.declared.constraints.Atom.TheVariants as atoms
 use Rattle.dsr_ir.specs.declared.tuples.Binding.{Binding}
 use Rattle.dsr_ir.specs.declared.tuples.Fact.{Fact}
 use Rattle.dsr_ir.specs.declared.updates.Goal.{Goal}

@@ -1,5 +1,5 @@
 -- The fact that is to go is there.
-use Rattle.std.proofs.Common.{◌≡◌, ◌⊎◌, ◌∙◌, ℕ, zero, suc, Bool, true, false, List, [], Option, None, Some, IsTrue, IsSome, IsSomeAnd, MatchBool, inl, inr, refl, sym, ap, subst, arith}
+use Rattle.std.proofs.Common.{◌≡◌, ◌∙◌, ℕ, zero, suc, Bool, true, false, List, [], Option, None, Some, IsTrue, IsSome, IsSomeAnd, MatchBool, inl, inr, refl, sym, subst, arith}
 use Rattle.std.specs.Prelude.{slice_get}
 use Rattle.std.specs.Option.{option_and_then}
 use Rattle.std.proofs.lemmas.Bool.{false≢true}
@@ -18,7 +18,6 @@ use Rattle.dsr_ir.specs.declared.constraints.Quant.{Quant}
 use Rattle.dsr_ir.specs.declared.constraints.Var.{Var}
 use Rattle.dsr_ir.specs.declared.declarations.SetDecl.{SetDecl}
 use Rattle.dsr_ir.specs.declared.declarations.Spec.{Spec}
-use Rattle.dsr_ir.specs.declared.declarations.Structures.{Structures}
 use Rattle.dsr_ir.specs.declared.layouts.Layout.{Layout}
 use Rattle.dsr_ir.specs.declared.rules.Inc.{Inc}
 use Rattle.dsr_ir.specs.declared.rules.Inc.TheVariants as incs
@@ -29,7 +28,6 @@ use Rattle.dsr_ir.specs.declared.tuples.Binding.{Binding}
 use Rattle.dsr_ir.specs.declared.tuples.Element.{Element}
 use Rattle.dsr_ir.specs.declared.tuples.Fact.{Fact}
 use Rattle.dsr_ir.specs.declared.tuples.Fact.TheVariants.{Member, Pair}
-use Rattle.dsr_ir.specs.declared.tuples.Target.{Target}
 use Rattle.dsr_ir.specs.declared.tuples.Target.TheVariants.{Elem}
 use Rattle.dsr_ir.specs.declared.updates.Goal.{Goal}
 use Rattle.dsr_ir.specs.declared.updates.Goal.TheVariants as goals
@@ -38,7 +36,7 @@ use Rattle.dsr_ir.specs.declared.updates.Template.{Template}
 use Rattle.dsr_listing.specs.Sides.{atom_symbol}
 use Rattle.dsr_meaning.specs.Consistency.{IsBinding}
 use Rattle.dsr_meaning.specs.Counting.{AreMany}
-use Rattle.dsr_meaning.specs.Looking.{IsCounted, IsGreatestFact}
+use Rattle.dsr_meaning.specs.Looking.{IsCounted}
 use Rattle.dsr_meaning.specs.Models.{IsDerived, IsFact, IsMemberBy, base_of}
 use Rattle.dsr_meaning.specs.Truth.{AtomHolds, HasSize, HasVariable, element_of}
 use Rattle.dsr_meaning.specs.Typed.{IsPlainSetOf, IsTyped, IsTypedAtom, IsTypedInc, IsTypedRule, MayBeNegated}

@@ -1,5 +1,5 @@
 -- The updates of a template that is due.
-use Rattle.std.proofs.Common.{◌≡◌, ◌∙◌, ◌<◌, ◌≤◌, ◌-◌, ℕ, zero, suc, nat_eq, Bool, true, false, List, [], ◌∷◌, length, min, Option, None, Some, IsSomeAnd, inl, inr, refl, sym, ap, subst, arith}
+use Rattle.std.proofs.Common.{◌≡◌, ◌∙◌, ◌<◌, ◌≤◌, ◌-◌, ℕ, zero, suc, nat_eq, true, false, List, [], ◌∷◌, length, min, Option, None, Some, IsSomeAnd, inl, inr, refl, sym, ap, subst, arith}
 use Rattle.std.specs.Prelude.{option_map, slice_get}
 use Rattle.std.proofs.Math.Nat.{min-le_right}
 use Rattle.std.proofs.lemmas.Bool.Decides.{nat_tests}
@@ -22,8 +22,6 @@ use Rattle.dsr_ir.specs.declared.tuples.Fact.{Fact}
 use Rattle.dsr_ir.specs.declared.tuples.Fact.TheVariants as facts
 use Rattle.dsr_ir.specs.declared.tuples.Instance.{Instance}
 use Rattle.dsr_ir.specs.declared.tuples.Target.TheVariants.{Elem}
-use Rattle.dsr_ir.specs.declared.updates.Goal.{Goal}
-use Rattle.dsr_ir.specs.declared.updates.Goal.TheVariants as goals
 use Rattle.dsr_ir.specs.declared.updates.Symbol.{Symbol}
 use Rattle.dsr_ir.specs.declared.updates.Symbol.TheVariants as symbols
 use Rattle.dsr_ir.specs.declared.updates.Template.{Template}
@@ -38,7 +36,7 @@ use Rattle.dsr_meaning.specs.Truth.{element_of}
 use Rattle.dsr_stepped.proofs.Items.{none_of, place_of}
 use Rattle.dsr_updating.specs.Givers.{IsGiver, givers}
 use Rattle.dsr_updating.specs.Options.{options}
-use Rattle.dsr_updating.specs.Templates.{counted_symbol, item_or_last, lacks_option, removal_updates, removing}
+use Rattle.dsr_updating.specs.Templates.{counted_symbol, item_or_last, removal_updates, removing}
 use Rattle.dsr_feasible.proofs.DueForms.{IsDueForm, at_compensated, goal_same}
 use Rattle.dsr_feasible.proofs.FormItems.{giver_in, made_in}
 use Rattle.dsr_feasible.proofs.RawForms.{GoalAdds, IsRemoval, IsTakenBy, taken_var}

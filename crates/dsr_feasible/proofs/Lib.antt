@@ -12,3 +12,15 @@ pub mod MakingAdditions
 pub mod MakingValues
 pub mod MakingCompensations
 pub mod MakingSteps
+pub mod FormItems
+pub mod KnownSets
+pub mod Forms
+pub mod BoundVars
+pub mod Choosable
+pub mod RawForms
+pub mod DueForms
+pub mod TakenGoals
+pub mod Updates
+pub mod Complete
+pub mod GreatestFact
+pub mod ToGo

@@ -1,0 +1,93 @@
+-- What is so of the literal that is due, and of its template.
+use Rattle.std.proofs.Common.{◌≡◌, ◌∙◌, ℕ, List, map, Option, None, Some, refl, sym, ap, subst}
+use Rattle.std.specs.Prelude.{option_map, slice_get}
+use Rattle.std.proofs.lemmas.Option.{same_Some, slice_get-map}
+use Rattle.dsr_ir.specs.declared.constraints.Conj.{Conj}
+use Rattle.dsr_ir.specs.declared.constraints.Constraint.{Constraint}
+use Rattle.dsr_ir.specs.declared.constraints.Literal.{Literal}
+use Rattle.dsr_ir.specs.declared.declarations.Spec.{Spec}
+use Rattle.dsr_ir.specs.declared.tuples.Binding.{Binding}
+use Rattle.dsr_ir.specs.declared.tuples.Fact.{Fact}
+use Rattle.dsr_ir.specs.declared.updates.Template.{Template}
+use Rattle.dsr_ir.specs.declared.updates.Update.{Update}
+use Rattle.dsr_ir.specs.declared.updates.Write.{Write}
+use Rattle.dsr_listing.specs.Lists.{compensated_by, with_writes}
+use Rattle.dsr_listing.specs.Sides.{IsKept}
+use Rattle.dsr_meaning.specs.Consistency.{BoundConstraint, IsBinding}
+use Rattle.dsr_meaning.specs.Truth.{LiteralHolds}
+use Rattle.dsr_meaning.specs.Typed.{IsTyped, IsTypedConj, IsTypedConstraint, IsTypedLiteral}
+use Rattle.dsr_planning.specs.Plans.{IsPlan, owner_at}
+use Rattle.dsr_planning.specs.declared.choices.Choice.{Choice}
+use Rattle.dsr_repairing.specs.Due.{IsDue}
+use Rattle.dsr_stepped.proofs.Items.{item_at, of_all}
+use Rattle.dsr_updating.specs.Templates.{literal_at}
+use Rattle.dsr_feasible.proofs.Choosable.{HavePicked, compensations_picked}
+use Rattle.dsr_feasible.proofs.Forms.{due_form}
+use Rattle.dsr_feasible.proofs.RawForms.{RawForm, chained, raw_form}
+
+-- the literal of a typed specification's constraint is typed
+pub literal_typed : (spec : Spec) (n : ℕ) (constraint : Constraint) (conj literal : ℕ) (its : Literal) → IsTyped spec → slice_get spec.constraints n ≡ Some constraint → literal_at constraint conj literal ≡ Some its → IsTypedLiteral spec constraint.quant its
+literal_typed spec n constraint conj literal its typed declared literal_is =
+    let of_spec = of_all (IsTypedConstraint spec) spec.constraints constraint typed.constraints (item_at spec.constraints n constraint declared) in
+    let way = chained (λ (c : Conj). slice_get c.literals literal) (slice_get constraint.conjs conj) its literal_is in
+    let of_conj = of_all (IsTypedConj spec constraint.quant) constraint.conjs way.item of_spec.conjs (item_at constraint.conjs conj way.item way.there) in
+    of_all (IsTypedLiteral spec constraint.quant) way.item.literals its of_conj.literals (item_at way.item.literals literal its way.is)
+
+-- the literal is a false one of a constraint at a binding, and the template is one of three forms, with more writes
+pub record IsDueForm (is_fact : Fact → Type 0) (spec : Spec) (b : Binding) (its : Literal) (template : Template) : Type 0 where
+  pub number : ℕ
+  pub constraint : Constraint
+  pub is_binding : IsBinding is_fact constraint.quant b
+  pub typed : IsTypedLiteral spec constraint.quant its
+  pub is_false : LiteralHolds is_fact b its → ⊥
+  pub raw : Template
+  pub form : RawForm spec b its.atom its.negated raw
+  pub more : List Write
+  pub picked : HavePicked b more
+  pub is : template ≡ compensated_by raw more
+  pub kept : IsKept (owner_at spec number constraint) its.atom template
+
+pub form_of : (is_fact : Fact → Type 0) (spec : Spec) (choice : Choice) (v : BoundConstraint) (conj literal : ℕ) (its : Literal) (template : Template) → IsTyped spec → IsPlan spec choice → IsDue is_fact spec choice v conj literal its template → IsDueForm is_fact spec v.binding its template
+form_of is_fact spec choice v conj literal its template typed plan due =
+    let form = due_form is_fact spec choice v conj literal its template plan due in
+    let declared = due.binding_is.row_of.constraint_is in
+    let violated = due.binding_is.violated in
+    let same : violated.constraint ≡ due.constraint = same_Some violated.constraint due.constraint (sym violated.declared ∙ declared) in
+    let bound = subst (λ (c : Constraint). IsBinding is_fact c.quant v.binding) same violated.is_binding in
+    let its_typed = literal_typed spec v.constraint due.constraint conj literal its typed declared due.literal_is.repaired.literal_is in
+    record {
+      number = v.constraint;
+      constraint = due.constraint;
+      is_binding = bound;
+      typed = its_typed;
+      is_false = due.literal_is.repaired.is_false;
+      raw = form.raw;
+      form = raw_form is_fact spec form.known due.constraint.quant v.binding bound its.atom its.negated form.tried form.raw its_typed.atom form.are_tried form.is_tried;
+      more = form.more;
+      picked = λ write among. compensations_picked v.binding (owner_at spec v.constraint due.constraint) form.raw form.are_compensations write (form.of_compensations write among);
+      is = form.is;
+      kept = form.kept;
+    }
+
+-- ---- updates of a compensated template
+
+pub at_compensated : (template raw : Template) (more : List Write) (updates : List Update) (n : ℕ) (u : Update) → template ≡ compensated_by raw more → raw.updates ≡ updates → slice_get updates n ≡ Some u → slice_get template.updates n ≡ Some (with_writes more u)
+at_compensated template raw more updates n u is are at =
+    ap (λ (t : Template). slice_get t.updates n) is ∙ (ap (λ us. slice_get (map (with_writes more) us) n) are ∙ (slice_get-map (with_writes more) updates n ∙ ap (option_map (with_writes more)) at))
+
+-- what stands at a place
+pub record IsWithWrites (more : List Write) (updates : List Update) (n : ℕ) (update : Update) : Type 0 where
+  pub bare : Update
+  pub there : slice_get updates n ≡ Some bare
+  pub is : update ≡ with_writes more bare
+
+pub of_compensated : (template raw : Template) (more : List Write) (updates : List Update) (n : ℕ) (update : Update) → template ≡ compensated_by raw more → raw.updates ≡ updates → slice_get template.updates n ≡ Some update → IsWithWrites more updates n update
+of_compensated template raw more updates n update is are at =
+    let mapped_one : option_map (with_writes more) (slice_get updates n) ≡ Some update = sym (ap (λ (t : Template). slice_get t.updates n) is ∙ (ap (λ us. slice_get (map (with_writes more) us) n) are ∙ slice_get-map (with_writes more) updates n)) ∙ at in
+    by_option (slice_get updates n) refl mapped_one where
+      by_option : (o : Option Update) → slice_get updates n ≡ o → option_map (with_writes more) o ≡ Some update → IsWithWrites more updates n update
+      by_option None e q = absurd cc
+      by_option (Some u) e q = record { bare = u; there = e; is = sym (same_Some (with_writes more u) update q) }
+
+pub goal_same : (template raw : Template) (more : List Write) → template ≡ compensated_by raw more → raw.goal ≡ template.goal
+goal_same template raw more is = sym (ap (λ t. t.goal) is)

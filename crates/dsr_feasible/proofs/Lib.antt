@@ -24,3 +24,4 @@ pub mod Updates
 pub mod Complete
 pub mod GreatestFact
 pub mod ToGo
+pub mod Few

@@ -1,5 +1,5 @@
 // All that a step leaves open is there.
-ghost use Rattle.std.specs.Prelude.{◌≡◌, ℕ, List, Some, Option, slice_get};
+ghost use Rattle.std.specs.Prelude.{◌≡◌, ◌≤◌, ℕ, List, Some, Option, length, slice_get};
 ghost use Rattle.dsr_applying.specs.Choices.{Adds, IsToGo, IsUpdateAt, TakesAway};
 ghost use Rattle.dsr_feasible.specs.Chosen.{IsComplete};
 ghost use Rattle.dsr_ir.specs.declared.constraints.Literal.{Literal};
@@ -54,4 +54,12 @@ pub fn choices_are_complete()
         → IsPlan spec choice → IsDue (IsFact spec layout bytes) spec choice v conj literal its template
         → IsUpdateAt spec layout bytes v.binding its.atom template n update stopped
         → IsComplete spec v.binding stopped update }
+{}
+
+/// A template that is due has few updates: one that adds, one for each rule of a symbol, or both.
+pub fn templates_have_few_updates()
+    ensures { (spec : Spec) (choice : Choice) (layout : Layout) (bytes : List ℕ) (v : BoundConstraint)
+        (conj literal : ℕ) (its : Literal) (template : Template) → IsImageOf spec layout bytes
+        → IsPlan spec choice → IsDue (IsFact spec layout bytes) spec choice v conj literal its template
+        → length template.updates ≤ 200 }
 {}

@@ -1,11 +1,14 @@
 // What a step changes, found on a copy of the image.
-ghost use Rattle.std.specs.Prelude.{◌≡◌, [], ◌∷◌, All, IfOk, IfSome, IsSome, length};
+ghost use Rattle.std.specs.Prelude.{◌≡◌, ◌++◌, [], ◌∷◌, All, IfOk, IfSome, IsSome, MatchOption, OnOk, length};
 ghost use Rattle.dsr_ir.specs.Layouts as layouts;
 ghost use Rattle.dsr_meaning.specs.Instances as meaning;
 ghost use Rattle.dsr_meaning.specs.Legal.{IsLegalLayout};
 ghost use Rattle.dsr_made.specs.Made.{IsMade, set_of};
 ghost use Rattle.dsr_repairing.specs.Entries.{AreSet};
+ghost use Rattle.dsr_stepping.specs.Puts.{ArePut};
+ghost use Rattle.dsr_stepping.specs.Resets.{reset_puts};
 ghost use Rattle.dsr_stepping.specs.Steps.{CanStep, CanWrite};
+ghost use Rattle.dsr_update.specs.Claims.{CanReset};
 
 use crate::changes::{bytes_of, changes};
 use dsr_image::{ImageBytes, Whole};
@@ -49,6 +52,16 @@ fn set(
     })
 }
 
+// Appends what one write set, if anything.
+fn push_set(sets: &mut Vec<CellSet>, made: Option<CellSet>) -> Result<(), NoMemory>
+    ensures { OnOk result (sets.new.items ≡ sets.old.items ++ set_of made) }
+{
+    if let Some(set) = made {
+        sets.push(set)?;
+    }
+    Ok(())
+}
+
 // Makes the writes in order, each unless what it wants holds already, and tells what they set.
 fn set_all(
     alloc: Global,
@@ -69,11 +82,21 @@ fn set_all(
 {
     let mut sets = Vec::new(alloc);
     for write in writes {
-        if let Some(made) = set(spec, layout, step, write, image) {
-            sets.push(made)?;
-        }
+        push_set(&mut sets, set(spec, layout, step, write, image))?;
     }
     Ok(sets)
+}
+
+// Resets the fresh record of a step, if it takes one.
+fn reset_fresh(spec: &Spec, layout: &Layout, step: &Step, image: &mut Whole)
+    requires can { IfSome step.now.fresh (λ e. CanReset spec.now layout.now e (length image.old)) }
+    ensures put { MatchOption step.now.fresh (image.new ≡ image.old)
+        (λ e. ArePut (reset_puts spec.now.base layout.now e) image.old image.new) }
+    ensures long { length image.new ≡ length image.old }
+{
+    if let Some(fresh) = step.fresh {
+        reset(spec, layout, fresh, image);
+    }
 }
 
 /// What is told of a step that is made on the image.
@@ -92,9 +115,7 @@ pub fn entry_of<I: ImageBytes>(
 {
     let old = bytes_of(alloc, image)?;
     let mut copy = Whole::new(Vec::from_slice(alloc, &old)?);
-    if let Some(fresh) = step.fresh {
-        reset(spec, layout, fresh, &mut copy);
-    }
+    reset_fresh(spec, layout, step, &mut copy);
     let sets = set_all(alloc, spec, layout, step, update.writes.items(), &mut copy)?;
     let bytes = changes(alloc, &old, &copy.into_bytes())?;
     Ok(Entry {

@@ -1,5 +1,5 @@
 -- The violation that is to be repaired first, among more and more constraints.
-use Rattle.std.proofs.Common.{◌≡◌, ◌<◌, ◌≤◌, ◌+◌, ◌⊎◌, ℕ, zero, suc, List, [], ◌∷◌, length, Option, None, Some, MatchOption, inl, inr, refl, sym, ap, subst, ◌∙◌, slice_get, arith}
+use Rattle.std.proofs.Common.{◌≡◌, ◌<◌, ◌≤◌, ◌+◌, ◌⊎◌, ℕ, zero, suc, List, [], ◌∷◌, length, Option, None, Some, IsSomeAnd, MatchOption, inl, inr, refl, sym, ap, subst, ◌∙◌, slice_get, arith}
 use Rattle.std.proofs.lemmas.Bool.{cases_lt}
 use Rattle.std.proofs.lemmas.Option.{slice_get_cases}
 use Rattle.dsr_due.specs.Violations.{IsBest, IsBestBefore, IsNextViolation, NoneBefore, bound_of}
@@ -46,6 +46,12 @@ module _ (is_fact : Fact → Type 0) (spec : Spec) (choice : Choice) (n : ℕ) (
     least = best.least;
   }
 
+  -- so does the best one, if any stands as low
+  pub stays_low : (best : Option Violation) → IsSomeAnd best (λ found. found.level ≤ row.level)
+      → IsBestBefore is_fact spec choice n best → IsBestBefore is_fact spec choice (n + 1) best
+  stays_low None low before = absurd low
+  stays_low (Some found) low best = stays_best found low best
+
   -- where this constraint has no violated binding, all stays
   pub stays_none : NoneIsViolated is_fact spec (n ∷ []) → (best : Option Violation) → IsBestBefore is_fact spec choice n best
       → IsBestBefore is_fact spec choice (n + 1) best
@@ -71,7 +77,7 @@ module _ (is_fact : Fact → Type 0) (spec : Spec) (choice : Choice) (n : ℕ) (
   }
 
   -- the constraint stands lower than the best so far
-  abbrev IsLower : Option Violation → Type 0
+  abbrev pub IsLower : Option Violation → Type 0
   IsLower None = Unit {0}
   IsLower (Some found) = row.level < found.level
 
@@ -81,6 +87,13 @@ module _ (is_fact : Fact → Type 0) (spec : Spec) (choice : Choice) (n : ℕ) (
     only : (k : ℕ) → slice_get (n ∷ []) k ≡ Some v.constraint → n ≡ v.constraint
     only zero placed = let e : Some n ≡ Some v.constraint = placed in cc
     only (suc k) placed = absurd cc
+
+  pub stands_lower : (best : Option Violation) → (IsSomeAnd best (λ found. found.level ≤ row.level) → ⊥) → IsLower best
+  stands_lower None high = tt
+  stands_lower (Some found) high = elim (cases_lt row.level found.level) [
+    | inl less ↦ less
+    | inr low ↦ absurd (high low)
+  ]
 
   later_is_higher :
       (best : Option Violation) → IsLower best → IsBestBefore is_fact spec choice n best
@@ -110,6 +123,16 @@ module _ (is_fact : Fact → Type 0) (spec : Spec) (choice : Choice) (n : ℕ) (
     ];
     least = is.least;
   }
+
+  pub becomes_of :
+      (best : Option Violation) (v : BoundConstraint) → IsLower best → IsBestBefore is_fact spec choice n best
+      → IsFirstViolated is_fact spec (n ∷ []) v
+      → IsBest is_fact spec choice (n + 1) (record { level = row.level; constraint = v.constraint; binding = v.binding })
+  becomes_of best v low before is =
+      let this : n ≡ v.constraint = of_this v is in
+      subst (λ m. IsBest is_fact spec choice (n + 1) (record { level = row.level; constraint = m; binding = v.binding })) this
+      (becomes_best best v.binding low before
+      (subst (λ m. IsFirstViolated is_fact spec (n ∷ []) (record { constraint = m; binding = v.binding })) (sym this) is))
 
 -- once all constraints were gone over
 got_below : {X : Type 0} (xs : List X) (n : ℕ) (x : X) → slice_get xs n ≡ Some x → n < length xs

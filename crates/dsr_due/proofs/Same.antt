@@ -1,6 +1,7 @@
 -- Where the same is a fact, the same is due and the same is chosen.
 use Rattle.std.proofs.Common.{◌≡◌, ◌↔◌, ◌<◌, ◌⊎◌, ℕ, List, Option, None, Some, IsSomeAnd, MatchOption, inl, inr, refl, sym, ap, subst, ◌∙◌, slice_get}
 use Rattle.dsr_applying.specs.Choices.{Adds, CountsNothing, IsFresh, IsFreshFrom, IsNumberFor, IsOutside, IsSupplied, IsToGo, written_size}
+use Rattle.dsr_due.specs.Chosen.{AreDecided}
 use Rattle.dsr_due.specs.Supplies.{IsTaken}
 use Rattle.dsr_ir.specs.declared.constraints.Atom.{Atom}
 use Rattle.dsr_ir.specs.declared.constraints.Atom.TheVariants as atoms
@@ -98,6 +99,12 @@ module _ (P Q : Fact → Type 0) (same : AreSame P Q) where
     literal_is = due_literal v.binding is.constraint is.row conj literal its by is.literal_is;
   }
 
+  pub decided_same : AreDecided Q → AreDecided P
+  decided_same decided b its = elim (decided b its) [
+    | inl holds ↦ inl (literal_same Q P back b its holds)
+    | inr fails ↦ inr (λ holds. fails (literal_same P Q same b its holds))
+  ]
+
   -- ---- what is chosen
 
   nothing : (b : Binding) (atom : Atom) → CountsNothing P b atom → CountsNothing Q b atom
@@ -184,3 +191,8 @@ module _ (P Q : Fact → Type 0) (same : AreSame P Q) where
 
     pub used_same : IsUsedUp P spec layout pool → IsUsedUp Q spec layout pool
     used_same is = used_by (pool_at spec.base pool) is
+
+  pub fresh_or_none : (spec : Spec) (layout : Layout) (pool : Option ℕ) (fresh : Option Element) → IsFresh P spec layout pool fresh → IsFresh Q spec layout pool fresh
+  fresh_or_none spec layout None fresh is = is
+  fresh_or_none spec layout (Some pool) None is = is
+  fresh_or_none spec layout (Some pool) (Some e) is = fresh_same spec layout pool e is

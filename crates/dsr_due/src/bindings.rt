@@ -1,5 +1,5 @@
 // The violated binding that is to be repaired next.
-ghost use Rattle.std.specs.Prelude.{◌≡◌, ◌≤◌, ◌+◌, MatchOption, Some, length, slice_get, true};
+ghost use Rattle.std.specs.Prelude.{◌≡◌, ◌≤◌, ◌+◌, Decides, IsSomeAnd, MatchOption, Some, length, slice_get, true};
 ghost use Rattle.dsr_due.specs.Violations.{IsBestBefore, IsNextViolation};
 ghost use Rattle.dsr_meaning.specs.Consistency.{AreSatisfied};
 ghost use Rattle.dsr_model.specs.Facts.{IsInModel};
@@ -18,6 +18,16 @@ pub struct Violation {
     pub binding: Binding,
 }
 
+// Whether the best violation so far stands on the level or on a lower one.
+fn is_as_low(best: Option<Violation>, level: u32) -> bool
+    ensures { Decides result (IsSomeAnd best (λ found. found.level ≤ level)) }
+{
+    match best {
+        Some(found) => found.level <= level,
+        None => false,
+    }
+}
+
 // The best violation of the constraints up to this one, by the best of those before it.
 fn better(
     model: &Model,
@@ -31,10 +41,8 @@ fn better(
         → IsBestBefore (IsInModel model.now) spec.now choice number best
         → IsBestBefore (IsInModel model.now) spec.now choice (number + 1) result }
 {
-    if let Some(found) = best {
-        if found.level <= row.level {
-            return best;
-        }
+    if is_as_low(best, row.level) {
+        return best;
     }
     match first_violated(model, spec, &[number]) {
         Some((constraint, binding)) => Some(Violation {

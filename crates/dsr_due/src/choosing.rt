@@ -1,10 +1,11 @@
 // What a template leaves open.
-ghost use Rattle.std.specs.Prelude.{◌≡◌, ℕ, Decides, IfSome, MatchOption, Some, slice_get, true};
+ghost use Rattle.std.specs.Prelude.{◌≡◌, ◌≤◌, ℕ, Decides, IfSome, MatchOption, None, Some, length, slice_get, true};
 ghost use Rattle.dsr_applying.specs.Choices as said;
 ghost use Rattle.dsr_applying.specs.Choices.{Adds, CountsNothing, IsEntryAt, IsNumberFor, IsPlace, IsToGo, TakesAway};
 ghost use Rattle.dsr_due.specs.Chosen.{IsUpdateBy};
 ghost use Rattle.dsr_ir.specs.declared.tuples.Element.{Element as ElementOf};
 ghost use Rattle.dsr_ir.specs.declared.tuples.Fact.{Fact as FactOf};
+ghost use Rattle.dsr_ir.specs.declared.updates.Update.{Update as UpdateOf};
 ghost use Rattle.dsr_meaning.specs.Truth.{HasVariable};
 ghost use Rattle.dsr_model.specs.Facts.{IsInModel};
 
@@ -67,15 +68,24 @@ fn takes_away(goal: Goal, place: usize) -> bool
     }
 }
 
+/// The first update of the template.
+pub fn first_update(template: &Template) -> Option<&Update>
+    ensures { MatchOption result (slice_get template.now.updates 0 ≡ None)
+        (λ update. slice_get template.now.updates 0 ≡ Some update.now) }
+{
+    template.updates.items().first()
+}
+
 /// The first update of the template that takes away what a rule gives, with its place.
-pub fn update_by(template: &Template, rule: u32) -> Option<(usize, &Update)>
+pub fn update_by(template: &Template, rule: u32) -> Option<(u32, &Update)>
+    requires few { length template.now.updates ≤ 200 }
     ensures { MatchOption result
         ((n : ℕ) (update : UpdateOf) → IsUpdateBy template.now rule n update → ⊥)
         (λ found. IsUpdateBy template.now rule found.0 found.1.now) }
 {
     for (place, update) in template.updates.items().iter().enumerate() {
         if update.rule == rule && takes_away(template.goal, place) {
-            return Some((place, update));
+            return Some((place as u32, update));
         }
     }
     None

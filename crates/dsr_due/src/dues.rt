@@ -1,5 +1,5 @@
 // The step that is due.
-ghost use Rattle.std.specs.Prelude.{◌≡◌, MatchOption, true};
+ghost use Rattle.std.specs.Prelude.{◌≡◌, MatchOption, None, Some, slice_get, true};
 ghost use Rattle.dsr_due.specs.Chosen.{AreDecided, IsChosenFor, IsDueOf, IsStepFor};
 ghost use Rattle.dsr_due.specs.Violations.{IsNextViolation};
 ghost use Rattle.dsr_feasible.specs.Chosen.{IsComplete};
@@ -8,18 +8,21 @@ ghost use Rattle.dsr_meaning.specs.Consistency.{IsConsistent};
 ghost use Rattle.dsr_meaning.specs.Models.{IsFact};
 ghost use Rattle.dsr_meaning.specs.Typed.{IsTyped};
 ghost use Rattle.dsr_model.specs.Facts.{IsInModel};
+ghost use Rattle.dsr_planning.specs.Plans.{IsPlan};
 ghost use Rattle.dsr_repairing.specs.Images.{IsImageOf};
 ghost use Rattle.dsr_repairing.specs.Turns.{IsTurn};
 
 use crate::bindings::{Violation, next_violation};
-use crate::choosing::{adds, entry_at, fact_to_go, record_at, update_by, written_number};
-use crate::fresh::fresh_of;
+use crate::choosing::{
+    adds, entry_at, fact_to_go, first_update, record_at, update_by, written_number,
+};
+use crate::fresh::fresh_for;
 use crate::literals::{ToRepair, first_false, first_passing};
 use dsr_fixpoint::deriver;
 use dsr_image::ImageBytes;
-use dsr_ir::{Binding, Element, Instance, Layout, Update};
+use dsr_ir::{Binding, Constraint, Element, Instance, Layout, Spec, Update};
 use dsr_model::Model;
-use dsr_planning::Plan;
+use dsr_planning::{Choice, Plan, Row};
 use dsr_repairing::{Need, Turn};
 use dsr_stepping::Step;
 
@@ -40,16 +43,40 @@ pub struct Chosen<'a> {
     pub stopped: Option<Instance>,
 }
 
-// The literal of the violated constraint that is to become true next.
-fn due_at<'a>(plan: &'a Plan, model: &Model, violation: Violation) -> DueLiteral<'a>
-    requires ordered { model.now.ordered ≡ true }
-    requires typed { IsTyped plan.now.0 }
-    requires decided { AreDecided (IsInModel model.now) }
-    requires next { IsNextViolation (IsInModel model.now) plan.now.0 plan.now.1 violation }
-    ensures { IsDueOf (IsInModel model.now) plan.now.0 plan.now.1 result }
+fn constraint_at(spec: &Spec, number: u32) -> Option<&Constraint>
+    ensures { MatchOption result (slice_get spec.now.constraints number ≡ None)
+        (λ c. slice_get spec.now.constraints number ≡ Some c.now) }
 {
-    let constraint = &plan.spec().constraints.items()[violation.constraint as usize];
-    let row = &plan.choice().rows.items()[violation.constraint as usize];
+    spec.constraints.items().get(number as usize)
+}
+
+fn row_at(choice: &Choice, number: u32) -> Option<&Row>
+    ensures { MatchOption result (slice_get choice.now.rows number ≡ None)
+        (λ row. slice_get choice.now.rows number ≡ Some row.now) }
+{
+    choice.rows.items().get(number as usize)
+}
+
+// The literal of the violated constraint that is to become true next.
+fn due_at<'a>(
+    spec: &'a Spec,
+    choice: &'a Choice,
+    model: &Model,
+    violation: Violation,
+) -> DueLiteral<'a>
+    requires ordered { model.now.ordered ≡ true }
+    requires typed { IsTyped spec.now }
+    requires plan { IsPlan spec.now choice.now }
+    requires decided { AreDecided (IsInModel model.now) }
+    requires next { IsNextViolation (IsInModel model.now) spec.now choice.now violation }
+    ensures { IsDueOf (IsInModel model.now) spec.now choice.now result }
+{
+    let Some(constraint) = constraint_at(spec, violation.constraint) else {
+        unreachable!();
+    };
+    let Some(row) = row_at(choice, violation.constraint) else {
+        unreachable!();
+    };
     let Some((conj, its, ways)) = first_passing(model, constraint, row, &violation.binding) else {
         unreachable!();
     };
@@ -66,56 +93,65 @@ fn due_at<'a>(plan: &'a Plan, model: &Model, violation: Violation) -> DueLiteral
 
 // The literal that is to become true next; none where the image is consistent.
 fn next_due<'a, I: ImageBytes>(
-    plan: &'a Plan,
-    layout: &Layout,
+    spec: &'a Spec,
+    choice: &'a Choice,
+    _layout: &Layout,
     _image: &I,
     model: &Model,
 ) -> Option<DueLiteral<'a>>
-    requires image { IsImageOf plan.now.0 layout.now (I.ImageBytes.bytes _image.now) }
-    requires prepared { IsPreparedFor plan.now.0 layout.now model.now }
-    requires model { IsModelOf plan.now.0 layout.now (I.ImageBytes.bytes _image.now) model.now }
+    requires plan { IsPlan spec.now choice.now }
+    requires image { IsImageOf spec.now _layout.now (I.ImageBytes.bytes _image.now) }
+    requires prepared { IsPreparedFor spec.now _layout.now model.now }
+    requires model { IsModelOf spec.now _layout.now (I.ImageBytes.bytes _image.now) model.now }
     ensures { MatchOption result
-        (IsConsistent plan.now.0 layout.now (I.ImageBytes.bytes _image.now))
-        (IsDueOf (IsFact plan.now.0 layout.now (I.ImageBytes.bytes _image.now)) plan.now.0 plan.now.1) }
+        (IsConsistent spec.now _layout.now (I.ImageBytes.bytes _image.now))
+        (IsDueOf (IsFact spec.now _layout.now (I.ImageBytes.bytes _image.now)) spec.now choice.now) }
 {
-    let violation = next_violation(model, plan.spec(), plan.choice())?;
-    Some(due_at(plan, model, violation))
+    match next_violation(model, spec, choice) {
+        Some(violation) => Some(due_at(spec, choice, model, violation)),
+        None => None,
+    }
 }
 
 // The update that is chosen for the literal.
 fn chosen_for<'a, I: ImageBytes>(
-    plan: &Plan,
+    spec: &Spec,
+    _choice: &Choice,
     layout: &Layout,
     image: &I,
     model: &Model,
     due: &DueLiteral<'a>,
 ) -> Chosen<'a>
-    requires image { IsImageOf plan.now.0 layout.now (I.ImageBytes.bytes image.now) }
-    requires prepared { IsPreparedFor plan.now.0 layout.now model.now }
-    requires model { IsModelOf plan.now.0 layout.now (I.ImageBytes.bytes image.now) model.now }
-    requires due { IsDueOf (IsFact plan.now.0 layout.now (I.ImageBytes.bytes image.now))
-        plan.now.0 plan.now.1 due.now }
-    ensures { IsChosenFor plan.now.0 layout.now (I.ImageBytes.bytes image.now) due.now result }
+    requires plan { IsPlan spec.now _choice.now }
+    requires image { IsImageOf spec.now layout.now (I.ImageBytes.bytes image.now) }
+    requires prepared { IsPreparedFor spec.now layout.now model.now }
+    requires model { IsModelOf spec.now layout.now (I.ImageBytes.bytes image.now) model.now }
+    requires due { IsDueOf (IsFact spec.now layout.now (I.ImageBytes.bytes image.now))
+        spec.now _choice.now due.now }
+    ensures { IsChosenFor spec.now layout.now (I.ImageBytes.bytes image.now) due.now result }
 {
     let (template, atom) = (due.repaired.template, &due.repaired.literal.atom);
     if adds(model, template.goal, atom, &due.binding) {
+        let Some(update) = first_update(template) else {
+            unreachable!();
+        };
         return Chosen {
             place: 0,
-            update: &template.updates.items()[0],
+            update,
             stopped: None,
         };
     }
     let Some(fact) = fact_to_go(model, atom, &due.binding) else {
         unreachable!();
     };
-    let Some(instance) = deriver(model, plan.spec(), layout, image, &fact) else {
+    let Some(instance) = deriver(model, spec, layout, image, &fact) else {
         unreachable!();
     };
     let Some((place, update)) = update_by(template, instance.rule) else {
         unreachable!();
     };
     Chosen {
-        place: place as u32,
+        place,
         update,
         stopped: Some(instance),
     }
@@ -142,14 +178,14 @@ fn need_of(due: &DueLiteral, pool: u32) -> Need
 
 // The step by the update that is chosen.
 fn step_of(
-    plan: &Plan,
+    _spec: &Spec,
     model: &Model,
     due: &DueLiteral,
     chosen: &Chosen,
     fresh: Option<Element>,
 ) -> Step
     requires ordered { model.now.ordered ≡ true }
-    requires complete { IsComplete plan.now.0 due.now.binding chosen.now.stopped chosen.now.update.now }
+    requires complete { IsComplete _spec.now due.now.binding chosen.now.stopped chosen.now.update.now }
     ensures { IsStepFor (IsInModel model.now) due.now chosen.now fresh result }
 {
     let Some(elem) = record_at(chosen.update.place, &due.binding, chosen.stopped) else {
@@ -172,6 +208,30 @@ fn step_of(
     }
 }
 
+// What is due by a choice that is a plan.
+fn due_by<I: ImageBytes>(
+    spec: &Spec,
+    choice: &Choice,
+    layout: &Layout,
+    image: &I,
+    model: &Model,
+) -> Turn
+    requires plan { IsPlan spec.now choice.now }
+    requires image { IsImageOf spec.now layout.now (I.ImageBytes.bytes image.now) }
+    requires prepared { IsPreparedFor spec.now layout.now model.now }
+    requires model { IsModelOf spec.now layout.now (I.ImageBytes.bytes image.now) model.now }
+    ensures { IsTurn spec.now choice.now layout.now (I.ImageBytes.bytes image.now) result }
+{
+    let Some(due) = next_due(spec, choice, layout, image, model) else {
+        return Turn::Done;
+    };
+    let chosen = chosen_for(spec, choice, layout, image, model, &due);
+    match fresh_for(model, spec, layout, chosen.update) {
+        Ok(fresh) => Turn::Step(step_of(spec, model, &due, &chosen, fresh)),
+        Err(pool) => Turn::Empty(need_of(&due, pool)),
+    }
+}
+
 /// What is due on an image by a plan, once the model is that of the image. Takes no memory.
 pub fn due<I: ImageBytes>(plan: &Plan, layout: &Layout, image: &I, model: &Model) -> Turn
     requires image { IsImageOf plan.now.0 layout.now (I.ImageBytes.bytes image.now) }
@@ -179,16 +239,5 @@ pub fn due<I: ImageBytes>(plan: &Plan, layout: &Layout, image: &I, model: &Model
     requires model { IsModelOf plan.now.0 layout.now (I.ImageBytes.bytes image.now) model.now }
     ensures { IsTurn plan.now.0 plan.now.1 layout.now (I.ImageBytes.bytes image.now) result }
 {
-    let Some(due) = next_due(plan, layout, image, model) else {
-        return Turn::Done;
-    };
-    let chosen = chosen_for(plan, layout, image, model, &due);
-    let fresh = match chosen.update.fresh {
-        None => None,
-        Some(pool) => match fresh_of(model, plan.spec(), layout, pool) {
-            Some(elem) => Some(elem),
-            None => return Turn::Empty(need_of(&due, pool)),
-        },
-    };
-    Turn::Step(step_of(plan, model, &due, &chosen, fresh))
+    due_by(plan.spec(), plan.choice(), layout, image, model)
 }

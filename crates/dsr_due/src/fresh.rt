@@ -1,13 +1,14 @@
 // Fresh records.
-ghost use Rattle.std.specs.Prelude.{◌≡◌, ◌≤◌, ◌^◌, Decides, IfSome, IsSome, IsSomeAnd, MatchOption, true};
-ghost use Rattle.dsr_applying.specs.Choices.{IsFreshFrom};
+ghost use Rattle.std.specs.Prelude.{◌≡◌, Decides, IfErr, IfOk, IfSome, IsSome, IsSomeAnd, MatchOption, Some, option_map, true};
+ghost use Rattle.std.specs.Option.{option_and_then};
+ghost use Rattle.dsr_applying.specs.Choices.{IsFresh, IsFreshFrom};
 ghost use Rattle.dsr_due.specs.Supplies.{IsTaken};
-ghost use Rattle.dsr_ir.specs.Layouts as layouts;
+ghost use Rattle.dsr_meaning.specs.Legal.{IsLegalLayout};
 ghost use Rattle.dsr_meaning.specs.Typed as typed;
 ghost use Rattle.dsr_model.specs.Facts.{IsInModel};
 ghost use Rattle.dsr_repairing.specs.Turns.{IsUsedUp};
 
-use dsr_ir::{Element, Fact, Layout, Spec};
+use dsr_ir::{Element, Fact, Layout, Spec, Update};
 use dsr_layout::pool_numbers;
 use dsr_model::Model;
 
@@ -37,7 +38,7 @@ fn avoided(spec: &Spec, pool: u32) -> Option<&[u32]>
 pub fn fresh_of(model: &Model, spec: &Spec, layout: &Layout, pool: u32) -> Option<Element>
     requires ordered { model.now.ordered ≡ true }
     requires supply { IsSomeAnd (typed.pool_at spec.now.base pool) (λ d. IsSome d.avoid) }
-    requires small { IfSome (layouts.pool_numbers layout.now pool) (λ n. n.count ≤ 2 ^ 32) }
+    requires legal { IsLegalLayout layout.now }
     ensures { MatchOption result (IsUsedUp (IsInModel model.now) spec.now layout.now pool)
         (IsFreshFrom (IsInModel model.now) spec.now layout.now pool) }
 {
@@ -53,4 +54,28 @@ pub fn fresh_of(model: &Model, spec: &Spec, layout: &Layout, pool: u32) -> Optio
         }
     }
     None
+}
+
+/// The fresh record of an update, if it takes one; or the pool whose supply is empty.
+pub fn fresh_for(
+    model: &Model,
+    spec: &Spec,
+    layout: &Layout,
+    update: &Update,
+) -> Result<Option<Element>, u32>
+    requires ordered { model.now.ordered ≡ true }
+    requires supply { IfSome update.now.fresh
+        (λ pool. IsSomeAnd (typed.pool_at spec.now.base pool) (λ d. IsSome d.avoid)) }
+    requires legal { IsLegalLayout layout.now }
+    ensures fresh { IfOk result (IsFresh (IsInModel model.now) spec.now layout.now update.now.fresh) }
+    ensures empty { IfErr result (λ pool. (update.now.fresh ≡ Some pool)
+        × IsUsedUp (IsInModel model.now) spec.now layout.now pool) }
+{
+    let Some(pool) = update.fresh else {
+        return Ok(None);
+    };
+    match fresh_of(model, spec, layout, pool) {
+        Some(elem) => Ok(Some(elem)),
+        None => Err(pool),
+    }
 }

@@ -1,8 +1,10 @@
 // The conjunction of a violated constraint that is repaired, and its literal.
-ghost use Rattle.std.specs.Prelude.{◌≡◌, ◌≤◌, ◌^◌, Decides, MatchOption, Some, length, slice_get, true};
+ghost use Rattle.std.specs.Prelude.{◌≡◌, ◌≤◌, ℕ, Decides, MatchBool, MatchOption, Some, length, slice_get, true};
 ghost use Rattle.dsr_due.specs.Literals.{AreTestsTrue, IsFirstFalse, IsFirstPassing, NoneIsFalse, NonePasses, ways_at};
 ghost use Rattle.dsr_model.specs.Facts.{IsInModel};
-ghost use Rattle.dsr_planning.specs.declared.choices.Way.TheVariants.{Test};
+ghost use Rattle.dsr_ir.specs.declared.updates.Template.{Template as TemplateOf};
+ghost use Rattle.dsr_meaning.specs.Truth.{LiteralHolds};
+ghost use Rattle.dsr_planning.specs.declared.choices.Way.TheVariants.{By, Test};
 
 use dsr_ir::{Binding, Conj, Constraint, Literal, Template};
 use dsr_model::Model;
@@ -24,13 +26,32 @@ fn is_tested(ways: &[Way], place: usize) -> bool
     matches!(ways.get(place), Some(Way::Test))
 }
 
+// Whether the literal with this place is tested, and false.
+fn is_failed_test(
+    model: &Model,
+    its: &Literal,
+    ways: &[Way],
+    place: usize,
+    binding: &Binding,
+) -> bool
+    requires ordered { model.now.ordered ≡ true }
+    ensures { MatchBool result ((slice_get ways.now place ≡ Some Test)
+        × (LiteralHolds (IsInModel model.now) binding.now its.now → ⊥))
+        (slice_get ways.now place ≡ Some Test → LiteralHolds (IsInModel model.now) binding.now its.now) }
+{
+    if is_tested(ways, place) {
+        return !literal(model, its, binding);
+    }
+    false
+}
+
 // Whether the tested literals of the conjunction are true.
 fn passes(model: &Model, conj: &Conj, ways: &[Way], binding: &Binding) -> bool
     requires ordered { model.now.ordered ≡ true }
     ensures { Decides result (AreTestsTrue (IsInModel model.now) binding.now conj.now.literals ways.now) }
 {
     for (place, its) in conj.literals.items().iter().enumerate() {
-        if is_tested(ways, place) && !literal(model, its, binding) {
+        if is_failed_test(model, its, ways, place, binding) {
             return false;
         }
     }
@@ -81,6 +102,27 @@ fn template_at(ways: &[Way], place: usize) -> Option<&Template>
     }
 }
 
+// The template for the literal with this place, where that is false.
+fn false_template<'a>(
+    model: &Model,
+    its: &Literal,
+    ways: &'a [Way],
+    place: usize,
+    binding: &Binding,
+) -> Option<&'a Template>
+    requires ordered { model.now.ordered ≡ true }
+    ensures { MatchOption result ((number : ℕ) (template : TemplateOf)
+        → slice_get ways.now place ≡ Some (By number template)
+        → (LiteralHolds (IsInModel model.now) binding.now its.now → ⊥) → ⊥)
+        (λ template. (number : ℕ) × (slice_get ways.now place ≡ Some (By number template.now))
+        × (LiteralHolds (IsInModel model.now) binding.now its.now → ⊥)) }
+{
+    if literal(model, its, binding) {
+        return None;
+    }
+    template_at(ways, place)
+}
+
 /// The first literal that has a template and is false.
 pub fn first_false<'a>(
     model: &Model,
@@ -95,14 +137,12 @@ pub fn first_false<'a>(
         found.place found.literal.now found.template.now) }
 {
     for (place, its) in conj.literals.items().iter().enumerate() {
-        if let Some(template) = template_at(ways, place) {
-            if !literal(model, its, binding) {
-                return Some(ToRepair {
-                    place: place as u32,
-                    literal: its,
-                    template,
-                });
-            }
+        if let Some(template) = false_template(model, its, ways, place, binding) {
+            return Some(ToRepair {
+                place: place as u32,
+                literal: its,
+                template,
+            });
         }
     }
     None

@@ -5,6 +5,7 @@ pub mod MakingWrites
 pub mod MakingEntries
 pub mod MakingRecords
 pub mod MakingKnown
+pub mod MakingHead
 pub mod MakingCan
 pub mod MakingRemovals
 pub mod MakingSpans

@@ -16,10 +16,10 @@ use Rattle.dsr_ir.specs.declared.updates.Pick.{Pick}
 use Rattle.dsr_ir.specs.declared.updates.Pick.TheVariants as picks
 use Rattle.dsr_ir.specs.declared.updates.Write.{Write}
 use Rattle.dsr_meaning.specs.Counting.{IsIn}
-use Rattle.dsr_meaning.specs.Instances.{IsInstance, declared_field, kind_pool}
+use Rattle.dsr_meaning.specs.Instances.{IsInstance, declared_field, kind_pool, premise_pool}
 use Rattle.dsr_meaning.specs.Refusals.{IsLayoutOf}
 use Rattle.dsr_meaning.specs.Typed.{IsTyped, IsTypedGuard, IsTypedPath, IsTypedRule}
-use Rattle.dsr_repairing.specs.Images.{IsFree}
+use Rattle.dsr_repairing.specs.Images.{IsFree, IsOfHead}
 use Rattle.dsr_stepped.proofs.AllTrue.{first_true, in_others, target_written}
 use Rattle.dsr_stepped.proofs.Items.{of_all}
 use Rattle.dsr_stepped.proofs.Together.{target_typed}
@@ -29,12 +29,13 @@ use Rattle.dsr_updating.specs.Guards.{guard_write, pick_wanted}
 use Rattle.dsr_updating.specs.Options.{options, reference_write, target_option}
 use Rattle.dsr_updating.specs.Templates.{all_true, others, target_writes, value_write}
 use Rattle.dsr_feasible.proofs.MakingEntries.{FitsField, SameEntry, can_write, none_fits_field}
+use Rattle.dsr_feasible.proofs.MakingHead.{of_head}
 use Rattle.dsr_feasible.proofs.MakingItems.{chained_from, from_filter, in_parts}
 use Rattle.dsr_feasible.proofs.MakingWrites.{IsFitPick, IsOpenWrite, fit_pick, is_free, of_guard, of_reference, of_value}
 
--- the write can be made, and of no fixed field
+-- the write can be made, is of no fixed field, and of one of the head's where it writes the head
 abbrev pub IsMade : Spec → Layout → Step → Write → Type 0
-IsMade spec layout step write = CanWrite spec layout step write × IsFree spec write
+IsMade spec layout step write = CanWrite spec layout step write × IsFree spec write × IsOfHead spec step.elem write
 
 module _ (spec : Spec) (bytes : List ℕ) (layout : Layout) (is : IsLayoutOf spec bytes layout) (typed : IsTyped spec) (step : Step) where
   pick_fits : (field : FieldRef) (f : Field) (pick : Pick) → declared_field spec.base field ≡ Some f → IsFitPick f pick → FitsField spec layout step field f pick
@@ -47,6 +48,7 @@ module _ (spec : Spec) (bytes : List ℕ) (layout : Layout) (is : IsLayoutOf spe
     open_made path its pick write by fits = (
       can_write spec bytes layout is typed step i rule instance of elem path its write (same path its) by.path_is (subst (FitsField spec layout step path.field its.field) (sym by.pick_is) fits),
       is_free spec path pick write by,
+      of_head spec typed rule of step.elem (subst (λ e. e.pool ≡ premise_pool spec rule) elem instance.pool_is) path its write by.path_is,
     )
 
     pub guard_made : (wanted : Bool) (guard : Guard) (write : Write) → IsIn guard rule.guards → guard_write spec.base wanted guard ≡ Some write → IsMade spec layout step write

@@ -1,8 +1,8 @@
 -- What can be made is so where it is so by any table of known sets: there is no finite table that couldn't be, and
 -- whether a write can be made is decided by numbers.
-use Rattle.std.proofs.Common.{◌≡◌, ◌<◌, ◌≤◌, ◌^◌, ◌*◌, ◌+◌, ◌↔◌, ℕ, zero, suc, Bool, true, false, nat_eq, nat_lt, length, Option, None, Some, IsSomeAnd, IsTrue, MatchBool, inl, inr, refl, sym, subst, arith}
+use Rattle.std.proofs.Common.{◌≡◌, ◌<◌, ◌≤◌, ◌^◌, ◌*◌, ◌+◌, ◌↔◌, ℕ, zero, suc, Bool, true, false, nat_eq, nat_lt, List, ◌∷◌, length, Option, None, Some, IsSomeAnd, IsTrue, MatchBool, inl, inr, refl, sym, subst, arith}
 use Rattle.std.proofs.lemmas.Bool.Decides.{nat_tests}
-use Rattle.dsr_decided.proofs.Listed.{numbers}
+use Rattle.dsr_decided.proofs.Listed.{listed_decided, numbers}
 use Rattle.dsr_decided.specs.Deciding.{IsDecided}
 use Rattle.dsr_ir.specs.Layouts.{field_place, pool_numbers}
 use Rattle.dsr_ir.specs.declared.constraints.Quant.{Quant}
@@ -13,14 +13,16 @@ use Rattle.dsr_ir.specs.declared.layouts.Layout.{Layout}
 use Rattle.dsr_ir.specs.declared.tuples.Element.{Element}
 use Rattle.dsr_ir.specs.declared.updates.Write.{Write}
 use Rattle.dsr_meaning.specs.Cells.{width_bits}
+use Rattle.dsr_meaning.specs.Counting.{IsIn}
 use Rattle.dsr_meaning.specs.Instances.{declared_field}
 use Rattle.dsr_meaning.specs.Legal.{HasBits, entry_count}
-use Rattle.dsr_meaning.specs.Typed.{IsTyped, IsTypedQuant}
-use Rattle.dsr_repairing.specs.Images.{IsFree}
+use Rattle.dsr_meaning.specs.Typed.{IsTyped, IsTypedQuant, ancestors}
+use Rattle.dsr_repairing.specs.Images.{IsFree, IsOfHead}
 use Rattle.dsr_stepping.specs.Steps.{CanWrite, written_cell, written_index, written_number}
 use Rattle.dsr_stepping.specs.declared.steps.Step.{Step}
 use Rattle.dsr_updating.specs.Known.{IsKnown}
 use Rattle.dsr_updating.specs.Templates.{KnownSets, TellsKnown}
+use Rattle.dsr_feasible.proofs.MakingCan.{IsMade}
 use Rattle.dsr_feasible.proofs.MakingItems.{some_and}
 use Rattle.dsr_feasible.proofs.MakingRecords.{known_pool}
 
@@ -99,6 +101,9 @@ most_stable a b never = elim (nat_lt b a) as (λ t. nat_lt b a ≡ t → a ≤ b
 both_stable : {A B : Type 0} → Stable A → Stable B → Stable (A × B)
 both_stable a b never = (a (λ fails. never (λ p. fails p.0)), b (λ fails. never (λ p. fails p.1)))
 
+three_stable : {A B C : Type 0} → Stable A → Stable B → Stable C → Stable (A × B × C)
+three_stable a b c never = (a (λ fails. never (λ p. fails p.0)), b (λ fails. never (λ p. fails p.1)), c (λ fails. never (λ p. fails p.2)))
+
 some_stable : {X : Type 0} (o : Option X) (P : X → Type 0) → ((x : X) → Stable (P x)) → Stable (IsSomeAnd o P)
 some_stable None P each never = absurd (never (λ no. no))
 some_stable (Some x) P each never = each x never
@@ -110,6 +115,14 @@ either_stable false x y never = y never
 false_stable : (b : Bool) → Stable (b ≡ false)
 false_stable true never = absurd (never (λ no. absurd cc))
 false_stable false never = refl
+
+decided_stable : {A : Type 0} → IsDecided A → Stable A
+decided_stable (inl a) never = a
+decided_stable (inr fails) never = absurd (never fails)
+
+-- whether a list of numbers has one is decided
+in_stable : (n : ℕ) (ns : List ℕ) → Stable (IsIn n ns)
+in_stable n ns = decided_stable (listed_decided (λ m. IsIn m ns) numbers (record { things = ns; all = λ m is_in. is_in; only = λ m is_in. is_in }) n)
 
 module _ (spec : Spec) (layout : Layout) (step : Step) (write : Write) where
   abbrev Entry : Type 0
@@ -151,8 +164,11 @@ module _ (spec : Spec) (layout : Layout) (step : Step) (write : Write) where
   free_stable : Stable (IsFree spec write)
   free_stable = some_stable (declared_field spec.base write.path.field) (λ f. f.fixed ≡ false) (λ f. false_stable f.fixed)
 
+  head_stable : Stable (IsOfHead spec step.elem write)
+  head_stable never in_head = in_stable write.path.field.structure (spec.base.head ∷ ancestors spec.base.structures spec.base.head) (λ fails. never (λ of. fails (of in_head)))
+
 -- what is so of a write by any table of known sets is so
-pub by_any_table : (spec : Spec) (typed : IsTyped spec) (quant : Quant) (quant_typed : IsTypedQuant spec.base quant) (layout : Layout) (step : Step) (write : Write) → ((known : KnownSets) → TellsKnown spec quant known → CanWrite spec layout step write × IsFree spec write) → CanWrite spec layout step write × IsFree spec write
+pub by_any_table : (spec : Spec) (typed : IsTyped spec) (quant : Quant) (quant_typed : IsTypedQuant spec.base quant) (layout : Layout) (step : Step) (write : Write) → ((known : KnownSets) → TellsKnown spec quant known → IsMade spec layout step write) → IsMade spec layout step write
 by_any_table spec typed quant quant_typed layout step write by =
-    both_stable (write_stable spec layout step write) (free_stable spec layout step write)
+    three_stable (write_stable spec layout step write) (free_stable spec layout step write) (head_stable spec layout step write)
     (λ fails. known_never spec typed quant quant_typed (λ found. fails (by found.0 found.1)))

@@ -1,4 +1,4 @@
--- A step that is due can be made, and writes no fixed field.
+-- A step that is due can be made, writes no fixed field, and in the head none but fields of its structure.
 use Rattle.std.proofs.Common.{◌≡◌, ◌∙◌, ℕ, List, ◌++◌, All, length, Option, None, Some, IfSome, inl, inr, refl, sym, subst, slice_get}
 use Rattle.std.proofs.lemmas.Option.{same_Some}
 use Rattle.dsr_applying.specs.Choices.{IsEntryAt, IsFresh, IsFreshFrom, IsNumberFor, IsPlace, IsUpdateAt}
@@ -22,7 +22,7 @@ use Rattle.dsr_meaning.specs.Refusals.{IsLayoutOf}
 use Rattle.dsr_meaning.specs.Typed.{IsTyped, IsTypedAtom, IsTypedConj, IsTypedConstraint, IsTypedLiteral, IsTypedQuant}
 use Rattle.dsr_planning.specs.Plans.{IsPlan, owner_at}
 use Rattle.dsr_planning.specs.declared.choices.Choice.{Choice}
-use Rattle.dsr_repairing.specs.Images.{IsFree, IsImageOf}
+use Rattle.dsr_repairing.specs.Images.{IsFree, IsImageOf, IsOfHead}
 use Rattle.dsr_repairing.specs.Turns.{IsDueStep}
 use Rattle.dsr_stepped.proofs.Items.{all_of}
 use Rattle.dsr_stepping.specs.Steps.{CanStep, CanWrite, IsSlot}
@@ -147,3 +147,6 @@ module _ (spec : Spec) (choice : Choice) (layout : Layout) (bytes : List ℕ) (s
 
   pub writes_free : All (IsFree spec) update.writes
   writes_free = all_of (IsFree spec) update.writes (λ write is_in. (made write is_in).1)
+
+  pub writes_of_head : All (IsOfHead spec step.elem) update.writes
+  writes_of_head = all_of (IsOfHead spec step.elem) update.writes (λ write is_in. (made write is_in).2)

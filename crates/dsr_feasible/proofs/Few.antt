@@ -30,17 +30,17 @@ picked_few : {X Y : Type 0} (f : X → Option Y) (xs : List X) → length (filte
 picked_few f [] = omega arith
 picked_few f (x ∷ xs) = one_more (f x) (filter_map f xs) (length xs) (picked_few f xs)
 
-one_or_none : (t : Bool) (k : ℕ) (rule : Rule) → length (if t then (k, rule) ∷ [] else []) ≤ 1
+one_or_none : (t : Bool) (k : ℕ) (rule : Rule) → length {A = ℕ × Rule} (if t then (k, rule) ∷ [] else []) ≤ 1
 one_or_none true k rule = omega arith
 one_or_none false k rule = omega arith
 
 givers_from : (symbol : Symbol) (k : ℕ) (rules : List Rule)
-    → length (each_at (λ k rule. if gives symbol rule.inc then (k, rule) ∷ [] else []) k rules) ≤ length rules
+    → length {A = ℕ × Rule} (each_at (λ k rule. if gives symbol rule.inc then (k, rule) ∷ [] else []) k rules) ≤ length rules
 givers_from symbol k [] = omega arith
 givers_from symbol k (rule ∷ rest) =
     let this = one_or_none (gives symbol rule.inc) k rule in
     let later = givers_from symbol (suc k) rest in
-    let both = length-append (if gives symbol rule.inc then (k, rule) ∷ [] else [])
+    let both = length-append {A = ℕ × Rule} (if gives symbol rule.inc then (k, rule) ∷ [] else [])
     (each_at (λ k rule. if gives symbol rule.inc then (k, rule) ∷ [] else []) (suc k) rest) in
     omega (arith, this, later, both)
 

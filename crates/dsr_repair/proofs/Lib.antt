@@ -1,1 +1,2 @@
 pub mod RunOn
+pub mod Steps

@@ -1,22 +1,12 @@
 // Logs with the texts that are wanted of them.
-use dsr_ir::{Binding, Element, FieldRef, NoMemory, Path, Seq, Spec};
-use dsr_read::specification;
+use dsr_ir::{
+    Binding, Constraint, Element, Expr, Field, FieldRef, Kind, Name, NoMemory, Order, Path, Pool,
+    Quant, Seq, Spec, Structure, Structures, Width,
+};
 use dsr_repairing::{ByteChange, CellSet, Entry};
 use dsr_report::{Log, push_entries, text};
 use std::alloc::Global;
 use std::test::Fail;
-
-const SPEC: &[u8] = b"version 1; order little;
-structure Head { u8 flags[4]; }
-structure Rec { u8 value; u8 next -> recs; }
-pool recs : Rec[2] at 4 codes 1 step 1 none 0;
-set All of recs;
-relation Next : recs -> recs;
-rule head, k in pool recs => recs[k] in All;
-rule x in All => <x, x.next> in Next;
-constraint filled : size(All) >= 1;
-constraint single : forall <x, y> in Next : size(Next.y) <= 1;
-";
 
 const UPDATES: &str = "update 1 filled - 1.2 3\n  \
       reset recs[1]\n  \
@@ -80,6 +70,103 @@ const BYTES: [ByteChange; 2] = [
     },
 ];
 
+fn name(alloc: Global, text: &[u8]) -> Result<Name, NoMemory> {
+    Ok(Name::new(Vec::from_slice(alloc, text)?))
+}
+
+fn one<T: Drop>(alloc: Global, item: T) -> Result<Seq<T>, NoMemory> {
+    let mut items = Vec::new(alloc);
+    items.push(item)?;
+    Ok(Seq::new(items))
+}
+
+fn two<T: Drop>(alloc: Global, first: T, second: T) -> Result<Seq<T>, NoMemory> {
+    let mut items = Vec::new(alloc);
+    items.push(first)?;
+    items.push(second)?;
+    Ok(Seq::new(items))
+}
+
+// A structure with a field of one byte, or with an array of so many.
+fn structure(
+    alloc: Global,
+    called: &[u8],
+    field: &[u8],
+    len: Option<Expr>,
+) -> Result<Structure, NoMemory> {
+    let field = name(alloc, field)?;
+    let fields = one(
+        alloc,
+        Field {
+            name: field,
+            fixed: false,
+            width: Width::U8,
+            len,
+            kind: Kind::Number { init: 0 },
+        },
+    )?;
+    Ok(Structure {
+        name: name(alloc, called)?,
+        parent: None,
+        fields,
+    })
+}
+
+fn pools(alloc: Global) -> Result<Seq<Pool>, NoMemory> {
+    let name = name(alloc, b"recs")?;
+    one(
+        alloc,
+        Pool {
+            name,
+            structure: 1,
+            count: Expr::number(2),
+            slot: None,
+            start: Expr::number(4),
+            code: Expr::number(1),
+            step: Expr::number(1),
+            none: Expr::number(0),
+            avoid: None,
+        },
+    )
+}
+
+fn structures(alloc: Global) -> Result<Structures, NoMemory> {
+    let head = structure(alloc, b"Head", b"flags", Some(Expr::number(4)))?;
+    let rec = structure(alloc, b"Rec", b"value", None)?;
+    let structures = two(alloc, head, rec)?;
+    let pools = pools(alloc)?;
+    Ok(Structures {
+        version: 1,
+        order: Order::Little,
+        head: 0,
+        structures,
+        pools,
+        sets: Seq::new(Vec::new(alloc)),
+        rels: Seq::new(Vec::new(alloc)),
+    })
+}
+
+fn constraint(alloc: Global, called: &[u8]) -> Result<Constraint, NoMemory> {
+    Ok(Constraint {
+        name: name(alloc, called)?,
+        quant: Quant::Once,
+        conjs: Seq::new(Vec::new(alloc)),
+    })
+}
+
+// The names of a specification, of which a text tells nothing else.
+fn names(alloc: Global) -> Result<Spec, NoMemory> {
+    let base = structures(alloc)?;
+    let filled = constraint(alloc, b"filled")?;
+    let single = constraint(alloc, b"single")?;
+    let constraints = two(alloc, filled, single)?;
+    Ok(Spec {
+        base,
+        rules: Seq::new(Vec::new(alloc)),
+        constraints,
+    })
+}
+
 fn first_entry(alloc: Global) -> Result<Entry, NoMemory> {
     let sets = Seq::new(Vec::from_slice(alloc, &SETS)?);
     let bytes = Seq::new(Vec::from_slice(alloc, &BYTES)?);
@@ -124,28 +211,20 @@ struct Told {
     report: Vec<u8>,
 }
 
-fn told_under(alloc: Global, spec: &Spec) -> Result<Told, NoMemory> {
+// One function has all that is dropped, so that no test has a specification or a log alive.
+fn both_told(alloc: Global) -> Result<Told, NoMemory> {
+    let spec = names(alloc)?;
     let log = two_entries(alloc)?;
     let mut entries = Vec::new(alloc);
-    push_entries(&mut entries, spec, log.entries())?;
-    let report = text(alloc, spec, &log)?;
+    push_entries(&mut entries, &spec, log.entries())?;
+    let report = text(alloc, &spec, &log)?;
     Ok(Told { entries, report })
-}
-
-// One function has all that is dropped, so that no test has a specification or a log alive.
-fn both_told(alloc: Global) -> Result<Option<Told>, NoMemory> {
-    match specification(alloc, SPEC)? {
-        Some(spec) => Ok(Some(told_under(alloc, &spec)?)),
-        None => Ok(None),
-    }
 }
 
 #[test]
 fn entries_are_told(rt: HostRuntime) -> Result<(), Fail> {
     let alloc = rt.alloc();
-    let Some(told) = both_told(alloc)? else {
-        return Err(Fail::new("the text means no specification"));
-    };
+    let told = both_told(alloc)?;
     assert_eq!(rt; told.entries.as_slice(), UPDATES.as_bytes());
     let report = format!(in alloc; "{UPDATES}{LAST}")?;
     assert_eq!(rt; told.report.as_slice(), report.as_bytes());

@@ -9,9 +9,10 @@ use Rattle.dsr_meaning.specs.Consistency.{AreViolations, BoundConstraint}
 use Rattle.dsr_meaning.specs.Models.{IsFact}
 use Rattle.dsr_meaning.specs.Refusals.{IsLayoutOf, Refusal, first_of, refusals}
 use Rattle.dsr_script.specs.Moves.{shown}
+use Rattle.dsr_script.specs.Scripts.{Answer}
 use Rattle.dsr_script.specs.declared.moves.Told.{Told}
 use Rattle.dsr_check.specs.Checked.{IsCheckAnswer}
-use Rattle.dsr_check.specs.Checked.IsCheckAnswer.{checked, refused}
+use Rattle.dsr_check.specs.Checked.IsCheckAnswer.{checked}
 use Rattle.dsr_answers.specs.Texts.{layout_answer, verdict_answer}
 
 -- the first refusal is there, and is told as the fault
@@ -21,19 +22,20 @@ first_told :
 first_told None fault is = absurd cc
 first_told (Some refusal) fault is = (refusal, refl, ap (λ o. unwrap_or o fault) is)
 
--- a fault that tells the first refusal, told
+-- a fault that tells the first refusal, told: the answer is whatever the answers to first refusals are
 pub refused_answer :
-    {E : Type 0} (spec : Spec) (image : List ℕ) (fault : LayoutFault) (answer : Result Told E)
-    → Tells (refusals spec image) fault
+    {E : Type 0} (spec : Spec) (image : List ℕ) (fault : LayoutFault) (Fits : Answer → Type 0)
+    → ((refusal : Refusal) → first_of (refusals spec image) ≡ Some refusal → Fits (layout_answer spec refusal))
+    → (answer : Result Told E) → Tells (refusals spec image) fault
     → IfOk answer
     (λ told. (refusal : Refusal) → told_as refusal ≡ fault → shown told ≡ layout_answer spec refusal)
     → IfOk answer (λ _. fault ≢ faults.NoMemory)
-    → IfOk answer (λ told. IsCheckAnswer spec image (shown told))
-refused_answer spec image fault (Err e) tells told known = tt
-refused_answer spec image fault (Ok answer) (inl none) told known = absurd (known none)
-refused_answer spec image fault (Ok answer) (inr is) told known =
+    → IfOk answer (λ told. Fits (shown told))
+refused_answer spec image fault Fits fits (Err e) tells told known = tt
+refused_answer spec image fault Fits fits (Ok answer) (inl none) told known = absurd (known none)
+refused_answer spec image fault Fits fits (Ok answer) (inr is) told known =
     let first = first_told (first_of (refusals spec image)) fault is in
-    subst (IsCheckAnswer spec image) (sym (told first.0 first.2)) (refused first.0 first.1)
+    subst Fits (sym (told first.0 first.2)) (fits first.0 first.1)
 
 -- the verdict by the violated bindings, told
 pub checked_answer :

@@ -18,8 +18,8 @@ use dsr_script::Told;
 use dsr_truth::violations;
 use std::alloc::Global;
 
-// The violated bindings of an image that has a layout.
-fn violations_of(
+/// The violated bindings of an image that has a layout.
+pub fn violations_of(
     alloc: Global,
     spec: &Spec,
     layout: &Layout,

@@ -2,5 +2,9 @@
 #![tactic(auto)]
 
 mod repairs;
+mod runs;
+mod texts;
 
 pub use repairs::{Repaired, repair};
+pub use runs::{Run, repair_whole};
+pub use texts::{need_told, report_told};

@@ -3,8 +3,14 @@ ghost use Rattle.std.specs.Prelude.{◌≤◌, IfOk, length};
 ghost use Rattle.dsr_meaning.specs.Typed.{IsTyped};
 ghost use Rattle.dsr_repaired.specs.Repaired.{IsRepairOf, ending_of};
 
+use crate::runs::repair_whole;
+use crate::texts::{need_told, report_told};
+use dsr_answers::layout_refused;
+use dsr_image::Whole;
 use dsr_ir::NoMemory;
+use dsr_layout::layout;
 use dsr_planning::Plan;
+use dsr_repairing::Outcome;
 use dsr_script::Told;
 use std::alloc::Global;
 
@@ -23,6 +29,17 @@ pub fn repair(alloc: Global, plan: &Plan, image: Vec<u8>) -> Result<Repaired, No
     requires small { length image.items ≤ 67108864 }
     ensures { IfOk result (λ r. IsRepairOf plan.now.0 plan.now.1 image.items (ending_of r)) }
 {
-    let _ = (alloc, plan, image);
-    Err(NoMemory)
+    let spec = plan.spec();
+    let layout = match layout(alloc, spec, &image) {
+        Ok(layout) => layout,
+        Err(fault) => return Ok(Repaired::Unsaved(layout_refused(alloc, spec, fault)?)),
+    };
+    let run = repair_whole(alloc, plan, &layout, Whole::new(image))?;
+    match run.outcome {
+        Outcome::Consistent => {
+            let told = report_told(alloc, spec, &run.log)?;
+            Ok(Repaired::Saved(run.image.into_bytes(), told))
+        }
+        Outcome::Empty(need) => Ok(Repaired::Unsaved(need_told(alloc, spec, &run.log, &need)?)),
+    }
 }

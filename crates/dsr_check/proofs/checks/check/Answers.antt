@@ -8,6 +8,8 @@ use Rattle.dsr_script.specs.Moves.{shown}
 use Rattle.dsr_answers.specs.Texts.{verdict_answer}
 use Rattle.dsr_meaning.specs.Consistency.{bound_constraint}
 use Rattle.dsr_check.proofs.Answered.{checked_answer, refused_answer}
+use Rattle.dsr_check.specs.Checked.{IsCheckAnswer}
+use Rattle.dsr_check.specs.Checked.IsCheckAnswer.{refused}
 use Rattle.dsr_check.proofs.checks.check.Goals as goal
 
 pub layout-requires-clause-placeable : goal.layout-requires-clause-placeable
@@ -15,7 +17,7 @@ layout-requires-clause-placeable c = spec_placeable c.args.spec.now c.requires.t
 
 pub returns-in-Err : goal.returns-in-Err
 returns-in-Err c =
-    refused_answer c.args.spec.now c.args.image.items c.in-Err.fault c.layout_refused.result
+    refused_answer c.args.spec.now c.args.image.items c.in-Err.fault (IsCheckAnswer c.args.spec.now c.args.image.items) refused c.layout_refused.result
     (subst (λ bytes. Tells (refusals c.args.spec.now bytes) c.in-Err.fault)
     c.deref.ensures.value c.in-Err.ensures.refused)
     c.layout_refused.ensures.told c.layout_refused.ensures.known

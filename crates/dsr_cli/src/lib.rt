@@ -2,8 +2,6 @@
 #![tactic(auto)]
 
 mod program;
-mod waiting;
-mod words;
 
 pub use dsr_script::{Status, Verdict};
 pub use program::run;

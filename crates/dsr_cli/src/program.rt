@@ -1,12 +1,15 @@
 // The whole program, over any shelf and any output.
 ghost use Rattle.std.specs.Prelude.{map, string_bytes};
-ghost use Rattle.dsr_cli.specs.Commands.{asked};
-ghost use Rattle.dsr_cli.specs.Headlines.{CertifiesNothingElse, CertifiesPlans, ChecksImages, ChecksNothingElse, FindsNothingElse, FindsPlans, PrintsTexts, VerifiesCertificates, VerifiesNothingElse};
+ghost use Rattle.dsr_asking.specs.Commands.{asked};
+ghost use Rattle.dsr_headlines.specs.Headlines.{ChecksImages, ChecksNothingElse, PrintsTexts};
+ghost use Rattle.dsr_plan_headlines.specs.Headlines.{CertifiesNothingElse, CertifiesPlans, FindsNothingElse, FindsPlans, VerifiesCertificates, VerifiesNothingElse};
 ghost use Rattle.dsr_script.specs.Causes.{Causes};
 ghost use Rattle.dsr_script.specs.Outside.{told_by};
 ghost use Rattle.dsr_script.specs.Runs.{Runs};
 
-use crate::waiting::Waiting;
+use dsr_commands::Waiting;
+use dsr_headlines::{images_are_checked, texts_are_printed};
+use dsr_plan_headlines::{certificates_are_verified, plans_are_certified, plans_are_found};
 use dsr_script::Status;
 use dsr_store::{Shelf, Sink};
 use std::alloc::Global;
@@ -42,5 +45,10 @@ pub fn run<F: Shelf, O: Sink>(
     ensures texts { PrintsTexts (map string_bytes words.now.items)
         (told_by F.Shelf O.Sink shelf.old out.old) (told_by F.Shelf O.Sink shelf.new out.new) result }
 {
+    images_are_checked();
+    texts_are_printed();
+    plans_are_found();
+    plans_are_certified();
+    certificates_are_verified();
     dsr_script::run::<Waiting, F, O>(alloc, words, shelf, out)
 }

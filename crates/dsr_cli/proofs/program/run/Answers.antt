@@ -1,7 +1,6 @@
 use Rattle.std.proofs.Common.{map, subst}
 use Rattle.std.specs.String.{string_bytes}
-use Rattle.dsr_cli.proofs.Headed.{certifies_nothing_else, certifies_plans, checks_images, checks_nothing_else, finds_nothing_else, finds_plans, prints_texts, verifies_certificates, verifies_nothing_else}
-use Rattle.dsr_cli.specs.Commands.{asked}
+use Rattle.dsr_asking.specs.Commands.{asked}
 use Rattle.dsr_script.specs.Causes.{Causes}
 use Rattle.dsr_script.specs.Outside.{told_by}
 use Rattle.dsr_script.specs.Runs.{Runs}
@@ -15,7 +14,7 @@ returns-clause-causes g c =
 
 pub returns-clause-images : goal.returns-clause-images
 returns-clause-images g c =
-    checks_images (map string_bytes c.args.words.now.items) (told_by g.F.Shelf g.O.Sink c.args.shelf.now c.args.out.now)
+    c.images_are_checked.ensures.images (map string_bytes c.args.words.now.items) (told_by g.F.Shelf g.O.Sink c.args.shelf.now c.args.out.now)
     (told_by g.F.Shelf g.O.Sink c.run.new.shelf c.run.new.out) c.run.result
     (subst (λ ws. Runs (asked (map string_bytes ws)) (told_by g.F.Shelf g.O.Sink c.args.shelf.now c.args.out.now)
     (told_by g.F.Shelf g.O.Sink c.run.new.shelf c.run.new.out) c.run.result)
@@ -23,15 +22,7 @@ returns-clause-images g c =
 
 pub returns-clause-nothing_else : goal.returns-clause-nothing_else
 returns-clause-nothing_else g c =
-    checks_nothing_else (map string_bytes c.args.words.now.items) (told_by g.F.Shelf g.O.Sink c.args.shelf.now c.args.out.now)
-    (told_by g.F.Shelf g.O.Sink c.run.new.shelf c.run.new.out) c.run.result
-    (subst (λ ws. Runs (asked (map string_bytes ws)) (told_by g.F.Shelf g.O.Sink c.args.shelf.now c.args.out.now)
-    (told_by g.F.Shelf g.O.Sink c.run.new.shelf c.run.new.out) c.run.result)
-    c.deref.ensures.value c.run.ensures.runs)
-
-pub returns-clause-texts : goal.returns-clause-texts
-returns-clause-texts g c =
-    prints_texts (map string_bytes c.args.words.now.items) (told_by g.F.Shelf g.O.Sink c.args.shelf.now c.args.out.now)
+    c.images_are_checked.ensures.nothing_else (map string_bytes c.args.words.now.items) (told_by g.F.Shelf g.O.Sink c.args.shelf.now c.args.out.now)
     (told_by g.F.Shelf g.O.Sink c.run.new.shelf c.run.new.out) c.run.result
     (subst (λ ws. Runs (asked (map string_bytes ws)) (told_by g.F.Shelf g.O.Sink c.args.shelf.now c.args.out.now)
     (told_by g.F.Shelf g.O.Sink c.run.new.shelf c.run.new.out) c.run.result)
@@ -39,7 +30,7 @@ returns-clause-texts g c =
 
 pub returns-clause-plans : goal.returns-clause-plans
 returns-clause-plans g c =
-    finds_plans (map string_bytes c.args.words.now.items) (told_by g.F.Shelf g.O.Sink c.args.shelf.now c.args.out.now)
+    c.plans_are_found.ensures.plans (map string_bytes c.args.words.now.items) (told_by g.F.Shelf g.O.Sink c.args.shelf.now c.args.out.now)
     (told_by g.F.Shelf g.O.Sink c.run.new.shelf c.run.new.out) c.run.result
     (subst (λ ws. Runs (asked (map string_bytes ws)) (told_by g.F.Shelf g.O.Sink c.args.shelf.now c.args.out.now)
     (told_by g.F.Shelf g.O.Sink c.run.new.shelf c.run.new.out) c.run.result)
@@ -47,7 +38,7 @@ returns-clause-plans g c =
 
 pub returns-clause-no_other_plans : goal.returns-clause-no_other_plans
 returns-clause-no_other_plans g c =
-    finds_nothing_else (map string_bytes c.args.words.now.items) (told_by g.F.Shelf g.O.Sink c.args.shelf.now c.args.out.now)
+    c.plans_are_found.ensures.nothing_else (map string_bytes c.args.words.now.items) (told_by g.F.Shelf g.O.Sink c.args.shelf.now c.args.out.now)
     (told_by g.F.Shelf g.O.Sink c.run.new.shelf c.run.new.out) c.run.result
     (subst (λ ws. Runs (asked (map string_bytes ws)) (told_by g.F.Shelf g.O.Sink c.args.shelf.now c.args.out.now)
     (told_by g.F.Shelf g.O.Sink c.run.new.shelf c.run.new.out) c.run.result)
@@ -55,7 +46,7 @@ returns-clause-no_other_plans g c =
 
 pub returns-clause-certificates : goal.returns-clause-certificates
 returns-clause-certificates g c =
-    certifies_plans (map string_bytes c.args.words.now.items) (told_by g.F.Shelf g.O.Sink c.args.shelf.now c.args.out.now)
+    c.plans_are_certified.ensures.certificates (map string_bytes c.args.words.now.items) (told_by g.F.Shelf g.O.Sink c.args.shelf.now c.args.out.now)
     (told_by g.F.Shelf g.O.Sink c.run.new.shelf c.run.new.out) c.run.result
     (subst (λ ws. Runs (asked (map string_bytes ws)) (told_by g.F.Shelf g.O.Sink c.args.shelf.now c.args.out.now)
     (told_by g.F.Shelf g.O.Sink c.run.new.shelf c.run.new.out) c.run.result)
@@ -63,7 +54,7 @@ returns-clause-certificates g c =
 
 pub returns-clause-no_other_certificates : goal.returns-clause-no_other_certificates
 returns-clause-no_other_certificates g c =
-    certifies_nothing_else (map string_bytes c.args.words.now.items) (told_by g.F.Shelf g.O.Sink c.args.shelf.now c.args.out.now)
+    c.plans_are_certified.ensures.nothing_else (map string_bytes c.args.words.now.items) (told_by g.F.Shelf g.O.Sink c.args.shelf.now c.args.out.now)
     (told_by g.F.Shelf g.O.Sink c.run.new.shelf c.run.new.out) c.run.result
     (subst (λ ws. Runs (asked (map string_bytes ws)) (told_by g.F.Shelf g.O.Sink c.args.shelf.now c.args.out.now)
     (told_by g.F.Shelf g.O.Sink c.run.new.shelf c.run.new.out) c.run.result)
@@ -71,7 +62,7 @@ returns-clause-no_other_certificates g c =
 
 pub returns-clause-verified : goal.returns-clause-verified
 returns-clause-verified g c =
-    verifies_certificates (map string_bytes c.args.words.now.items) (told_by g.F.Shelf g.O.Sink c.args.shelf.now c.args.out.now)
+    c.certificates_are_verified.ensures.verified (map string_bytes c.args.words.now.items) (told_by g.F.Shelf g.O.Sink c.args.shelf.now c.args.out.now)
     (told_by g.F.Shelf g.O.Sink c.run.new.shelf c.run.new.out) c.run.result
     (subst (λ ws. Runs (asked (map string_bytes ws)) (told_by g.F.Shelf g.O.Sink c.args.shelf.now c.args.out.now)
     (told_by g.F.Shelf g.O.Sink c.run.new.shelf c.run.new.out) c.run.result)
@@ -79,7 +70,15 @@ returns-clause-verified g c =
 
 pub returns-clause-no_others_verified : goal.returns-clause-no_others_verified
 returns-clause-no_others_verified g c =
-    verifies_nothing_else (map string_bytes c.args.words.now.items) (told_by g.F.Shelf g.O.Sink c.args.shelf.now c.args.out.now)
+    c.certificates_are_verified.ensures.nothing_else (map string_bytes c.args.words.now.items) (told_by g.F.Shelf g.O.Sink c.args.shelf.now c.args.out.now)
+    (told_by g.F.Shelf g.O.Sink c.run.new.shelf c.run.new.out) c.run.result
+    (subst (λ ws. Runs (asked (map string_bytes ws)) (told_by g.F.Shelf g.O.Sink c.args.shelf.now c.args.out.now)
+    (told_by g.F.Shelf g.O.Sink c.run.new.shelf c.run.new.out) c.run.result)
+    c.deref.ensures.value c.run.ensures.runs)
+
+pub returns-clause-texts : goal.returns-clause-texts
+returns-clause-texts g c =
+    c.texts_are_printed.ensures (map string_bytes c.args.words.now.items) (told_by g.F.Shelf g.O.Sink c.args.shelf.now c.args.out.now)
     (told_by g.F.Shelf g.O.Sink c.run.new.shelf c.run.new.out) c.run.result
     (subst (λ ws. Runs (asked (map string_bytes ws)) (told_by g.F.Shelf g.O.Sink c.args.shelf.now c.args.out.now)
     (told_by g.F.Shelf g.O.Sink c.run.new.shelf c.run.new.out) c.run.result)

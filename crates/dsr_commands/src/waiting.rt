@@ -1,0 +1,257 @@
+// Commands that wait for a file.
+ghost use Rattle.std.specs.Prelude.{◌≡◌, ◌≤◌, ◌+◌, IfOk, Some, length};
+ghost use Rattle.dsr_asking.specs.Commands as commands;
+ghost use Rattle.dsr_asking.specs.Commands.{certify_after, check_after, checks, plan_after, script_of, text_after, verifies, verify_after};
+ghost use Rattle.dsr_commands.specs.Asking.{asked_of};
+ghost use Rattle.dsr_commands.specs.Stages.{due, is_ready, left};
+ghost use Rattle.dsr_meaning.specs.Typed.{IsTyped};
+ghost use Rattle.dsr_script.specs.Moves.{Follows, IsReady, loads_of};
+
+use crate::words::{Command, command_of};
+use dsr_answers::told;
+use dsr_certify::{Certified, certify, verify};
+use dsr_check::check;
+use dsr_ir::{NoMemory, Spec};
+use dsr_parse::print;
+use dsr_plan::plan;
+use dsr_reading::{Reading, read};
+use dsr_script::{Commands, Move, Stage, Told, Verdict};
+use std::alloc::{AllocError, Global};
+
+/// The most bytes of a specification's text.
+const SPEC_LIMIT: u32 = 65_536;
+
+/// The most bytes of a certificate.
+const CERTIFICATE_LIMIT: u32 = 1_048_576;
+
+/// A command that waits for a file.
+#[derive(Drop)]
+pub enum Waiting<'a> {
+    /// `text`, for the text of the specification.
+    Text,
+    /// `plan`, for the text of the specification.
+    Plan,
+    /// `check`, for the text of the specification; then comes the image of this name.
+    Check(&'a str),
+    /// `check`, for the image, with the specification that the text means.
+    Image(Spec),
+    /// `certify`, for the text of the specification; then the certificate is saved under this name.
+    Certify(&'a str),
+    /// `verify`, for the text of the specification; then comes the certificate of this name.
+    Verify(&'a str),
+    /// `verify`, for the certificate, with the specification that the text means.
+    Certificate(Spec),
+}
+
+// The most bytes of an image.
+fn image_limit(spec: &Spec) -> u32
+    ensures is { result ≡ commands.image_limit spec.now }
+    ensures most { result ≤ 67108864 }
+{
+    if spec.base.version == 2 {
+        67_108_864
+    } else {
+        4_194_304
+    }
+}
+
+// `text` goes on with the text.
+fn tell_text<'a>(alloc: Global, text: &[u8]) -> Result<Move<'a, Waiting<'a>>, NoMemory>
+    ensures ready { IfOk result (λ move. IsReady is_ready move) }
+    ensures follows { IfOk result (λ move. Follows due (text_after text.now) move) }
+    ensures fewer { IfOk result (λ move. loads_of left move ≤ 0) }
+{
+    match read(alloc, text)? {
+        Reading::Means(tree, _) => Ok(Move::Tell(Told {
+            verdict: Verdict::Ok,
+            text: print(alloc, &tree)?,
+        })),
+        Reading::Refused(told) => Ok(Move::Tell(told)),
+    }
+}
+
+// `plan` goes on with the text.
+fn tell_plan<'a>(alloc: Global, text: &[u8]) -> Result<Move<'a, Waiting<'a>>, NoMemory>
+    ensures ready { IfOk result (λ move. IsReady is_ready move) }
+    ensures follows { IfOk result (λ move. Follows due (plan_after text.now) move) }
+    ensures fewer { IfOk result (λ move. loads_of left move ≤ 0) }
+{
+    match read(alloc, text)? {
+        Reading::Means(_, spec) => Ok(Move::Tell(plan(alloc, &spec)?)),
+        Reading::Refused(told) => Ok(Move::Tell(told)),
+    }
+}
+
+// `certify` goes on with the text.
+fn save_certificate<'a>(
+    alloc: Global,
+    text: &[u8],
+    certificate: &'a str,
+) -> Result<Move<'a, Waiting<'a>>, NoMemory>
+    ensures ready { IfOk result (λ move. IsReady is_ready move) }
+    ensures follows { IfOk result (λ move. Follows due (certify_after certificate.now text.now) move) }
+    ensures fewer { IfOk result (λ move. loads_of left move ≤ 0) }
+{
+    let spec = match read(alloc, text)? {
+        Reading::Means(_, spec) => spec,
+        Reading::Refused(told) => return Ok(Move::Tell(told)),
+    };
+    match certify(alloc, &spec)? {
+        Certified::Certificate(bytes, told) => Ok(Move::Save {
+            name: certificate,
+            bytes,
+            told,
+        }),
+        Certified::Unplanned(told) => Ok(Move::Tell(told)),
+    }
+}
+
+// `verify` goes on with the text.
+fn load_certificate<'a>(
+    alloc: Global,
+    text: &[u8],
+    certificate: &'a str,
+) -> Result<Move<'a, Waiting<'a>>, NoMemory>
+    ensures ready { IfOk result (λ move. IsReady is_ready move) }
+    ensures follows { IfOk result (λ move. Follows due (verify_after certificate.now text.now) move) }
+    ensures fewer { IfOk result (λ move. loads_of left move ≤ 1) }
+{
+    match read(alloc, text)? {
+        Reading::Means(_, spec) => Ok(Move::Load {
+            name: certificate,
+            limit: CERTIFICATE_LIMIT,
+            long: b"too long certificate\n",
+            stage: Waiting::Certificate(spec),
+        }),
+        Reading::Refused(told) => Ok(Move::Tell(told)),
+    }
+}
+
+// `verify` goes on with the certificate.
+fn tell_verify<'a>(
+    alloc: Global,
+    spec: &Spec,
+    certificate: &[u8],
+) -> Result<Move<'a, Waiting<'a>>, NoMemory>
+    requires typed { IsTyped spec.now }
+    ensures ready { IfOk result (λ move. IsReady is_ready move) }
+    ensures follows { IfOk result (λ move. Follows due (verifies spec.now certificate.now) move) }
+    ensures fewer { IfOk result (λ move. loads_of left move ≤ 0) }
+{
+    Ok(Move::Tell(verify(alloc, spec, certificate)?))
+}
+
+// `check` goes on with the text.
+fn load_image<'a>(
+    alloc: Global,
+    text: &[u8],
+    image: &'a str,
+) -> Result<Move<'a, Waiting<'a>>, NoMemory>
+    ensures ready { IfOk result (λ move. IsReady is_ready move) }
+    ensures follows { IfOk result (λ move. Follows due (check_after image.now text.now) move) }
+    ensures fewer { IfOk result (λ move. loads_of left move ≤ 1) }
+{
+    match read(alloc, text)? {
+        Reading::Means(_, spec) => Ok(Move::Load {
+            name: image,
+            limit: image_limit(&spec),
+            long: b"too long image\n",
+            stage: Waiting::Image(spec),
+        }),
+        Reading::Refused(told) => Ok(Move::Tell(told)),
+    }
+}
+
+// `check` goes on with the image.
+fn tell_check<'a>(
+    alloc: Global,
+    spec: &Spec,
+    image: Vec<u8>,
+) -> Result<Move<'a, Waiting<'a>>, NoMemory>
+    requires typed { IsTyped spec.now }
+    requires small { length image.items ≤ 67108864 }
+    ensures ready { IfOk result (λ move. IsReady is_ready move) }
+    ensures follows { IfOk result (λ move. Follows due (checks spec.now image.items) move) }
+    ensures fewer { IfOk result (λ move. loads_of left move ≤ 0) }
+{
+    Ok(Move::Tell(check(alloc, spec, image)?))
+}
+
+impl<'a> Stage<'a> for Waiting<'a> {
+    ghost use Rattle.dsr_commands.specs.Stages as stages;
+
+    ghost due = { λ stage bytes came next. stages.due stage bytes came next };
+
+    ghost left = { λ stage. stages.left stage };
+
+    ghost ready = { λ stage bytes. stages.is_ready stage bytes };
+
+    fn go_on(self, alloc: Global, bytes: Vec<u8>) -> Result<Move<'a, Self>, AllocError> {
+        match self {
+            Waiting::Text => match tell_text(alloc, &bytes) {
+                Ok(next) => Ok(next),
+                Err(NoMemory) => Err(AllocError),
+            },
+            Waiting::Plan => match tell_plan(alloc, &bytes) {
+                Ok(next) => Ok(next),
+                Err(NoMemory) => Err(AllocError),
+            },
+            Waiting::Check(image) => match load_image(alloc, &bytes, image) {
+                Ok(next) => Ok(next),
+                Err(NoMemory) => Err(AllocError),
+            },
+            Waiting::Image(spec) => match tell_check(alloc, &spec, bytes) {
+                Ok(next) => Ok(next),
+                Err(NoMemory) => Err(AllocError),
+            },
+            Waiting::Certify(certificate) => match save_certificate(alloc, &bytes, certificate) {
+                Ok(next) => Ok(next),
+                Err(NoMemory) => Err(AllocError),
+            },
+            Waiting::Verify(certificate) => match load_certificate(alloc, &bytes, certificate) {
+                Ok(next) => Ok(next),
+                Err(NoMemory) => Err(AllocError),
+            },
+            Waiting::Certificate(spec) => match tell_verify(alloc, &spec, &bytes) {
+                Ok(next) => Ok(next),
+                Err(NoMemory) => Err(AllocError),
+            },
+        }
+    }
+}
+
+// What a command does first: it loads the text of its specification.
+fn load_spec<'a>(command: Command<'a>) -> Move<'a, Waiting<'a>>
+    ensures ready { IsReady is_ready result }
+    ensures follows { Follows due (script_of (Some (asked_of command.entry))) result }
+{
+    let (spec, stage) = match command {
+        Command::Certify { spec, certificate } => (spec, Waiting::Certify(certificate)),
+        Command::Check { spec, image } => (spec, Waiting::Check(image)),
+        Command::Plan { spec } => (spec, Waiting::Plan),
+        Command::Text { spec } => (spec, Waiting::Text),
+        Command::Verify { spec, certificate } => (spec, Waiting::Verify(certificate)),
+    };
+    Move::Load {
+        name: spec,
+        limit: SPEC_LIMIT,
+        long: b"too long spec\n",
+        stage,
+    }
+}
+
+impl<'a> Commands<'a> for Waiting<'a> {
+    ghost use Rattle.dsr_asking.specs.Commands as commands;
+
+    ghost asked = { λ words came next. commands.asked words came next };
+
+    fn begin(alloc: Global, words: &'a [String]) -> Result<Move<'a, Self>, AllocError> {
+        match command_of(words) {
+            Some(command) => Ok(load_spec(command)),
+            None => match told(alloc, Verdict::Usage, b"usage\n") {
+                Ok(told) => Ok(Move::Tell(told)),
+                Err(NoMemory) => Err(AllocError),
+            },
+        }
+    }
+}

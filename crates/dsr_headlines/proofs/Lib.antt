@@ -1,0 +1,2 @@
+pub mod ImagesChecked
+pub mod TextsPrinted

@@ -1,0 +1,29 @@
+//! What a run says of images and texts, by the files that a shelf tells.
+//! Each law is the contract of a function that does nothing when it runs.
+#![tactic(auto)]
+
+ghost use Rattle.std.specs.Prelude.{ℕ, List};
+ghost use Rattle.dsr_asking.specs.Commands.{asked};
+ghost use Rattle.dsr_headlines.specs.Headlines.{ChecksImages, ChecksNothingElse, PrintsTexts};
+ghost use Rattle.dsr_script.specs.Outside.{Outside};
+ghost use Rattle.dsr_script.specs.Runs.{Runs};
+ghost use Rattle.dsr_script.specs.declared.status.Status.{Status};
+
+use dsr_one_meaning::texts_have_one_meaning;
+
+/// A `check` that speaks gives the verdict on the image; none is called consistent or inconsistent
+/// unless it was checked.
+pub fn images_are_checked()
+    ensures images { (words : List (List ℕ)) (before after : Outside) (status : Status)
+        → Runs (asked words) before after status → ChecksImages words before after status }
+    ensures nothing_else { (words : List (List ℕ)) (before after : Outside) (status : Status)
+        → Runs (asked words) before after status → ChecksNothingElse words before after status }
+{
+    texts_have_one_meaning();
+}
+
+/// A `text` prints the canonical text of the specification.
+pub fn texts_are_printed()
+    ensures { (words : List (List ℕ)) (before after : Outside) (status : Status)
+        → Runs (asked words) before after status → PrintsTexts words before after status }
+{}

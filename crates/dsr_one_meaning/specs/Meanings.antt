@@ -1,0 +1,13 @@
+-- How many meanings texts have.
+use Rattle.std.specs.Prelude.{◌≡◌, ℕ, List}
+use Rattle.dsr_answers.specs.Refused.{IsMeaning, IsRefused}
+use Rattle.dsr_script.specs.Scripts.{Answer}
+use Rattle.dsr_text.specs.Parsing.{IsTreeOf}
+use Rattle.dsr_tree.specs.Trees.{TreeShape}
+
+-- a text has one tree at most, and where it means something no answer refuses it
+pub record HaveOneMeaning : Type 0 where
+  pub unique :
+      (text : List ℕ) (tree other : TreeShape) → IsTreeOf text tree → IsTreeOf text other → tree ≡ other
+  pub not_refused :
+      (text : List ℕ) (tree : TreeShape) (answer : Answer) → IsMeaning text tree → IsRefused text answer → ⊥

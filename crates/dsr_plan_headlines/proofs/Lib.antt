@@ -1,0 +1,3 @@
+pub mod PlansFound
+pub mod PlansCertified
+pub mod CertificatesVerified

@@ -1,2 +1,2 @@
 pub mod RunOn
-pub mod Steps
+pub mod StepMade

@@ -13,10 +13,10 @@ use Rattle.dsr_repairing.specs.declared.turns.Turn.TheVariants as turns
 use Rattle.dsr_stepping.specs.declared.steps.Step.{Step}
 
 -- the layout is that of the image, and the model too
-pub record IsModelled (spec : Spec) (layout : Layout) (bytes : List ℕ) (model : ModelView) : Type 0 where
+pub record IsModelled (spec : Spec) (layout : Layout) (bytes : List ℕ) (view : ModelView) : Type 0 where
   pub image : IsImageOf spec layout bytes
-  pub prepared : IsPreparedFor spec layout model
-  pub model : IsModelOf spec layout bytes model
+  pub prepared : IsPreparedFor spec layout view
+  pub model : IsModelOf spec layout bytes view
 
 -- an entry was pushed, which tells the step that was made
 pub record IsLogged (spec : Spec) (choice : Choice) (layout : Layout) (old new : List ℕ) (before after : List Entry) : Type 0 where

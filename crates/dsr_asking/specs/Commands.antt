@@ -10,13 +10,16 @@ use Rattle.dsr_plan.specs.Planned.{IsPlanAnswer}
 use Rattle.dsr_plan.specs.Refusals.{refused_answer}
 use Rattle.dsr_plan.specs.declared.plans.Found as plans
 use Rattle.dsr_plan.specs.declared.plans.Found.TheVariants as plan_found
+use Rattle.dsr_planning.specs.declared.choices.Choice.{Choice}
+use Rattle.dsr_repaired.specs.Repaired.{Ending, IsRepairOf, Saves, Tells}
 use Rattle.dsr_script.specs.Scripts.{Answer, Script, loads, picks, saves, tells}
 use Rattle.dsr_script.specs.declared.status.Verdict.TheVariants as verdicts
+use Rattle.dsr_trial.specs.Trials.{IsTrial}
 use Rattle.dsr_text.specs.Canonical.{canonical}
 use Rattle.dsr_tree.specs.Trees.{TreeShape}
 use Rattle.dsr_typing.specs.Specifications.{specification}
 use Rattle.dsr_reading.specs.Readings.{Found, IsFound, Means, Refused}
-use Rattle.dsr_asking.specs.Words.{Asked, Certify, Check, Plan, Text, Verify, command_of}
+use Rattle.dsr_asking.specs.Words.{Asked, Certify, Check, Plan, Repair, Text, Trial, Verify, command_of}
 
 -- the most bytes of a specification's text
 abbrev pub spec_limit : ℕ
@@ -94,12 +97,35 @@ loads_certificate name spec =
 abbrev pub verify_after : List ℕ → List ℕ → Script
 verify_after certificate text = reads text (λ tree. loads_certificate certificate (specification tree))
 
+-- what comes of a repair is saved under the name, or told
+abbrev pub ends : List ℕ → Ending → Script
+ends out (Saves bytes answer) = saves out (λ saved told. (saved ≡ bytes) × (told ≡ answer))
+ends out (Tells answer) = tells (λ told. told ≡ answer)
+
+-- an image is repaired as was chosen
+abbrev pub repairs : List ℕ → Spec → Choice → List ℕ → Script
+repairs out spec choice image = picks (IsRepairOf spec choice image) (ends out)
+
+-- the image is loaded where there is a plan; where there is none, that is told
+abbrev pub loads_damaged : (image out : List ℕ) → Spec → plans.Found → Script
+loads_damaged image out spec (plan_found.Plan choice) =
+    loads image (image_limit spec) (codes "too long image\n") (repairs out spec choice)
+loads_damaged image out spec (plan_found.Stuck set) = tells (λ told. told ≡ refused_answer spec set)
+
+abbrev pub plans_repair : (image out : List ℕ) → Spec → Script
+plans_repair image out spec = picks (planned.IsFound spec) (loads_damaged image out spec)
+
+abbrev pub repair_after : (image out : List ℕ) → List ℕ → Script
+repair_after image out text = reads text (λ tree. plans_repair image out (specification tree))
+
 abbrev pub script_of : Option Asked → Script
 script_of None = tells (λ told. told ≡ usage)
 script_of (Some (Text spec)) = loads_spec spec text_after
 script_of (Some (Plan spec)) = loads_spec spec plan_after
 script_of (Some (Check spec image)) = loads_spec spec (check_after image)
 script_of (Some (Certify spec certificate)) = loads_spec spec (certify_after certificate)
+script_of (Some (Repair spec image out)) = loads_spec spec (repair_after image out)
+script_of (Some (Trial number)) = tells (IsTrial number)
 script_of (Some (Verify spec certificate)) = loads_spec spec (verify_after certificate)
 
 -- what the words ask for

@@ -1,6 +1,7 @@
 -- What the words of the command line ask for.
-use Rattle.std.specs.Prelude.{ℕ, List, [], ◌∷◌, Bool, true, ◌||◌, nat_eq, codes, Option, None, Some, if◌then◌else◌}
-use Rattle.std.specs.Str.{bytes_eq}
+use Rattle.std.specs.Prelude.{ℕ, List, [], ◌∷◌, length, Bool, true, ◌||◌, ◌&&◌, nat_eq, nat_le, nat_lt, codes, Option, None, Some, option_map, if◌then◌else◌}
+use Rattle.std.specs.Str.{all_ascii_digits, bytes_eq}
+use Rattle.std.specs.Str.Parse.{digits_value}
 
 -- a command, with the names of its files
 pub data Asked : Type 0 where
@@ -10,8 +11,12 @@ pub data Asked : Type 0 where
   Check : (spec image : List ℕ) → Asked
   -- the plan of a specification
   Plan : (spec : List ℕ) → Asked
+  -- a repair of an image under a specification, saved under the last name
+  Repair : (spec image out : List ℕ) → Asked
   -- the canonical text of a specification
   Text : (spec : List ℕ) → Asked
+  -- the trial of this number
+  Trial : (number : ℕ) → Asked
   -- whether a certificate is one of a plan of the specification
   Verify : (spec certificate : List ℕ) → Asked
 
@@ -20,11 +25,21 @@ abbrev pub is_odd : List ℕ → Bool
 is_odd [] = true
 is_odd (b ∷ bs) = nat_eq b 45
 
--- the commands with one name behind them
-abbrev pub with_one : (command spec : List ℕ) → Option Asked
-with_one command spec =
-    if bytes_eq command (codes "text") then Some (Text spec)
-    else if bytes_eq command (codes "plan") then Some (Plan spec)
+-- the number of a trial: one to five decimal digits write it, and 16 bits hold it
+abbrev pub trial_number : List ℕ → Option ℕ
+trial_number word =
+    if all_ascii_digits word && nat_le 1 (length word) && nat_le (length word) 5
+    && nat_lt (digits_value 10 word) 65536 then Some (digits_value 10 word) else None
+
+abbrev pub to_try : List ℕ → Option Asked
+to_try word = option_map Trial (trial_number word)
+
+-- the commands with one word behind them
+abbrev pub with_one : (command word : List ℕ) → Option Asked
+with_one command word =
+    if bytes_eq command (codes "text") then Some (Text word)
+    else if bytes_eq command (codes "plan") then Some (Plan word)
+    else if bytes_eq command (codes "trial") then to_try word
     else None
 
 -- what is saved has another name than the specification
@@ -39,10 +54,22 @@ with_two command spec file =
     else if bytes_eq command (codes "verify") then Some (Verify spec file)
     else None
 
+-- what is saved has another name than the specification, and may have that of the image
+abbrev pub to_repair : (spec image out : List ℕ) → Option Asked
+to_repair spec image out = if bytes_eq out spec then None else Some (Repair spec image out)
+
+-- the one with three
+abbrev pub with_three : (command spec image out : List ℕ) → Option Asked
+with_three command spec image out =
+    if bytes_eq command (codes "repair") then to_repair spec image out else None
+
 -- What the words ask for. None where they are no command: there is no word, the first one is none of the commands, not so
--- many names stand behind it as it takes, one of these is an odd word, or a certificate is to be saved over its specification.
+-- many words stand behind it as it takes, one of these is an odd word, something is to be saved over its specification, or
+-- there is no trial of the number.
 abbrev pub command_of : List (List ℕ) → Option Asked
-command_of (command ∷ spec ∷ []) = if is_odd spec then None else with_one command spec
+command_of (command ∷ word ∷ []) = if is_odd word then None else with_one command word
 command_of (command ∷ spec ∷ file ∷ []) =
     if is_odd spec || is_odd file then None else with_two command spec file
+command_of (command ∷ spec ∷ image ∷ out ∷ []) =
+    if is_odd spec || is_odd image || is_odd out then None else with_three command spec image out
 command_of _ = None

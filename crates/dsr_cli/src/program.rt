@@ -3,6 +3,7 @@ ghost use Rattle.std.specs.Prelude.{map, string_bytes};
 ghost use Rattle.dsr_asking.specs.Commands.{asked};
 ghost use Rattle.dsr_headlines.specs.Headlines.{ChecksImages, ChecksNothingElse, PrintsTexts};
 ghost use Rattle.dsr_plan_headlines.specs.Headlines.{CertifiesNothingElse, CertifiesPlans, FindsNothingElse, FindsPlans, VerifiesCertificates, VerifiesNothingElse};
+ghost use Rattle.dsr_repair_headlines.specs.Headlines.{RepairsImages, RepairsNothingElse, TellsTrials};
 ghost use Rattle.dsr_script.specs.Causes.{Causes};
 ghost use Rattle.dsr_script.specs.Outside.{told_by};
 ghost use Rattle.dsr_script.specs.Runs.{Runs};
@@ -10,6 +11,7 @@ ghost use Rattle.dsr_script.specs.Runs.{Runs};
 use dsr_commands::Waiting;
 use dsr_headlines::{images_are_checked, texts_are_printed};
 use dsr_plan_headlines::{certificates_are_verified, plans_are_certified, plans_are_found};
+use dsr_repair_headlines::{images_are_repaired, trials_are_told};
 use dsr_script::Status;
 use dsr_store::{Shelf, Sink};
 use std::alloc::Global;
@@ -44,11 +46,19 @@ pub fn run<F: Shelf, O: Sink>(
         (told_by F.Shelf O.Sink shelf.old out.old) (told_by F.Shelf O.Sink shelf.new out.new) result }
     ensures texts { PrintsTexts (map string_bytes words.now.items)
         (told_by F.Shelf O.Sink shelf.old out.old) (told_by F.Shelf O.Sink shelf.new out.new) result }
+    ensures repairs { RepairsImages (map string_bytes words.now.items)
+        (told_by F.Shelf O.Sink shelf.old out.old) (told_by F.Shelf O.Sink shelf.new out.new) result }
+    ensures no_other_repairs { RepairsNothingElse (map string_bytes words.now.items)
+        (told_by F.Shelf O.Sink shelf.old out.old) (told_by F.Shelf O.Sink shelf.new out.new) result }
+    ensures trials { TellsTrials (map string_bytes words.now.items)
+        (told_by F.Shelf O.Sink shelf.old out.old) (told_by F.Shelf O.Sink shelf.new out.new) result }
 {
     images_are_checked();
     texts_are_printed();
     plans_are_found();
     plans_are_certified();
     certificates_are_verified();
+    images_are_repaired();
+    trials_are_told();
     dsr_script::run::<Waiting, F, O>(alloc, words, shelf, out)
 }

@@ -203,6 +203,40 @@ fn text<'a>(spec: &'a [u8], status: Status, text: &'a str) -> Case<'a> {
     }
 }
 
+fn usage<'a>(words: &'a [&'a str]) -> Case<'a> {
+    Case {
+        spec: LIST,
+        image: &SOUND,
+        words,
+        status: USAGE,
+        text: "usage\n",
+    }
+}
+
+#[test]
+fn words_ask_for_no_repair_and_no_trial(rt: HostRuntime) -> Result<(), Fail> {
+    let cases = [
+        usage(&["repair", "s", "i"]),
+        usage(&["repair", "s", "i", "s"]),
+        usage(&["repair", "s", "s", "s"]),
+        usage(&["repair", "s", "i", ""]),
+        usage(&["repair", "s", "-i", "o"]),
+        usage(&["repair", "-s", "i", "o"]),
+        usage(&["repair", "s", "i", "o", "o"]),
+        usage(&["trial"]),
+        usage(&["trial", ""]),
+        usage(&["trial", "x"]),
+        usage(&["trial", "1x"]),
+        usage(&["trial", "+1"]),
+        usage(&["trial", "-1"]),
+        usage(&["trial", "65536"]),
+        usage(&["trial", "000001"]),
+        usage(&["trial", "1", "2"]),
+    ];
+    assert_eq!(rt; first_wrong(rt.alloc(), &cases)?, None);
+    Ok(())
+}
+
 const DECLARATIONS: &str = "version 1; order little;\n\
     structure Head { fixed u16 n; u16 count; u32 first -> nodes; }\n\
     structure Node { u32 value; u32 next -> nodes; }\n\

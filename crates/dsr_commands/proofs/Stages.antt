@@ -11,6 +11,11 @@ use Rattle.dsr_plan.specs.Refusals.{refused_answer}
 use Rattle.dsr_plan.specs.declared.plans.Found.TheVariants as plan_found
 use Rattle.dsr_planning.specs.Refusals.{HasNoPlan, IsStuckSet}
 use Rattle.dsr_planning.specs.Taken.{IsTaken}
+use Rattle.dsr_planning.specs.declared.choices.Choice.{Choice}
+use Rattle.dsr_planning.specs.declared.refusals.StuckSet.{StuckSet}
+use Rattle.dsr_repaired.specs.Repaired.{IsRepairOf, ending_of}
+use Rattle.dsr_repaired.specs.declared.repairs.Repaired.{Repaired}
+use Rattle.dsr_repaired.specs.declared.repairs.Repaired.TheVariants.{Saved, Unsaved}
 use Rattle.dsr_script.specs.Moves.{Allows}
 use Rattle.dsr_script.specs.Moves.{shown}
 use Rattle.dsr_script.specs.Scripts.{Answer, Load, Save, Tell}
@@ -18,7 +23,7 @@ use Rattle.dsr_script.specs.declared.status.Verdict.TheVariants as verdicts
 use Rattle.dsr_text.specs.Canonical.{canonical}
 use Rattle.dsr_tree.specs.Trees.{TreeShape}
 use Rattle.dsr_typing.specs.Specifications.{specification}
-use Rattle.dsr_asking.specs.Commands.{certificate_limit, certify_after, check_after, checks, image_limit, plan_after, text_after, verifies, verify_after}
+use Rattle.dsr_asking.specs.Commands.{certificate_limit, certify_after, check_after, checks, image_limit, plan_after, repair_after, repairs, text_after, verifies, verify_after}
 use Rattle.dsr_reading.specs.Readings.{Means, Refused}
 
 abbrev long : List ℕ
@@ -42,6 +47,9 @@ module _ (text : List ℕ) where
 
   pub check_refused : (image : List ℕ) (answer : Answer) → IsRefused text answer → check_after image text [] (Tell answer)
   check_refused image answer is = (Refused answer, is, (answer, refl, refl))
+
+  pub repair_refused : (image out : List ℕ) (answer : Answer) → IsRefused text answer → repair_after image out text [] (Tell answer)
+  repair_refused image out answer is = (Refused answer, is, (answer, refl, refl))
 
   module _ (tree : TreeShape) (means : IsMeaning text tree) where
     pub text_told : (answer : Answer) → answer ≡ record { verdict = verdicts.Ok; text = canonical tree }
@@ -100,3 +108,53 @@ module _ (text : List ℕ) where
           → Allows (verify_after certificate text) (record { name = certificate; limit = certificate_limit; long = too_long; bytes = bytes }) (verifies spec bytes)
       certificate_after bytes more next told =
           (Means tree, means, (refl, subst (λ s. verifies s bytes more next) spec_is told))
+
+    module _ (image out : List ℕ) (spec : Spec) (spec_is : spec ≡ specification tree) where
+      module _ (choice : Choice) (taken : IsTaken spec choice) (limit : ℕ) (limit_is : limit ≡ image_limit spec) where
+        pub damaged_due : repair_after image out text [] (Load image limit long)
+        damaged_due = (
+          Means tree,
+          means,
+          (
+            plan_found.Plan choice,
+            subst (λ s. IsTaken s choice) spec_is taken,
+            ap (λ n. Load image n long) (limit_is ∙ ap image_limit spec_is),
+          ),
+        )
+
+        pub damaged_after : (bytes : List ℕ)
+            → Allows (repair_after image out text) (record { name = image; limit = limit; long = long; bytes = bytes }) (repairs out spec choice bytes)
+        damaged_after bytes more next told = (
+          Means tree,
+          means,
+          (
+            plan_found.Plan choice,
+            subst (λ s. IsTaken s choice) spec_is taken,
+            (
+              ap (λ n. record { name = image; limit = n; long = long; bytes = bytes }) (limit_is ∙ ap image_limit spec_is),
+              subst (λ s. repairs out s choice bytes more next) spec_is told,
+            ),
+          ),
+        )
+
+      pub repair_unplanned : (set : StuckSet) → IsStuckSet spec set → HasNoPlan spec → (answer : Answer) → answer ≡ refused_answer spec set
+          → repair_after image out text [] (Tell answer)
+      repair_unplanned set stuck none answer is = (
+        Means tree,
+        means,
+        (
+          plan_found.Stuck set,
+          subst (λ s. IsStuckSet s set × HasNoPlan s) spec_is (stuck, none),
+          (answer, is ∙ ap (λ s. refused_answer s set) spec_is, refl),
+        ),
+      )
+
+module _ (out : List ℕ) (spec : Spec) (choice : Choice) (image : List ℕ) where
+  -- what comes of a repair is saved, or told
+  abbrev pub IsDueRepair : Repaired → Type 0
+  IsDueRepair (Saved bytes told) = repairs out spec choice image [] (Save out bytes.items (shown told))
+  IsDueRepair (Unsaved told) = repairs out spec choice image [] (Tell (shown told))
+
+  pub repair_due : (repaired : Repaired) → IsRepairOf spec choice image (ending_of repaired) → IsDueRepair repaired
+  repair_due (Saved bytes told) is = (ending_of (Saved bytes told), is, (bytes.items, shown told, (refl, refl), refl))
+  repair_due (Unsaved told) is = (ending_of (Unsaved told), is, (shown told, refl, refl))

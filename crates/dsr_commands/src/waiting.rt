@@ -1,10 +1,11 @@
 // Commands that wait for a file.
 ghost use Rattle.std.specs.Prelude.{◌≡◌, ◌≤◌, ◌+◌, IfOk, Some, length};
 ghost use Rattle.dsr_asking.specs.Commands as commands;
-ghost use Rattle.dsr_asking.specs.Commands.{certify_after, check_after, checks, plan_after, script_of, text_after, verifies, verify_after};
+ghost use Rattle.dsr_asking.specs.Commands.{certify_after, check_after, checks, plan_after, repair_after, repairs, script_of, text_after, verifies, verify_after};
 ghost use Rattle.dsr_commands.specs.Asking.{asked_of};
 ghost use Rattle.dsr_commands.specs.Stages.{due, is_ready, left};
 ghost use Rattle.dsr_meaning.specs.Typed.{IsTyped};
+ghost use Rattle.dsr_planning.specs.Taken.{IsTaken};
 ghost use Rattle.dsr_script.specs.Moves.{Follows, IsReady, loads_of};
 
 use crate::words::{Command, command_of};
@@ -13,9 +14,12 @@ use dsr_certify::{Certified, certify, verify};
 use dsr_check::check;
 use dsr_ir::{NoMemory, Spec};
 use dsr_parse::print;
-use dsr_plan::plan;
+use dsr_plan::{Found, find, plan, refused};
+use dsr_planning::{Choice, Plan};
 use dsr_reading::{Reading, read};
+use dsr_repaired::{Repaired, repair};
 use dsr_script::{Commands, Move, Stage, Told, Verdict};
+use dsr_trial::trial;
 use std::alloc::{AllocError, Global};
 
 /// The most bytes of a specification's text.
@@ -37,6 +41,18 @@ pub enum Waiting<'a> {
     Image(Spec),
     /// `certify`, for the text of the specification; then the certificate is saved under this name.
     Certify(&'a str),
+    /// `repair`, for the text of the specification; then comes the image of this name, and what is repaired is saved under
+    /// the other one.
+    Repair {
+        image: &'a str,
+        out: &'a str,
+    },
+    /// `repair`, for the image, with the specification that the text means and the choice that is its plan.
+    Damaged {
+        spec: Spec,
+        choice: Choice,
+        out: &'a str,
+    },
     /// `verify`, for the text of the specification; then comes the certificate of this name.
     Verify(&'a str),
     /// `verify`, for the certificate, with the specification that the text means.
@@ -177,6 +193,58 @@ fn tell_check<'a>(
     Ok(Move::Tell(check(alloc, spec, image)?))
 }
 
+// `repair` goes on with the text.
+fn load_damaged<'a>(
+    alloc: Global,
+    text: &[u8],
+    image: &'a str,
+    out: &'a str,
+) -> Result<Move<'a, Waiting<'a>>, NoMemory>
+    ensures ready { IfOk result (λ move. IsReady is_ready move) }
+    ensures follows { IfOk result (λ move. Follows due (repair_after image.now out.now text.now) move) }
+    ensures fewer { IfOk result (λ move. loads_of left move ≤ 1) }
+{
+    let spec = match read(alloc, text)? {
+        Reading::Means(_, spec) => spec,
+        Reading::Refused(told) => return Ok(Move::Tell(told)),
+    };
+    match find(alloc, &spec)? {
+        Found::Plan(choice) => Ok(Move::Load {
+            name: image,
+            limit: image_limit(&spec),
+            long: b"too long image\n",
+            stage: Waiting::Damaged { spec, choice, out },
+        }),
+        Found::Stuck(set) => Ok(Move::Tell(refused(alloc, &spec, &set)?)),
+    }
+}
+
+// `repair` goes on with the image.
+fn save_repaired<'a>(
+    alloc: Global,
+    spec: &Spec,
+    choice: Choice,
+    image: Vec<u8>,
+    out: &'a str,
+) -> Result<Move<'a, Waiting<'a>>, NoMemory>
+    requires typed { IsTyped spec.now }
+    requires taken { IsTaken spec.now choice }
+    requires small { length image.items ≤ 67108864 }
+    ensures ready { IfOk result (λ move. IsReady is_ready move) }
+    ensures follows { IfOk result (λ move. Follows due (repairs out.now spec.now choice image.items) move) }
+    ensures fewer { IfOk result (λ move. loads_of left move ≤ 0) }
+{
+    let plan = Plan::adopt(spec, choice);
+    match repair(alloc, &plan, image)? {
+        Repaired::Saved(bytes, told) => Ok(Move::Save {
+            name: out,
+            bytes,
+            told,
+        }),
+        Repaired::Unsaved(told) => Ok(Move::Tell(told)),
+    }
+}
+
 impl<'a> Stage<'a> for Waiting<'a> {
     ghost use Rattle.dsr_commands.specs.Stages as stages;
 
@@ -208,6 +276,16 @@ impl<'a> Stage<'a> for Waiting<'a> {
                 Ok(next) => Ok(next),
                 Err(NoMemory) => Err(AllocError),
             },
+            Waiting::Repair { image, out } => match load_damaged(alloc, &bytes, image, out) {
+                Ok(next) => Ok(next),
+                Err(NoMemory) => Err(AllocError),
+            },
+            Waiting::Damaged { spec, choice, out } => {
+                match save_repaired(alloc, &spec, choice, bytes, out) {
+                    Ok(next) => Ok(next),
+                    Err(NoMemory) => Err(AllocError),
+                }
+            }
             Waiting::Verify(certificate) => match load_certificate(alloc, &bytes, certificate) {
                 Ok(next) => Ok(next),
                 Err(NoMemory) => Err(AllocError),
@@ -220,24 +298,26 @@ impl<'a> Stage<'a> for Waiting<'a> {
     }
 }
 
-// What a command does first: it loads the text of its specification.
-fn load_spec<'a>(command: Command<'a>) -> Move<'a, Waiting<'a>>
-    ensures ready { IsReady is_ready result }
-    ensures follows { Follows due (script_of (Some (asked_of command.entry))) result }
+// What a command does first: a trial is told, and each other one loads the text of its specification.
+fn first_move<'a>(alloc: Global, command: Command<'a>) -> Result<Move<'a, Waiting<'a>>, NoMemory>
+    ensures ready { IfOk result (λ move. IsReady is_ready move) }
+    ensures follows { IfOk result (λ move. Follows due (script_of (Some (asked_of command.entry))) move) }
 {
     let (spec, stage) = match command {
         Command::Certify { spec, certificate } => (spec, Waiting::Certify(certificate)),
         Command::Check { spec, image } => (spec, Waiting::Check(image)),
         Command::Plan { spec } => (spec, Waiting::Plan),
+        Command::Repair { spec, image, out } => (spec, Waiting::Repair { image, out }),
         Command::Text { spec } => (spec, Waiting::Text),
+        Command::Trial(number) => return Ok(Move::Tell(trial(alloc, number)?)),
         Command::Verify { spec, certificate } => (spec, Waiting::Verify(certificate)),
     };
-    Move::Load {
+    Ok(Move::Load {
         name: spec,
         limit: SPEC_LIMIT,
         long: b"too long spec\n",
         stage,
-    }
+    })
 }
 
 impl<'a> Commands<'a> for Waiting<'a> {
@@ -247,7 +327,10 @@ impl<'a> Commands<'a> for Waiting<'a> {
 
     fn begin(alloc: Global, words: &'a [String]) -> Result<Move<'a, Self>, AllocError> {
         match command_of(words) {
-            Some(command) => Ok(load_spec(command)),
+            Some(command) => match first_move(alloc, command) {
+                Ok(first) => Ok(first),
+                Err(NoMemory) => Err(AllocError),
+            },
             None => match told(alloc, Verdict::Usage, b"usage\n") {
                 Ok(told) => Ok(Move::Tell(told)),
                 Err(NoMemory) => Err(AllocError),

@@ -9,9 +9,7 @@ use Rattle.dsr_plan.specs.Planned.{IsFound, answer_of}
 use Rattle.dsr_plan.specs.Refusals.{refused_answer}
 use Rattle.dsr_plan.specs.declared.plans.Found.{Found}
 use Rattle.dsr_plan.specs.declared.plans.Found.TheVariants.{Plan, Stuck}
-use Rattle.dsr_planning.specs.Plans.{IsPlan}
 use Rattle.dsr_planning.specs.Refusals.{HasNoPlan}
-use Rattle.dsr_planning.specs.declared.choices.Choice.{Choice}
 use Rattle.dsr_script.specs.Outside.{IsSaved, Outside, Stands}
 use Rattle.dsr_script.specs.Scripts.{Answer}
 use Rattle.dsr_script.specs.declared.status.Status.{Status}
@@ -22,6 +20,7 @@ use Rattle.dsr_store.specs.Files.{Files}
 use Rattle.dsr_store.specs.Written.{appended}
 use Rattle.dsr_typing.specs.Specifications.{IsSpecificationOf}
 use Rattle.dsr_asking.specs.Commands.{certificate_limit, spec_limit}
+use Rattle.dsr_asking.specs.Plans.{HasPlan}
 use Rattle.dsr_asking.specs.Words as asking
 use Rattle.dsr_asking.specs.Words.{Certify, Verify, command_of}
 
@@ -33,9 +32,6 @@ pub record IsPlanned (files : Files) (words : List (List ℕ)) (spec : Spec) : T
   pub file : get files spec_name ≡ Some text
   pub short_text : length text ≤ spec_limit
   pub means : IsSpecificationOf text spec
-
-abbrev pub HasPlan : Spec → Type 0
-HasPlan spec = (choice : Choice) × IsPlan spec choice
 
 -- a verdict on a specification: it says exactly whether it has a plan, and the text tells the plan that is taken, or
 -- what stands in the way of one

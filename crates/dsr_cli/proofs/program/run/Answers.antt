@@ -6,6 +6,12 @@ use Rattle.dsr_script.specs.Outside.{told_by}
 use Rattle.dsr_script.specs.Runs.{Runs}
 use Rattle.dsr_cli.proofs.program.run.Goals as goal
 
+pub returns-clause-runs : goal.returns-clause-runs
+returns-clause-runs g c =
+    subst (λ ws. Runs (asked (map string_bytes ws)) (told_by g.F.Shelf g.O.Sink c.args.shelf.now c.args.out.now)
+    (told_by g.F.Shelf g.O.Sink c.run.new.shelf c.run.new.out) c.run.result)
+    c.deref.ensures.value c.run.ensures.runs
+
 pub returns-clause-causes : goal.returns-clause-causes
 returns-clause-causes g c =
     subst (λ ws. Causes (asked (map string_bytes ws)) (told_by g.F.Shelf g.O.Sink c.args.shelf.now c.args.out.now)
@@ -79,6 +85,30 @@ returns-clause-no_others_verified g c =
 pub returns-clause-texts : goal.returns-clause-texts
 returns-clause-texts g c =
     c.texts_are_printed.ensures (map string_bytes c.args.words.now.items) (told_by g.F.Shelf g.O.Sink c.args.shelf.now c.args.out.now)
+    (told_by g.F.Shelf g.O.Sink c.run.new.shelf c.run.new.out) c.run.result
+    (subst (λ ws. Runs (asked (map string_bytes ws)) (told_by g.F.Shelf g.O.Sink c.args.shelf.now c.args.out.now)
+    (told_by g.F.Shelf g.O.Sink c.run.new.shelf c.run.new.out) c.run.result)
+    c.deref.ensures.value c.run.ensures.runs)
+
+pub returns-clause-repairs : goal.returns-clause-repairs
+returns-clause-repairs g c =
+    c.images_are_repaired.ensures.repairs (map string_bytes c.args.words.now.items) (told_by g.F.Shelf g.O.Sink c.args.shelf.now c.args.out.now)
+    (told_by g.F.Shelf g.O.Sink c.run.new.shelf c.run.new.out) c.run.result
+    (subst (λ ws. Runs (asked (map string_bytes ws)) (told_by g.F.Shelf g.O.Sink c.args.shelf.now c.args.out.now)
+    (told_by g.F.Shelf g.O.Sink c.run.new.shelf c.run.new.out) c.run.result)
+    c.deref.ensures.value c.run.ensures.runs)
+
+pub returns-clause-no_other_repairs : goal.returns-clause-no_other_repairs
+returns-clause-no_other_repairs g c =
+    c.images_are_repaired.ensures.nothing_else (map string_bytes c.args.words.now.items) (told_by g.F.Shelf g.O.Sink c.args.shelf.now c.args.out.now)
+    (told_by g.F.Shelf g.O.Sink c.run.new.shelf c.run.new.out) c.run.result
+    (subst (λ ws. Runs (asked (map string_bytes ws)) (told_by g.F.Shelf g.O.Sink c.args.shelf.now c.args.out.now)
+    (told_by g.F.Shelf g.O.Sink c.run.new.shelf c.run.new.out) c.run.result)
+    c.deref.ensures.value c.run.ensures.runs)
+
+pub returns-clause-trials : goal.returns-clause-trials
+returns-clause-trials g c =
+    c.trials_are_told.ensures (map string_bytes c.args.words.now.items) (told_by g.F.Shelf g.O.Sink c.args.shelf.now c.args.out.now)
     (told_by g.F.Shelf g.O.Sink c.run.new.shelf c.run.new.out) c.run.result
     (subst (λ ws. Runs (asked (map string_bytes ws)) (told_by g.F.Shelf g.O.Sink c.args.shelf.now c.args.out.now)
     (told_by g.F.Shelf g.O.Sink c.run.new.shelf c.run.new.out) c.run.result)

@@ -1,0 +1,29 @@
+//! What a run says of repairs and trials, by the files that a shelf tells.
+//! Each law is the contract of a function that does nothing when it runs.
+#![tactic(auto)]
+
+ghost use Rattle.std.specs.Prelude.{ℕ, List};
+ghost use Rattle.dsr_asking.specs.Commands.{asked};
+ghost use Rattle.dsr_repair_headlines.specs.Headlines.{RepairsImages, RepairsNothingElse, TellsTrials};
+ghost use Rattle.dsr_script.specs.Outside.{Outside};
+ghost use Rattle.dsr_script.specs.Runs.{Runs};
+ghost use Rattle.dsr_script.specs.declared.status.Status.{Status};
+
+use dsr_one_meaning::texts_have_one_meaning;
+
+/// A `repair` that speaks gives the verdict on the repair; no image is said to be repaired, and no
+/// supply to be empty, unless due steps were made that come to this.
+pub fn images_are_repaired()
+    ensures repairs { (words : List (List ℕ)) (before after : Outside) (status : Status)
+        → Runs (asked words) before after status → RepairsImages words before after status }
+    ensures nothing_else { (words : List (List ℕ)) (before after : Outside) (status : Status)
+        → Runs (asked words) before after status → RepairsNothingElse words before after status }
+{
+    texts_have_one_meaning();
+}
+
+/// A `trial` that speaks tells its answer, and saves nothing.
+pub fn trials_are_told()
+    ensures { (words : List (List ℕ)) (before after : Outside) (status : Status)
+        → Runs (asked words) before after status → TellsTrials words before after status }
+{}

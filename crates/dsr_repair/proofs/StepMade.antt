@@ -1,10 +1,12 @@
 -- A step that is due, made: which update the plan has for it, and what it leaves.
-use Rattle.std.proofs.Common.{◌≡◌, ◌∙◌, ◌<◌, ◌≤◌, ℕ, List, [], ◌∷◌, ◌++◌, length, All, Option, None, Some, slice_get, get_or, refl, sym, ap, subst}
+use Rattle.std.proofs.Common.{◌≡◌, ◌∙◌, ◌<◌, ◌≤◌, ℕ, List, [], ◌∷◌, ◌++◌, length, All, Option, None, Some, slice_get, get_or, refl, arith, sym, ap, subst}
+use Rattle.std.proofs.lemmas.Option.{same_Some}
 use Rattle.std.specs.Option.{option_and_then}
 use Rattle.dsr_applying.specs.Choices.{IsUpdateAt}
 use Rattle.dsr_applying.specs.Choices.IsUpdateAt.{adds, takes_away}
 use Rattle.dsr_due.proofs.Gone.{got_of}
 use Rattle.dsr_feasible.proofs.MakingSteps.{can_step, writes_free, writes_of_head}
+use Rattle.dsr_fixpoint.specs.Models.{IsLaidOut}
 use Rattle.dsr_ir.specs.declared.constraints.Atom.{Atom}
 use Rattle.dsr_ir.specs.declared.declarations.Spec.{Spec}
 use Rattle.dsr_ir.specs.declared.layouts.Layout.{Layout}
@@ -25,14 +27,15 @@ use Rattle.dsr_planning.specs.declared.choices.Way.TheVariants.{By}
 use Rattle.dsr_repair.specs.Planned.{chosen_update, update_in}
 use Rattle.dsr_repair.specs.Stepping.{IsLogged}
 use Rattle.dsr_repairing.specs.Entries.{AreSet, IsEntryOf, changes}
-use Rattle.dsr_repairing.specs.Entries.AreSet as sets
+use Rattle.dsr_repairing.specs.Entries.AreSet.{done as nothing_set, made as set, skipped as left}
 use Rattle.dsr_repairing.specs.Images.{IsImageOf}
 use Rattle.dsr_repairing.specs.Turns.{IsDueStep}
 use Rattle.dsr_repairing.specs.declared.entries.ByteChange.{ByteChange}
 use Rattle.dsr_repairing.specs.declared.entries.CellSet.{CellSet}
 use Rattle.dsr_repairing.specs.declared.entries.Entry.{Entry}
+use Rattle.dsr_resolved.proofs.AcceptedLayouts.{legal_of}
 use Rattle.dsr_stepping.specs.Steps.{AreWritten, CanStep, IsStepped}
-use Rattle.dsr_stepping.specs.Steps.AreWritten as written
+use Rattle.dsr_stepping.specs.Steps.AreWritten.{done, made, skipped}
 use Rattle.dsr_stepping.specs.declared.steps.Step.{Step}
 
 -- ---- the update
@@ -56,17 +59,33 @@ due_update spec choice layout bytes step update due =
     ap (option_and_then (λ row. option_and_then (update_in step.update) (way_at row step.conj step.literal))) due.due.binding_is.row_of.row_is
     ∙ (ap (option_and_then (update_in step.update)) has.way_is ∙ in_template)
 
+-- so there is one
+pub never_none :
+    (spec : Spec) (choice : Choice) (layout : Layout) (bytes : List ℕ) (step : Step) (update : Update)
+    → IsDueStep spec choice layout bytes step update → None ≡ chosen_update choice step → ⊥
+never_none spec choice layout bytes step update due none =
+    let e : None ≡ Some update = none ∙ due_update spec choice layout bytes step update due in cc
+
+-- and the step is due by it
+pub due_by_it :
+    (spec : Spec) (choice : Choice) (layout : Layout) (bytes : List ℕ) (step : Step) (update its : Update)
+    → IsDueStep spec choice layout bytes step update → Some its ≡ chosen_update choice step
+    → IsDueStep spec choice layout bytes step its
+due_by_it spec choice layout bytes step update its due is =
+    subst (IsDueStep spec choice layout bytes step)
+    (sym (same_Some its update (is ∙ due_update spec choice layout bytes step update due))) due
+
 -- ---- what it leaves
 
 -- the writes that set values, made
 pub were_written :
     (spec : Spec) (layout : Layout) (step : Step) {writes : List Write} {old new : List ℕ} {told : List CellSet}
     → AreSet spec layout step writes old new told → AreWritten spec layout step writes old new
-were_written spec layout step sets.done = written.done
-were_written spec layout step (sets.skipped write cell number at picked wanted rest) =
-    written.skipped write cell number at picked wanted (were_written spec layout step rest)
-were_written spec layout step (sets.made write cell number at picked unwanted put rest) =
-    written.made write cell number at picked unwanted put (were_written spec layout step rest)
+were_written spec layout step nothing_set = done
+were_written spec layout step (left write cell number at picked wanted rest) =
+    skipped write cell number at picked wanted (were_written spec layout step rest)
+were_written spec layout step (set write cell number at picked unwanted put rest) =
+    made write cell number at picked unwanted put (were_written spec layout step rest)
 
 module _ (spec : Spec) (choice : Choice) (layout : Layout) (old : List ℕ) (step : Step) (update : Update)
     (image : IsImageOf spec layout old) (plan : IsPlan spec choice)
@@ -87,4 +106,26 @@ module _ (spec : Spec) (choice : Choice) (layout : Layout) (old : List ℕ) (ste
 pub told_within : (spec : Spec) (layout : Layout) (step : Step) (update : Update) (old new : List ℕ) (entry : Entry) → IsEntryOf spec layout step update old new entry → AreWithin entry.bytes old
 told_within spec layout step update old new entry told =
     subst (λ cs. AreWithin cs old) (sym told.bytes)
-    (λ n d below. (all_within 0 old new (get_or (changes old new) n d) n (got_of (changes old new) (changes old new) n d refl below)).1)
+    (λ n d below.
+        let within = (all_within 0 old new (get_or (changes old new) n d) n (got_of (changes old new) (changes old new) n d refl below)).1 in
+        omega (arith, within))
+
+-- where the changes that are told were made, the bytes are those that the step makes
+pub bytes_made :
+    (spec : Spec) (layout : Layout) (step : Step) (update : Update) (old claimed new : List ℕ) (entry : Entry)
+    (told : List ByteChange) (is : IsMade spec layout step update old entry) → claimed ≡ old → told ≡ entry.bytes
+    → ((target : List ℕ) → length target ≡ length claimed → told ≡ changes claimed target → new ≡ target)
+    → new ≡ is.new
+bytes_made spec layout step update old claimed new entry told is same told_is made_is =
+    made_is is.new (is.as_long ∙ sym (ap length same))
+    (told_is ∙ (is.entry_is.bytes ∙ ap (λ bytes. changes bytes is.new) (sym same)))
+
+-- ---- a layout on an image
+
+pub laid_out : (spec : Spec) (layout : Layout) (bytes : List ℕ) → IsImageOf spec layout bytes → IsLaidOut spec layout bytes
+laid_out spec layout bytes image = record {
+  typed = image.typed;
+  layout_is = image.layout_is;
+  legal = legal_of spec bytes layout image.layout_is image.typed image.small;
+  small = image.small;
+}

@@ -1,5 +1,5 @@
 -- What a command does next is what its script says.
-use Rattle.std.proofs.Common.{◌≡◌, ℕ, List, [], codes, refl, ap, sym, subst, ◌∙◌}
+use Rattle.std.proofs.Common.{◌≡◌, ℕ, List, [], codes, refl, ap, subst, ◌∙◌}
 use Rattle.dsr_answers.specs.Refused.{IsMeaning, IsRefused}
 use Rattle.dsr_cert.specs.Certificates.{certificate_text}
 use Rattle.dsr_certify.specs.Certified.{IsCertified}

@@ -41,8 +41,8 @@ pub enum Waiting<'a> {
     Image(Spec),
     /// `certify`, for the text of the specification; then the certificate is saved under this name.
     Certify(&'a str),
-    /// `repair`, for the text of the specification; then comes the image of this name, and what is repaired is saved under
-    /// the other one.
+    /// `repair`, for the text of the specification; then comes the image, and what is repaired is
+    /// saved under the other name.
     Repair {
         image: &'a str,
         out: &'a str,
@@ -245,6 +245,30 @@ fn save_repaired<'a>(
     }
 }
 
+// What a command that waits does next, once the bytes of its file came.
+fn next_move<'a>(
+    alloc: Global,
+    stage: Waiting<'a>,
+    bytes: Vec<u8>,
+) -> Result<Move<'a, Waiting<'a>>, NoMemory>
+    requires { is_ready stage bytes.items }
+    ensures ready { IfOk result (λ move. IsReady is_ready move) }
+    ensures follows { IfOk result (λ move. Follows due (due stage.entry bytes.items) move) }
+    ensures fewer { IfOk result (λ move. loads_of left move ≤ left stage.entry) }
+{
+    match stage {
+        Waiting::Text => tell_text(alloc, &bytes),
+        Waiting::Plan => tell_plan(alloc, &bytes),
+        Waiting::Check(image) => load_image(alloc, &bytes, image),
+        Waiting::Image(spec) => tell_check(alloc, &spec, bytes),
+        Waiting::Certify(certificate) => save_certificate(alloc, &bytes, certificate),
+        Waiting::Repair { image, out } => load_damaged(alloc, &bytes, image, out),
+        Waiting::Damaged { spec, choice, out } => save_repaired(alloc, &spec, choice, bytes, out),
+        Waiting::Verify(certificate) => load_certificate(alloc, &bytes, certificate),
+        Waiting::Certificate(spec) => tell_verify(alloc, &spec, &bytes),
+    }
+}
+
 impl<'a> Stage<'a> for Waiting<'a> {
     ghost use Rattle.dsr_commands.specs.Stages as stages;
 
@@ -255,45 +279,9 @@ impl<'a> Stage<'a> for Waiting<'a> {
     ghost ready = { λ stage bytes. stages.is_ready stage bytes };
 
     fn go_on(self, alloc: Global, bytes: Vec<u8>) -> Result<Move<'a, Self>, AllocError> {
-        match self {
-            Waiting::Text => match tell_text(alloc, &bytes) {
-                Ok(next) => Ok(next),
-                Err(NoMemory) => Err(AllocError),
-            },
-            Waiting::Plan => match tell_plan(alloc, &bytes) {
-                Ok(next) => Ok(next),
-                Err(NoMemory) => Err(AllocError),
-            },
-            Waiting::Check(image) => match load_image(alloc, &bytes, image) {
-                Ok(next) => Ok(next),
-                Err(NoMemory) => Err(AllocError),
-            },
-            Waiting::Image(spec) => match tell_check(alloc, &spec, bytes) {
-                Ok(next) => Ok(next),
-                Err(NoMemory) => Err(AllocError),
-            },
-            Waiting::Certify(certificate) => match save_certificate(alloc, &bytes, certificate) {
-                Ok(next) => Ok(next),
-                Err(NoMemory) => Err(AllocError),
-            },
-            Waiting::Repair { image, out } => match load_damaged(alloc, &bytes, image, out) {
-                Ok(next) => Ok(next),
-                Err(NoMemory) => Err(AllocError),
-            },
-            Waiting::Damaged { spec, choice, out } => {
-                match save_repaired(alloc, &spec, choice, bytes, out) {
-                    Ok(next) => Ok(next),
-                    Err(NoMemory) => Err(AllocError),
-                }
-            }
-            Waiting::Verify(certificate) => match load_certificate(alloc, &bytes, certificate) {
-                Ok(next) => Ok(next),
-                Err(NoMemory) => Err(AllocError),
-            },
-            Waiting::Certificate(spec) => match tell_verify(alloc, &spec, &bytes) {
-                Ok(next) => Ok(next),
-                Err(NoMemory) => Err(AllocError),
-            },
+        match next_move(alloc, self, bytes) {
+            Ok(next) => Ok(next),
+            Err(NoMemory) => Err(AllocError),
         }
     }
 }

@@ -1,13 +1,11 @@
 -- A run that speaks has repaired the image that it was asked to repair, or tells why not.
-use Rattle.std.proofs.Common.{◌≡◌, ◌≢◌, ◌≤◌, ◌⊎◌, ℕ, List, [], ◌∷◌, codes, length, None, Some, refl, sym, ap, subst, ◌∙◌, inl, inr}
+use Rattle.std.proofs.Common.{◌≡◌, ◌≢◌, ◌≤◌, ◌⊎◌, ℕ, List, [], ◌∷◌, length, None, Some, refl, sym, ap, subst, ◌∙◌, inl, inr}
 use Rattle.std.proofs.lemmas.Option.{same_Some}
 use Rattle.std.specs.FinMap.{get}
 use Rattle.dsr_asking.proofs.Tellings.{ReadText, RefusedRun, Speaks, loads_never, means_same, meant, never_refused, refused_verdict, spoken, text_loaded, whole}
-use Rattle.dsr_asking.specs.Commands.{asked, ends, image_limit, loads_damaged, loads_spec, plans_repair, reads, repairs, script_of}
+use Rattle.dsr_asking.specs.Commands.{asked, ends, image_limit, loads_damaged, loads_spec, plans_repair, reads, script_of}
 use Rattle.dsr_asking.specs.Words.{Repair, command_of}
 use Rattle.dsr_ir.specs.declared.declarations.Spec.{Spec}
-use Rattle.dsr_ir.specs.declared.layouts.Layout.{Layout}
-use Rattle.dsr_meaning.specs.Consistency.{IsConsistent}
 use Rattle.dsr_meaning.specs.Refusals.{Refusal, first_of, refusals}
 use Rattle.dsr_one_meaning.specs.Meanings.{HaveOneMeaning}
 use Rattle.dsr_plan.specs.Planned as planned

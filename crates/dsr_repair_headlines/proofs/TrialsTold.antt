@@ -1,8 +1,7 @@
 -- A trial that speaks has told its answer.
-use Rattle.std.proofs.Common.{◌≡◌, ℕ, List, [], ◌∷◌, Some, sym, subst}
+use Rattle.std.proofs.Common.{ℕ, List, [], ◌∷◌, subst}
 use Rattle.dsr_asking.proofs.Tellings.{spoken}
 use Rattle.dsr_asking.specs.Commands.{asked, script_of}
-use Rattle.dsr_asking.specs.Words.{Trial, command_of}
 use Rattle.dsr_repair_headlines.specs.Headlines.{TellsTrials, WasTried}
 use Rattle.dsr_script.proofs.Laws.{said_at_tell}
 use Rattle.dsr_script.specs.Outside.{Outside}

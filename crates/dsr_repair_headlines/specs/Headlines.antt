@@ -15,8 +15,8 @@ use Rattle.dsr_store.specs.Files.{Files}
 use Rattle.dsr_trial.specs.Trials.{IsTrial}
 use Rattle.dsr_typing.specs.Specifications.{IsSpecificationOf}
 
--- the words ask to repair this image under this specification, and to save it under the name: their files are within their
--- limits, and the text means the specification
+-- the words ask to repair this image under this specification, and to save it under the name: their files
+-- are within their limits, and the text means the specification
 pub record IsToRepair (files : Files) (words : List (List ℕ)) (spec : Spec) (image name : List ℕ) : Type 0 where
   pub spec_name : List ℕ
   pub image_name : List ℕ

@@ -5,4 +5,6 @@ mod logs;
 mod texts;
 
 pub use logs::Log;
-pub use texts::{push_entries, text};
+pub use texts::{
+    push_change, push_end, push_entries, push_reset, push_set, push_update, text,
+};

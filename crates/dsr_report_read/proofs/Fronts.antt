@@ -1,10 +1,8 @@
 -- The front of a line tells its kind.
 use Rattle.std.proofs.Common.{◌≡◌, ◌++◌, ◌∙◌, ℕ, List, Some, None, refl, sym, ap, arith}
-use Rattle.std.specs.Prelude.{codes, decimal, slice_index}
-use Rattle.dsr_answers.specs.Texts.{binding_text, constraint_name, element_text}
+use Rattle.std.specs.Prelude.{codes, slice_index}
 use Rattle.dsr_ir.specs.declared.declarations.Spec.{Spec}
-use Rattle.dsr_report.specs.Reports.{byte_text, place_set, place_text}
-use Rattle.dsr_report_read.specs.Lines.{bare, kind_of, line_text}
+use Rattle.dsr_report_read.specs.Lines.{kind_of, line_text}
 use Rattle.dsr_report_read.specs.Reads.{Begins, IsKindOf}
 use Rattle.dsr_report_read.specs.declared.lines.Kind.{Kind}
 use Rattle.dsr_report_read.specs.declared.lines.Kind.TheVariants as kinds

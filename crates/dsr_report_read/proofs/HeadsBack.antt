@@ -1,8 +1,8 @@
 -- A printed line of an update is read back.
-use Rattle.std.proofs.Common.{◌≡◌, ◌<◌, ◌+◌, ◌^◌, ◌++◌, ◌∙◌, ℕ, List, [], ◌∷◌, Option, Some, length, drop, refl, sym, ap, subst, arith, append_assoc, append-nil}
+use Rattle.std.proofs.Common.{◌≡◌, ◌<◌, ◌+◌, ◌^◌, ◌++◌, ◌∙◌, ℕ, List, [], ◌∷◌, Option, Some, length, drop, refl, sym, ap, subst, arith, append-nil}
 use Rattle.std.specs.Prelude.{codes, decimal}
 use Rattle.std.specs.Option.{option_map_or}
-use Rattle.std.proofs.Math.Seq.{drop-append-add, drop-append_seam}
+use Rattle.std.proofs.Math.Seq.{drop-append-add}
 use Rattle.dsr_answers.specs.Texts.{binding_text, constraint_name, element_text}
 use Rattle.dsr_ir.specs.declared.constraints.Quant.{Quant}
 use Rattle.dsr_ir.specs.declared.constraints.Quant.TheVariants as quants
@@ -11,10 +11,10 @@ use Rattle.dsr_ir.specs.declared.tuples.Binding.{Binding}
 use Rattle.dsr_ir.specs.declared.tuples.Binding.TheVariants as bindings
 use Rattle.dsr_ir.specs.declared.tuples.Element.{Element}
 use Rattle.dsr_report.specs.Reports.{place_text, update_line}
-use Rattle.dsr_report_read.proofs.LinesBack.{ReadsElement, element_back}
-use Rattle.dsr_report_read.proofs.ReadBack.{ReadsNumber, number_back, place_back, put_left, put_right, regroup}
+use Rattle.dsr_report_read.proofs.LinesBack.{element_back}
+use Rattle.dsr_report_read.proofs.ReadBack.{ReadsNumber, number_back, place_back, regroup}
 use Rattle.dsr_report_read.specs.Forms.{IsRecord, IsRecordOf}
-use Rattle.dsr_report_read.specs.Lenient.{behind_binding, behind_element, behind_number, binding_ahead, binding_in, conj_in, digits_len, element_ahead, first_pool, head_in, literal_in, name_ahead, number_ahead, place_of, rule_in, second_pool}
+use Rattle.dsr_report_read.specs.Lenient.{behind_binding, behind_element, behind_number, binding_ahead, binding_in, conj_in, element_ahead, first_pool, head_in, literal_in, name_ahead, number_ahead, place_of, rule_in, second_pool}
 use Rattle.dsr_report_read.specs.Lines.{bare}
 use Rattle.dsr_report_read.specs.declared.lines.Head.{Head}
 
@@ -46,8 +46,8 @@ module _ (spec : Spec) where
       let last = codes ">" ++ rest in
       let middle = codes "," ++ (element_text spec target ++ last) in
       let text : binding_text spec (bindings.Pair source target) ++ rest ≡ codes "<" ++ (element_text spec source ++ middle) =
-          regroup (codes "<") (element_text spec source ∷ codes "," ∷ element_text spec target ∷ codes ">" ∷ rest ∷ [])
-          ∙ ap (λ t. codes "<" ++ (element_text spec source ++ (codes "," ++ (element_text spec target ++ (codes ">" ++ t))))) (append-nil rest) in
+      regroup (codes "<") (element_text spec source ∷ codes "," ∷ element_text spec target ∷ codes ">" ∷ rest ∷ [])
+      ∙ ap (λ t. codes "<" ++ (element_text spec source ++ (codes "," ++ (element_text spec target ++ (codes ">" ++ t))))) (append-nil rest) in
       let one = at_pool (first_pool spec (quants.Pairs rel)) source middle its.0 (known _ _ its.2) in
       let two = at_pool (second_pool spec (quants.Pairs rel)) target last its.1 (known _ _ its.3) in
       subst (λ t. ReadsBinding (quants.Pairs rel) t (bindings.Pair source target) rest) (sym text)
@@ -89,8 +89,8 @@ module _ (spec : Spec) where
     line_grouped : line ≡ codes "update " ++ (decimal count ++ count_rest)
     line_grouped =
         let place : place_text (bare head) ++ literal_rest ≡ decimal (head.conj + 1) ++ conj_rest =
-            regroup (decimal (head.conj + 1)) (codes "." ∷ decimal (head.literal + 1) ∷ literal_rest ∷ [])
-            ∙ ap (λ t. decimal (head.conj + 1) ++ (codes "." ++ (decimal (head.literal + 1) ++ t))) (append-nil literal_rest) in
+        regroup (decimal (head.conj + 1)) (codes "." ∷ decimal (head.literal + 1) ∷ literal_rest ∷ [])
+        ∙ ap (λ t. decimal (head.conj + 1) ++ (codes "." ++ (decimal (head.literal + 1) ++ t))) (append-nil literal_rest) in
         regroup (codes "update ") (decimal count ∷ codes " " ∷ name ∷ codes " " ∷ binding_text spec head.binding ∷ codes " " ∷ place_text (bare head) ∷ codes " " ∷ decimal (head.rule + 1) ∷ codes "\n" ∷ [])
         ∙ ap (λ t. codes "update " ++ (decimal count ++ (codes " " ++ (name ++ (codes " " ++ (binding_text spec head.binding ++ (codes " " ++ t))))))) place
 

@@ -1,6 +1,6 @@
 -- A printed line is read back.
-use Rattle.std.proofs.Common.{◌≡◌, ◌≤◌, ◌<◌, ◌+◌, ◌-◌, ◌^◌, ◌++◌, ◌∙◌, ◌⊎◌, inl, inr, ℕ, zero, suc, Bool, true, false, cond, List, [], ◌∷◌, Option, None, Some, MatchBool, length, take, drop, refl, sym, ap, subst, arith, append_assoc, append-nil, nat_eq}
-use Rattle.std.specs.Prelude.{codes, decimal, ◌==◌, slice_index}
+use Rattle.std.proofs.Common.{◌≡◌, ◌<◌, ◌+◌, ◌^◌, ◌++◌, ◌∙◌, ℕ, zero, suc, Bool, true, false, cond, List, [], ◌∷◌, length, take, drop, refl, sym, ap, subst, arith, append_assoc, append-nil, nat_eq}
+use Rattle.std.specs.Prelude.{codes, decimal, ◌==◌}
 use Rattle.std.proofs.Math.Seq.{drop-append-add, drop-append_seam, take-append_seam}
 use Rattle.std.proofs.lemmas.Bool.Decides.{nat_tests}
 use Rattle.hex.proofs.HexLemmas.{decode_sized-encode_lower, length-encode_with}
@@ -11,9 +11,9 @@ use Rattle.dsr_ir.specs.declared.tuples.Element.{Element}
 use Rattle.dsr_repairing.specs.declared.entries.ByteChange.{ByteChange}
 use Rattle.dsr_repairing.specs.declared.entries.CellSet.{CellSet}
 use Rattle.dsr_report.specs.Reports.{byte_line, byte_text, index_text, place_set, reset_line, set_line}
-use Rattle.dsr_report_read.proofs.ReadBack.{ReadsNumber, narrow_small, number_back, put_left, put_right, regroup}
+use Rattle.dsr_report_read.proofs.ReadBack.{ReadsNumber, narrow_small, number_back, regroup}
 use Rattle.dsr_report_read.specs.Forms.{IsChange, IsRecord, IsSet}
-use Rattle.dsr_report_read.specs.Lenient.{narrow, behind_element, behind_field, behind_index, behind_number, byte_ahead, change_in, digits_len, element_ahead, field_ahead, first_or_0, index_ahead, number_ahead, reset_in, set_in, values_ahead}
+use Rattle.dsr_report_read.specs.Lenient.{narrow, behind_element, behind_field, behind_index, behind_number, byte_ahead, change_in, element_ahead, field_ahead, first_or_0, index_ahead, number_ahead, reset_in, set_in, values_ahead}
 
 -- ---- bytes
 
@@ -114,8 +114,8 @@ module _ (spec : Spec) where
     pub set_grouped : set_line spec set ≡ codes "  set " ++ (element_text spec set.elem ++ (codes "." ++ (name ++ (index_text set ++ values))))
     set_grouped =
         let place : place_set spec set ≡ element_text spec set.elem ++ (codes "." ++ (name ++ index_text set)) =
-            regroup (element_text spec set.elem) (codes "." ∷ name ∷ index_text set ∷ [])
-            ∙ ap (λ t. element_text spec set.elem ++ (codes "." ++ (name ++ t))) (append-nil (index_text set)) in
+        regroup (element_text spec set.elem) (codes "." ∷ name ∷ index_text set ∷ [])
+        ∙ ap (λ t. element_text spec set.elem ++ (codes "." ++ (name ++ t))) (append-nil (index_text set)) in
         regroup (codes "  set ") (place_set spec set ∷ codes " " ∷ decimal set.old ∷ codes " " ∷ decimal set.new ∷ codes "\n" ∷ [])
         ∙ ap (λ t. codes "  set " ++ t)
         (ap (λ t. t ++ values) place
@@ -149,7 +149,7 @@ module _ (spec : Spec) where
         | true ↦ λ e.
             let number = number_back set.index (codes "]" ++ values) its.index refl in
             let text : ((codes "[" ++ decimal set.index) ++ codes "]") ++ values ≡ codes "[" ++ (decimal set.index ++ (codes "]" ++ values)) =
-                regroup (codes "[") (decimal set.index ∷ codes "]" ∷ values ∷ []) ∙ ap (λ t. codes "[" ++ (decimal set.index ++ (codes "]" ++ t))) (append-nil values) in
+            regroup (codes "[") (decimal set.index ∷ codes "]" ∷ values ∷ []) ∙ ap (λ t. codes "[" ++ (decimal set.index ++ (codes "]" ++ t))) (append-nil values) in
             (ap (λ t. number_ahead (drop 1 t)) text ∙ number.value, ap (λ t. drop 1 (behind_number (drop 1 t))) text ∙ ap (drop 1) number.behind)
         | false ↦ λ e. (sym (its.no_index e), refl)
       ] refl
@@ -164,5 +164,5 @@ module _ (spec : Spec) where
           let index_is : index_ahead set.path.indexed (behind_field spec pool set.path line) ≡ set.index = ap (index_ahead set.path.indexed) behind_is ∙ index_read.0 in
           let old_is : number_ahead (values_ahead spec pool set.path line) ≡ set.old = ap number_ahead values_are ∙ old.value in
           let new_is : number_ahead (drop 1 (behind_number (values_ahead spec pool set.path line))) ≡ set.new =
-              ap (λ t. number_ahead (drop 1 (behind_number t))) values_are ∙ (ap (λ t. number_ahead (drop 1 t)) old.behind ∙ new.value) in
+          ap (λ t. number_ahead (drop 1 (behind_number t))) values_are ∙ (ap (λ t. number_ahead (drop 1 t)) old.behind ∙ new.value) in
           λ i. record { elem = elem_read.value i; path = set.path; index = index_is i; old = old_is i; new = new_is i }

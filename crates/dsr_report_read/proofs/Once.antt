@@ -1,5 +1,5 @@
 -- A report has no wrong line.
-use Rattle.std.proofs.Common.{◌≡◌, ◌≤◌, ◌<◌, ◌+◌, ◌++◌, ◌∙◌, ℕ, zero, suc, List, [], ◌∷◌, Option, None, Some, length, take, slice_get, refl, sym, ap, subst, arith}
+use Rattle.std.proofs.Common.{◌≡◌, ◌<◌, ◌+◌, ◌∙◌, ℕ, List, [], ◌∷◌, Some, length, take, slice_get, refl, sym, ap, subst, arith}
 use Rattle.std.specs.Prelude.{Result, Ok, Err, IfErr, IsErrAnd}
 use Rattle.dsr_ir.specs.declared.declarations.Spec.{Spec}
 use Rattle.dsr_report_read.proofs.Fronts.{line_kind}
@@ -56,9 +56,9 @@ module _ (spec : Spec) where
       (λ line next is. wrong line (subst (λ t. IsNext spec (state_after t before) line) (sym same) next)
       (ap (λ ts. slice_get ts (length (a ∷ before))) texts_are ∙ (is ∙ ap (λ t. Some (line_text spec (state_after t before).count line)) (sym same))))
       (λ last.
-          let more = unended (ap (λ t. (state_after t before).last) same ∙ last) in
-          let many = ap length texts_are in
-          omega (arith, more, many))
+      let more = unended (ap (λ t. (state_after t before).last) same ∙ last) in
+      let many = ap length texts_are in
+      omega (arith, more, many))
 
   pub never_wrong : (texts : List (List ℕ)) (all : List Line) (number : ℕ) → IsReportOf spec texts all → IsFirstWrong spec texts number → ⊥
   never_wrong texts all number its first =

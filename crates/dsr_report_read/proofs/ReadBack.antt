@@ -1,6 +1,6 @@
 -- What is printed in digits is read back.
-use Rattle.std.proofs.Common.{◌≡◌, ◌≤◌, ◌<◌, ◌+◌, ◌-◌, ◌*◌, ◌%◌, ◌^◌, ◌++◌, ◌∙◌, ℕ, zero, suc, Bool, true, false, cond, List, [], ◌∷◌, length, take, drop, refl, sym, ap, arith, append_assoc, append-nil}
-use Rattle.std.specs.Prelude.{codes, decimal, nat_lt, nat_le, ◌&&◌}
+use Rattle.std.proofs.Common.{◌≡◌, ◌≤◌, ◌<◌, ◌+◌, ◌-◌, ◌*◌, ◌%◌, ◌^◌, ◌++◌, ◌∙◌, ℕ, true, false, cond, List, [], ◌∷◌, length, take, drop, refl, sym, ap, arith, append_assoc, append-nil}
+use Rattle.std.specs.Prelude.{decimal, nat_lt}
 use Rattle.std.specs.Char.{digit_value, is_ascii_digit}
 use Rattle.std.specs.Str.Parse.{AllDigits, digits_value_after}
 use Rattle.std.proofs.Math.Seq.{drop-append_seam, take-append_seam}
@@ -65,4 +65,3 @@ put_right (piece ∷ pieces) = piece ++ put_right pieces
 pub regroup : (text : List ℕ) (pieces : List (List ℕ)) → put_left text pieces ≡ text ++ put_right pieces
 regroup text [] = sym (append-nil text)
 regroup text (piece ∷ pieces) = regroup (text ++ piece) pieces ∙ append_assoc text piece (put_right pieces)
-

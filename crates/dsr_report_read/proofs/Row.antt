@@ -1,9 +1,9 @@
 -- Lines that were read one after the other.
-use Rattle.std.proofs.Common.{◌≡◌, ◌≤◌, ◌<◌, ◌+◌, ◌++◌, ◌∙◌, ℕ, zero, suc, false, IsTrue, List, [], ◌∷◌, Option, None, Some, length, take, map, get_or, slice_get, refl, sym, ap, subst, arith, length-append}
+use Rattle.std.proofs.Common.{◌≡◌, ◌≤◌, ◌<◌, ◌+◌, ◌++◌, ◌∙◌, ℕ, zero, suc, List, [], ◌∷◌, None, Some, length, take, get_or, slice_get, refl, sym, ap, subst, arith, length-append}
 use Rattle.std.specs.Borrow.{Bor}
 use Rattle.dsr_ir.specs.declared.declarations.Spec.{Spec}
 use Rattle.dsr_report_read.specs.Forms.{AreLines, IsFirstWrong, IsNext, IsReportOf}
-use Rattle.dsr_report_read.specs.Lines.{kind_of, line_text, line_texts, may_follow, moved, start, state_after}
+use Rattle.dsr_report_read.specs.Lines.{line_text, line_texts, moved, start, state_after}
 use Rattle.dsr_report_read.specs.Reads.{ReadsLine, texts_of}
 use Rattle.dsr_report_read.specs.declared.lines.Kind.TheVariants as kinds
 use Rattle.dsr_report_read.specs.declared.lines.Line.{Line}

@@ -1,10 +1,9 @@
 -- What a text may be that of, where one value alone is tried.
-use Rattle.std.proofs.Common.{◌≡◌, ◌≤◌, ◌<◌, ◌+◌, ◌^◌, ◌++◌, ◌∙◌, ℕ, zero, suc, true, false, cond, List, [], ◌∷◌, Option, None, Some, IsSome, length, drop, slice_get, refl, sym, ap, subst, arith, nat_eq, append_assoc}
+use Rattle.std.proofs.Common.{◌≡◌, ◌<◌, ◌+◌, ◌^◌, ◌++◌, ◌∙◌, ℕ, zero, suc, true, false, cond, List, [], ◌∷◌, Option, None, Some, IsSome, length, drop, slice_get, refl, sym, ap, subst, arith, nat_eq}
 use Rattle.std.specs.Prelude.{◌-◌, ◌*◌, ◌%◌, Bool, MatchBool, is_some, take, codes, decimal, ◌==◌, option_and_then}
 use Rattle.std.specs.Option.{option_map_or}
 use Rattle.std.proofs.lemmas.Bool.Decides.{nat_tests}
 use Rattle.dsr_answers.specs.Texts.{constraint_name, element_text, field_name, pool_name}
-use Rattle.dsr_ir.specs.declared.constraints.Conj.{Conj}
 use Rattle.dsr_ir.specs.declared.constraints.Constraint.{Constraint}
 use Rattle.dsr_ir.specs.declared.declarations.Field.{Field}
 use Rattle.dsr_ir.specs.declared.declarations.FieldRef.{FieldRef}
@@ -14,14 +13,14 @@ use Rattle.dsr_ir.specs.declared.tuples.Element.{Element}
 use Rattle.dsr_meaning.proofs.Firing.{found_fits}
 use Rattle.dsr_ir.specs.Exprs.{ExprShape}
 use Rattle.dsr_meaning.specs.Instances.{declared_field}
-use Rattle.dsr_meaning.specs.Typed.{HasName, IsTyped, IsTypedConj, IsTypedConstraint, constraint_limit}
+use Rattle.dsr_meaning.specs.Typed.{HasName, IsTyped, IsTypedConj, IsTypedConstraint}
 use Rattle.dsr_repairing.specs.declared.entries.ByteChange.{ByteChange}
 use Rattle.dsr_repairing.specs.declared.entries.CellSet.{CellSet}
 use Rattle.dsr_report.specs.Reports.{byte_line, reset_line, set_line, update_line}
 use Rattle.dsr_report_read.proofs.HeadsBack.{head_back, name_is}
 use Rattle.dsr_report_read.proofs.LinesBack.{change_back, field_is, reset_back, set_back, set_grouped, slot_grouped}
-use Rattle.dsr_report_read.proofs.ReadBack.{put_left, put_right, regroup}
-use Rattle.dsr_report_read.specs.Forms.{IsChange, IsHead, IsOfPool, IsRecord, IsSet}
+use Rattle.dsr_report_read.proofs.ReadBack.{regroup}
+use Rattle.dsr_report_read.specs.Forms.{IsChange, IsHead, IsOfPool, IsRecord}
 use Rattle.dsr_report_read.specs.Lenient.{behind_field, behind_number, change_in, digits_len, element_ahead, field_ahead, head_in, index_ahead, name_ahead, narrow, number_ahead, set_in, value_after, values_ahead}
 use Rattle.dsr_report_read.specs.Lines.{bare}
 use Rattle.dsr_report_read.specs.Reads.{Begins, IsHeadOf, IsRecordIn, IsSetAt, IsSetIn, Reads}

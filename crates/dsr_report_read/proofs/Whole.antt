@@ -8,7 +8,7 @@ use Rattle.bstr.specs.Text.{line_len, lines_of}
 use Rattle.dsr_ir.specs.declared.declarations.Spec.{Spec}
 use Rattle.dsr_meaning.specs.Lists.{each_at}
 use Rattle.dsr_report.specs.Reports.{byte_line, end_line, entry_text, report_text, reset_line, set_line, update_line}
-use Rattle.dsr_report_read.specs.Forms.{AreLines, IsNext, IsReportOf}
+use Rattle.dsr_report_read.specs.Forms.{AreLines, IsReportOf}
 use Rattle.dsr_report_read.specs.Grouped.{behind_reset, bytes_ahead, entries_of, entry_of, reset_ahead, sets_ahead}
 use Rattle.dsr_report_read.specs.Lines.{bare, kind_of, line_texts, may_follow, moved, start, state_after}
 use Rattle.dsr_report_read.specs.declared.lines.Kind.{Kind}
@@ -120,8 +120,8 @@ module _ (spec : Spec) where
       let line = update_line spec number (bare h) in
       let its : joined (line_texts spec (moved s (lines.Update h)) rest) ≡ after_update rest ++ tail number rest = left rest (moved s (lines.Update h)) (λ e. absurd cc) are.1 ended in
       let entry : entry_text spec number (entry_of h rest) ≡ line ++ after_update rest =
-          append_assoc (line ++ option_map_or (reset_line spec) (reset_ahead rest) []) (flat_map (set_line spec) (sets_ahead (behind_reset rest))) (after_sets (drop (length (sets_ahead (behind_reset rest))) (behind_reset rest)))
-          ∙ append_assoc line (option_map_or (reset_line spec) (reset_ahead rest) []) (after_reset (behind_reset rest)) in
+      append_assoc (line ++ option_map_or (reset_line spec) (reset_ahead rest) []) (flat_map (set_line spec) (sets_ahead (behind_reset rest))) (after_sets (drop (length (sets_ahead (behind_reset rest))) (behind_reset rest)))
+      ∙ append_assoc line (option_map_or (reset_line spec) (reset_ahead rest) []) (after_reset (behind_reset rest)) in
       let last : number + length (entries_of rest) ≡ s.count + length (entries_of (lines.Update h ∷ rest)) = omega arith in
       let next : number + 1 ≡ suc number = omega arith in
       ap (λ t. line ++ t) its

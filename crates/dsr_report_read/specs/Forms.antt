@@ -1,5 +1,5 @@
 -- Which texts are reports, and the first line that keeps a text from being one.
-use Rattle.std.specs.Prelude.{◌≡◌, ◌≢◌, ◌≤◌, ◌<◌, ◌+◌, ◌^◌, ℕ, false, IsTrue, IsSome, List, [], ◌∷◌, None, Some, IsSomeAnd, MatchBool, length, map, take, slice_get}
+use Rattle.std.specs.Prelude.{◌≡◌, ◌≢◌, ◌≤◌, ◌<◌, ◌+◌, ◌^◌, ℕ, false, IsTrue, IsSome, List, [], ◌∷◌, None, Some, MatchBool, length, take, slice_get}
 use Rattle.dsr_ir.specs.declared.constraints.Constraint.{Constraint}
 use Rattle.dsr_ir.specs.declared.constraints.Quant.{Quant}
 use Rattle.dsr_ir.specs.declared.constraints.Quant.TheVariants as quants

@@ -1,4 +1,4 @@
-use Rattle.std.proofs.Common.{◌<◌, ◌≤◌, ◌≡◌, length, get_or, refl, sym, subst, arith}
+use Rattle.std.proofs.Common.{◌<◌, ◌≤◌, ◌≡◌, length, get_or, refl, subst, arith}
 use Rattle.dsr_report_read.proofs.Ahead.{refused}
 use Rattle.dsr_report_read.proofs.Views.{in_got, none_viewed, one_viewed}
 use Rattle.dsr_report_read.proofs.fields.is_viewed.Goals as goal

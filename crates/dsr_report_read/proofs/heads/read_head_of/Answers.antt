@@ -1,4 +1,4 @@
-use Rattle.std.proofs.Common.{true, false, ◌≡◌, ◌<◌, ◌∙◌, IsSome, drop, length, sym, ap, subst, arith}
+use Rattle.std.proofs.Common.{true, false, ◌≡◌, ◌∙◌, IsSome, drop, length, sym, ap, subst, arith}
 use Rattle.dsr_report_read.proofs.Ahead.{refused}
 use Rattle.dsr_answers.specs.Texts.{constraint_name}
 use Rattle.dsr_report.specs.Reports.{update_line}

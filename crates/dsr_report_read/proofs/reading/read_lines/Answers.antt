@@ -1,4 +1,4 @@
-use Rattle.std.proofs.Common.{◌+◌, ◌++◌, ◌∷◌, [], None, Some, refl, sym, subst, arith}
+use Rattle.std.proofs.Common.{◌+◌, refl, sym, subst, arith}
 use Rattle.dsr_report_read.proofs.Ahead.{refused}
 use Rattle.dsr_report_read.proofs.Row.{AreRead, all_read, no_end, none_read, one_read, texts_long, wrong_here}
 use Rattle.dsr_report_read.specs.Forms.{IsFirstWrong}

@@ -1,5 +1,4 @@
-use Rattle.std.proofs.Common.{◌≡◌, true, false, ◌∙◌, drop, sym, ap, subst}
-use Rattle.dsr_answers.specs.Texts.{pool_name}
+use Rattle.std.proofs.Common.{◌≡◌, true, false, ◌∙◌, sym, ap}
 use Rattle.dsr_report.specs.Reports.{reset_line}
 use Rattle.dsr_report_read.proofs.Sole.{differs, sole_reset}
 use Rattle.dsr_report_read.specs.Lenient.{element_ahead}

@@ -23,6 +23,6 @@ returns-then-not-branch c =
 pub returns : goal.returns
 returns c = (
   made_set c.args.spec.now c.args.pool c.args.place c.args.text.now c.args.field.now c.requires.declared (c.if-not-has_name.ensures.0 refl) c.requires.of_pool
-  c.is_some.result c.is_some.ensures c.set_in-set.result c.set_in-set.ensures (c.if-not-is_record.ensures.0 refl),
+      c.is_some.result c.is_some.ensures c.set_in-set.result c.set_in-set.ensures (c.if-not-is_record.ensures.0 refl),
   c.in_ok-is_set.ensures.0 c.if-not-branch.false,
 )

@@ -1,4 +1,4 @@
-use Rattle.std.proofs.Common.{◌<◌, ◌≤◌, ◌≡◌, Some, length, get_or, drop, slice_get, subst, arith}
+use Rattle.std.proofs.Common.{◌<◌, ◌≤◌, ◌≡◌, length, get_or, drop, subst, arith}
 use Rattle.dsr_answers.specs.Texts.{pool_name}
 use Rattle.dsr_report_read.proofs.Ahead.{refused}
 use Rattle.dsr_report_read.proofs.Sole.{begins_as, set_begins, structure_less}

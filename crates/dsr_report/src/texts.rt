@@ -21,8 +21,8 @@ fn push_place(text: &mut Vec<u8>, entry: &Entry) -> Result<(), NoMemory>
     push_number(text, u64::from(entry.literal) + 1)
 }
 
-// Appends the line that begins the entry with this number.
-fn push_update(text: &mut Vec<u8>, spec: &Spec, number: u64, entry: &Entry) -> Result<(), NoMemory>
+/// Appends the line that begins the entry with this number.
+pub fn push_update(text: &mut Vec<u8>, spec: &Spec, number: u64, entry: &Entry) -> Result<(), NoMemory>
     ensures { OnOk result (text.new.items ≡ text.old.items
         ++ said.update_line spec.now number entry.now) }
 {
@@ -38,8 +38,8 @@ fn push_update(text: &mut Vec<u8>, spec: &Spec, number: u64, entry: &Entry) -> R
     push(text, b"\n")
 }
 
-// Appends the line of the record that was reset, where one was.
-fn push_reset(text: &mut Vec<u8>, spec: &Spec, reset: Option<Element>) -> Result<(), NoMemory>
+/// Appends the line of the record that was reset, where one was.
+pub fn push_reset(text: &mut Vec<u8>, spec: &Spec, reset: Option<Element>) -> Result<(), NoMemory>
     ensures { OnOk result (text.new.items ≡ text.old.items
         ++ option_map_or (said.reset_line spec.now) reset []) }
 {
@@ -75,7 +75,8 @@ fn push_place_set(text: &mut Vec<u8>, spec: &Spec, set: &CellSet) -> Result<(), 
     push_index(text, set)
 }
 
-fn push_set(text: &mut Vec<u8>, spec: &Spec, set: &CellSet) -> Result<(), NoMemory>
+/// Appends the line of a value that was set.
+pub fn push_set(text: &mut Vec<u8>, spec: &Spec, set: &CellSet) -> Result<(), NoMemory>
     ensures { OnOk result (text.new.items ≡ text.old.items ++ said.set_line spec.now set.now) }
 {
     push(text, b"  set ")?;
@@ -106,7 +107,8 @@ fn push_byte(text: &mut Vec<u8>, byte: u8) -> Result<(), NoMemory>
     push(text, &digits)
 }
 
-fn push_change(text: &mut Vec<u8>, change: &ByteChange) -> Result<(), NoMemory>
+/// Appends the line of a byte that is another one.
+pub fn push_change(text: &mut Vec<u8>, change: &ByteChange) -> Result<(), NoMemory>
     ensures { OnOk result (text.new.items ≡ text.old.items ++ said.byte_line change.now) }
 {
     push(text, b"  byte ")?;
@@ -149,8 +151,8 @@ pub fn push_entries(text: &mut Vec<u8>, spec: &Spec, entries: &[Entry]) -> Resul
     Ok(())
 }
 
-// Appends the line that ends a report of so many entries.
-fn push_end(text: &mut Vec<u8>, count: u64) -> Result<(), NoMemory>
+/// Appends the line that ends a report of so many entries.
+pub fn push_end(text: &mut Vec<u8>, count: u64) -> Result<(), NoMemory>
     ensures { OnOk result (text.new.items ≡ text.old.items ++ said.end_line count) }
 {
     push(text, b"updates ")?;

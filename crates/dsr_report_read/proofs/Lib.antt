@@ -1,0 +1,12 @@
+mod Ahead
+mod Descending
+mod Fronts
+mod HeadsBack
+mod LinesBack
+mod Once
+mod ReadBack
+mod Row
+mod Sole
+mod Sought
+mod Views
+mod Whole

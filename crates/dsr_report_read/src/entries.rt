@@ -1,0 +1,125 @@
+// Lines in a row, as entries.
+ghost use Rattle.std.specs.Prelude.{◌≡◌, IfOk, drop, length};
+ghost use Rattle.dsr_report_read.specs.Grouped as said;
+
+use crate::lines::{Head, Line};
+use dsr_ir::{Element, NoMemory, Seq};
+use dsr_repairing::{ByteChange, CellSet, Entry};
+use dsr_report::Log;
+use std::alloc::Global;
+
+fn reset_ahead(lines: &[Line]) -> Option<Element>
+    ensures { result ≡ said.reset_ahead lines.now }
+{
+    match lines.first() {
+        Some(Line::Reset(elem)) => Some(*elem),
+        _ => None,
+    }
+}
+
+fn set_of(line: &Line) -> Option<CellSet>
+    ensures { result ≡ said.set_of line.now }
+{
+    match line {
+        Line::Set(set) => Some(*set),
+        _ => None,
+    }
+}
+
+fn change_of(line: &Line) -> Option<ByteChange>
+    ensures { result ≡ said.change_of line.now }
+{
+    match line {
+        Line::Byte(change) => Some(*change),
+        _ => None,
+    }
+}
+
+// The sets at the front.
+fn sets_ahead(alloc: Global, lines: &[Line]) -> Result<Vec<CellSet>, NoMemory>
+    ensures { IfOk result (λ sets. sets.items ≡ said.sets_ahead lines.now) }
+{
+    let mut sets = Vec::new(alloc);
+    for line in lines {
+        let Some(set) = set_of(line) else {
+            return Ok(sets);
+        };
+        sets.push(set)?;
+    }
+    Ok(sets)
+}
+
+// The bytes at the front.
+fn bytes_ahead(alloc: Global, lines: &[Line]) -> Result<Vec<ByteChange>, NoMemory>
+    ensures { IfOk result (λ bytes. bytes.items ≡ said.bytes_ahead lines.now) }
+{
+    let mut bytes = Vec::new(alloc);
+    for line in lines {
+        let Some(change) = change_of(line) else {
+            return Ok(bytes);
+        };
+        bytes.push(change)?;
+    }
+    Ok(bytes)
+}
+
+// What stands behind a reset at the front.
+fn behind_reset(lines: &[Line]) -> &[Line]
+    ensures { result.now ≡ said.behind_reset lines.now }
+{
+    match lines.first() {
+        Some(Line::Reset(_)) => &lines[1..],
+        _ => lines,
+    }
+}
+
+// The lines without so many at their front.
+fn skip(lines: &[Line], count: usize) -> &[Line]
+    ensures { result.now ≡ drop count lines.now }
+{
+    lines.get(count..).unwrap_or(&[])
+}
+
+// The entry of an update with what stands behind it.
+fn entry_of(alloc: Global, head: Head, rest: &[Line]) -> Result<Entry, NoMemory>
+    ensures { IfOk result (λ entry. entry ≡ said.entry_of head rest.now) }
+{
+    let reset = reset_ahead(rest);
+    let rest = behind_reset(rest);
+    let sets = sets_ahead(alloc, rest)?;
+    let bytes = bytes_ahead(alloc, skip(rest, sets.len()))?;
+    Ok(Entry {
+        constraint: head.constraint,
+        binding: head.binding,
+        conj: head.conj,
+        literal: head.literal,
+        rule: head.rule,
+        reset,
+        sets: Seq::new(sets),
+        bytes: Seq::new(bytes),
+    })
+}
+
+fn head_of(line: &Line) -> Option<Head>
+    ensures { result ≡ said.head_of line.now }
+{
+    match line {
+        Line::Update(head) => Some(*head),
+        _ => None,
+    }
+}
+
+/// The entries of the lines.
+pub fn entries_of(alloc: Global, lines: &[Line]) -> Result<Log, NoMemory>
+    ensures { IfOk result (λ log. log.entries ≡ said.entries_of lines.now) }
+{
+    let mut log = Log::new(alloc);
+    for (place, line) in lines.iter().enumerate() {
+        if let Some(head) = head_of(line) {
+            let entry = entry_of(alloc, head, skip(lines, place + 1))?;
+            log.reserve()?;
+            log.push(entry);
+        }
+    }
+    Ok(log)
+}

@@ -1,0 +1,22 @@
+//! The log that a report tells, read back from the text.
+//!
+//! A line is read leniently, for each constraint, pool or field whose name it may have; what was read is printed, and
+//! compared with the line.
+#![tactic(auto)]
+
+mod bindings;
+mod entries;
+mod faults;
+mod fields;
+mod following;
+mod heads;
+mod lines;
+mod numbers;
+mod printed;
+mod reading;
+mod records;
+mod sets;
+
+pub use faults::ReadFault;
+pub use lines::{Head, Kind, Line, State};
+pub use reading::read;

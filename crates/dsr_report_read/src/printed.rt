@@ -1,0 +1,72 @@
+// Whether a line is the printed one.
+ghost use Rattle.std.specs.Prelude.{◌≡◌, Decides, IfOk, None, []};
+ghost use Rattle.dsr_report.specs.Reports.{byte_line, end_line, reset_line, set_line, update_line};
+ghost use Rattle.dsr_report_read.specs.Lines.{bare};
+
+use crate::lines::Head;
+use dsr_ir::{Element, NoMemory, Seq, Spec};
+use dsr_repairing::{ByteChange, CellSet, Entry};
+use dsr_report::{push_change, push_end, push_reset, push_set, push_update};
+use std::alloc::Global;
+
+// An entry that nothing else is told of.
+fn bare(alloc: Global, head: Head) -> Entry
+    ensures { result ≡ bare head }
+{
+    Entry {
+        constraint: head.constraint,
+        binding: head.binding,
+        conj: head.conj,
+        literal: head.literal,
+        rule: head.rule,
+        reset: None,
+        sets: Seq::new(Vec::new(alloc)),
+        bytes: Seq::new(Vec::new(alloc)),
+    }
+}
+
+pub fn is_update(
+    alloc: Global,
+    spec: &Spec,
+    number: u64,
+    head: Head,
+    text: &[u8],
+) -> Result<bool, NoMemory>
+    ensures { IfOk result (λ is. Decides is (text.now ≡ update_line spec.now number (bare head))) }
+{
+    let mut line = Vec::new(alloc);
+    push_update(&mut line, spec, number, &bare(alloc, head))?;
+    Ok(line.as_slice() == text)
+}
+
+pub fn is_reset(alloc: Global, spec: &Spec, elem: Element, text: &[u8]) -> Result<bool, NoMemory>
+    ensures { IfOk result (λ is. Decides is (text.now ≡ reset_line spec.now elem)) }
+{
+    let mut line = Vec::new(alloc);
+    push_reset(&mut line, spec, Some(elem))?;
+    Ok(line.as_slice() == text)
+}
+
+pub fn is_set(alloc: Global, spec: &Spec, set: &CellSet, text: &[u8]) -> Result<bool, NoMemory>
+    ensures { IfOk result (λ is. Decides is (text.now ≡ set_line spec.now set.now)) }
+{
+    let mut line = Vec::new(alloc);
+    push_set(&mut line, spec, set)?;
+    Ok(line.as_slice() == text)
+}
+
+pub fn is_change(alloc: Global, change: &ByteChange, text: &[u8]) -> Result<bool, NoMemory>
+    ensures { IfOk result (λ is. Decides is (text.now ≡ byte_line change.now)) }
+{
+    let mut line = Vec::new(alloc);
+    push_change(&mut line, change)?;
+    Ok(line.as_slice() == text)
+}
+
+pub fn is_end(alloc: Global, count: u64, text: &[u8]) -> Result<bool, NoMemory>
+    ensures { IfOk result (λ is. Decides is (text.now ≡ end_line count)) }
+{
+    let mut line = Vec::new(alloc);
+    push_end(&mut line, count)?;
+    Ok(line.as_slice() == text)
+}

@@ -107,8 +107,8 @@ pub told_within : (spec : Spec) (layout : Layout) (step : Step) (update : Update
 told_within spec layout step update old new entry told =
     subst (λ cs. AreWithin cs old) (sym told.bytes)
     (λ n d below.
-        let within = (all_within 0 old new (get_or (changes old new) n d) n (got_of (changes old new) (changes old new) n d refl below)).1 in
-        omega (arith, within))
+    let within = (all_within 0 old new (get_or (changes old new) n d) n (got_of (changes old new) (changes old new) n d refl below)).1 in
+    omega (arith, within))
 
 -- where the changes that are told were made, the bytes are those that the step makes
 pub bytes_made :

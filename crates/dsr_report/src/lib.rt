@@ -4,6 +4,4 @@
 mod texts;
 
 pub use dsr_log::Log;
-pub use texts::{
-    push_change, push_end, push_entries, push_reset, push_set, push_update, text,
-};
+pub use texts::{push_change, push_end, push_entries, push_reset, push_set, push_update, text};

@@ -22,7 +22,12 @@ fn push_place(text: &mut Vec<u8>, entry: &Entry) -> Result<(), NoMemory>
 }
 
 /// Appends the line that begins the entry with this number.
-pub fn push_update(text: &mut Vec<u8>, spec: &Spec, number: u64, entry: &Entry) -> Result<(), NoMemory>
+pub fn push_update(
+    text: &mut Vec<u8>,
+    spec: &Spec,
+    number: u64,
+    entry: &Entry,
+) -> Result<(), NoMemory>
     ensures { OnOk result (text.new.items ≡ text.old.items
         ++ said.update_line spec.now number entry.now) }
 {

@@ -44,7 +44,7 @@ returns-in-Done-clause-ends g c =
     let old = g.I.ImageBytes.bytes c.loop.image in
     let new = g.I.ImageBytes.bytes c.step.new.image in
     let taken = subst (IsTaken c.args.plan.now.0 c.args.plan.now.1 c.args.layout.now old new c.loop.log.entries c.step.new.log.entries)
-        c.in-Done.is c.in_ok-step.ensures.taken in
+    c.in-Done.is c.in_ok-step.ensures.taken in
     subst (IsConsistent c.args.plan.now.0 c.args.layout.now) (sym taken.bytes)
     (subst (IsTurn c.args.plan.now.0 c.args.plan.now.1 c.args.layout.now old) c.in-Done.is c.in_ok-step.ensures.turn)
 
@@ -53,7 +53,7 @@ loop-preserved g c =
     let old = g.I.ImageBytes.bytes c.loop.image in
     let new = g.I.ImageBytes.bytes c.step.new.image in
     let taken = subst (IsTaken c.args.plan.now.0 c.args.plan.now.1 c.args.layout.now old new c.loop.log.entries c.step.new.log.entries)
-        c.in-Step.is c.in_ok-step.ensures.taken in
+    c.in-Step.is c.in_ok-step.ensures.taken in
     record {
       steps = run_on c.args.plan.now.0 c.args.plan.now.1 c.args.layout.now (g.I.ImageBytes.bytes c.args.image.now) old new
           c.loop.log.entries c.step.new.log.entries taken.entry c.loop.invariant.steps taken.made taken.pushed;

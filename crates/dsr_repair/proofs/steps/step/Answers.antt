@@ -19,7 +19,7 @@ pub entry_of-requires : goal.entry_of-requires
 entry_of-requires g c =
     let old = g.I.ImageBytes.bytes c.args.image.now in
     let due = due_by_it c.args.plan.now.0 c.args.plan.now.1 c.args.layout.now old c.in-Step.step c.in-Step.ensures.0
-        c.in-Some.update.now c.in-Step.ensures.1 c.in-Some.ensures in
+    c.in-Some.update.now c.in-Step.ensures.1 c.in-Some.ensures in
     let plan = subst (λ s. IsPlan s c.args.plan.now.1) c.spec.ensures.is c.spec.ensures.plan in
     record {
       can = subst (λ s. CanStep s c.args.layout.now c.in-Step.step c.in-Some.update.now (length old)) (sym c.spec.ensures.is)
@@ -47,10 +47,10 @@ pub rebuild-requires-clause-laid_out : goal.rebuild-requires-clause-laid_out
 rebuild-requires-clause-laid_out g c =
     let old = g.I.ImageBytes.bytes c.args.image.now in
     let due = due_by_it c.args.plan.now.0 c.args.plan.now.1 c.args.layout.now old c.in-Step.step c.in-Step.ensures.0
-        c.in-Some.update.now c.in-Step.ensures.1 c.in-Some.ensures in
+    c.in-Some.update.now c.in-Step.ensures.1 c.in-Some.ensures in
     let plan = subst (λ s. IsPlan s c.args.plan.now.1) c.spec.ensures.is c.spec.ensures.plan in
     let is = subst (λ s. IsMade s c.args.layout.now c.in-Step.step c.in-Some.update.now old c.in_ok-entry.entry)
-        c.spec.ensures.is c.in_ok-entry.ensures in
+    c.spec.ensures.is c.in_ok-entry.ensures in
     subst (λ s. IsLaidOut s c.args.layout.now (g.I.ImageBytes.bytes c.make_changes.new.image)) (sym c.spec-2.ensures.is)
     (laid_out c.args.plan.now.0 c.args.layout.now (g.I.ImageBytes.bytes c.make_changes.new.image)
     (subst (IsImageOf c.args.plan.now.0 c.args.layout.now)
@@ -64,9 +64,9 @@ pub returns-clause-taken : goal.returns-clause-taken
 returns-clause-taken g c =
     let old = g.I.ImageBytes.bytes c.args.image.now in
     let due = due_by_it c.args.plan.now.0 c.args.plan.now.1 c.args.layout.now old c.in-Step.step c.in-Step.ensures.0
-        c.in-Some.update.now c.in-Step.ensures.1 c.in-Some.ensures in
+    c.in-Some.update.now c.in-Step.ensures.1 c.in-Some.ensures in
     let is = subst (λ s. IsMade s c.args.layout.now c.in-Step.step c.in-Some.update.now old c.in_ok-entry.entry)
-        c.spec.ensures.is c.in_ok-entry.ensures in
+    c.spec.ensures.is c.in_ok-entry.ensures in
     record {
       entry = c.in_ok-entry.entry;
       pushed = c.push.ensures.entries ∙ ap (λ before. before ++ c.in_ok-entry.entry ∷ []) c.reserve.ensures.same;
@@ -87,10 +87,10 @@ returns-clause-modelled g c =
     let old = g.I.ImageBytes.bytes c.args.image.now in
     let new = g.I.ImageBytes.bytes c.make_changes.new.image in
     let due = due_by_it c.args.plan.now.0 c.args.plan.now.1 c.args.layout.now old c.in-Step.step c.in-Step.ensures.0
-        c.in-Some.update.now c.in-Step.ensures.1 c.in-Some.ensures in
+    c.in-Some.update.now c.in-Step.ensures.1 c.in-Some.ensures in
     let plan = subst (λ s. IsPlan s c.args.plan.now.1) c.spec.ensures.is c.spec.ensures.plan in
     let is = subst (λ s. IsMade s c.args.layout.now c.in-Step.step c.in-Some.update.now old c.in_ok-entry.entry)
-        c.spec.ensures.is c.in_ok-entry.ensures in
+    c.spec.ensures.is c.in_ok-entry.ensures in
     record {
       image = subst (IsImageOf c.args.plan.now.0 c.args.layout.now)
           (sym (bytes_made c.args.plan.now.0 c.args.layout.now c.in-Step.step c.in-Some.update.now old

@@ -1,0 +1,2 @@
+//! How the names of a specification are spelled.
+#![tactic(auto)]

@@ -1,6 +1,5 @@
 -- Names that are spelled as a text spells them.
 use Rattle.std.specs.Prelude.{ℕ, List, ◌∷◌, IsTrue, All}
-use Rattle.dsr_ir.specs.declared.declarations.Field.{Field}
 use Rattle.dsr_ir.specs.declared.declarations.Spec.{Spec}
 use Rattle.dsr_ir.specs.declared.declarations.Structure.{Structure}
 use Rattle.dsr_meaning.specs.Typed.{HasName}

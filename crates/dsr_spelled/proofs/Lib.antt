@@ -1,0 +1,2 @@
+pub mod SpelledPhrases
+pub mod SpelledTrees

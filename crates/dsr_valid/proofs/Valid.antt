@@ -1,0 +1,19 @@
+-- The certificates of plans for what a text means.
+use Rattle.std.proofs.Common.{ℕ, List}
+use Rattle.dsr_cert.specs.Certificates.{certificate_text}
+use Rattle.dsr_certify.specs.Verified.{IsCertificate}
+use Rattle.dsr_ir.specs.declared.declarations.Spec.{Spec}
+use Rattle.dsr_planning.specs.Plans.{IsPlan}
+use Rattle.dsr_planning.specs.Taken.{IsTaken}
+use Rattle.dsr_planning.specs.declared.choices.Choice.{Choice}
+use Rattle.dsr_spelled.proofs.SpelledTrees.{names_spelled}
+use Rattle.dsr_typing.specs.Specifications.{IsSpecificationOf}
+use Rattle.dsr_valid.specs.LowLevels.{HasLowLevels}
+use Rattle.dsr_valid.proofs.PlanLines.{plan_valid}
+use Rattle.dsr_valid.proofs.TakenLevels.{taken_levels}
+
+pub low_valid : (text : List ℕ) (spec : Spec) (choice : Choice) → IsSpecificationOf text spec → IsPlan spec choice → HasLowLevels spec choice → IsCertificate spec (certificate_text spec choice)
+low_valid text spec choice its plan low = plan_valid spec (names_spelled text spec its) choice plan low
+
+pub taken_valid : (text : List ℕ) (spec : Spec) (choice : Choice) → IsSpecificationOf text spec → IsTaken spec choice → IsCertificate spec (certificate_text spec choice)
+taken_valid text spec choice its taken = low_valid text spec choice its taken.plan (taken_levels text spec choice its taken)

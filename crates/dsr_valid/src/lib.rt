@@ -1,0 +1,23 @@
+//! Certificates of plans are valid: a law, the contract of a function that does nothing when it runs.
+#![tactic(auto)]
+
+ghost use Rattle.std.specs.Prelude.{ℕ, List};
+ghost use Rattle.dsr_cert.specs.Certificates.{certificate_text};
+ghost use Rattle.dsr_certify.specs.Verified.{IsCertificate};
+ghost use Rattle.dsr_ir.specs.declared.declarations.Spec.{Spec};
+ghost use Rattle.dsr_planning.specs.Plans.{IsPlan};
+ghost use Rattle.dsr_planning.specs.Taken.{IsTaken};
+ghost use Rattle.dsr_planning.specs.declared.choices.Choice.{Choice};
+ghost use Rattle.dsr_typing.specs.Specifications.{IsSpecificationOf};
+ghost use Rattle.dsr_valid.specs.LowLevels.{HasLowLevels};
+
+/// The text of a plan is a certificate, where a certificate may say its levels: no line is wrong, and
+/// its lines are those of a plan. So is the text of the plan that is taken, whose levels are low.
+pub fn certificates_of_plans_are_valid()
+    ensures plans { (text : List ℕ) (spec : Spec) (choice : Choice)
+        → IsSpecificationOf text spec → IsPlan spec choice
+        → HasLowLevels spec choice → IsCertificate spec (certificate_text spec choice) }
+    ensures taken { (text : List ℕ) (spec : Spec) (choice : Choice)
+        → IsSpecificationOf text spec → IsTaken spec choice
+        → IsCertificate spec (certificate_text spec choice) }
+{}

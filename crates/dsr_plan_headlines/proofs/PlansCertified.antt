@@ -5,12 +5,15 @@ use Rattle.dsr_asking.specs.Commands.{asked, certifies, loads_spec, reads, saves
 use Rattle.dsr_asking.specs.Words.{Certify, command_of}
 use Rattle.dsr_cert.specs.Certificates.{certificate_text}
 use Rattle.dsr_certify.specs.Certified.{certified_answer}
+use Rattle.dsr_certify.specs.Verified.{IsCertificate}
 use Rattle.dsr_ir.specs.declared.declarations.Spec.{Spec}
 use Rattle.dsr_one_meaning.specs.Meanings.{HaveOneMeaning}
 use Rattle.dsr_plan.specs.Planned as planned
 use Rattle.dsr_plan.specs.declared.plans.Found as plans
 use Rattle.dsr_plan.specs.declared.plans.Found.TheVariants as plan_found
 use Rattle.dsr_plan.specs.Refusals.{refused_answer}
+use Rattle.dsr_planning.specs.Plans.{IsPlan}
+use Rattle.dsr_planning.specs.declared.choices.Choice.{Choice}
 use Rattle.dsr_script.proofs.Laws.{said_at_save, said_at_tell}
 use Rattle.dsr_script.specs.Outside.{IsSaved, Outside, Stands}
 use Rattle.dsr_script.specs.Runs.{AllLoaded, Ends, Runs}
@@ -20,7 +23,7 @@ use Rattle.dsr_script.specs.declared.status.Status.TheVariants.{Said}
 use Rattle.dsr_script.specs.declared.status.Verdict.{Verdict}
 use Rattle.dsr_script.specs.declared.status.Verdict.TheVariants as verdicts
 use Rattle.dsr_store.specs.Files.{Files}
-use Rattle.dsr_typing.specs.Specifications.{specification}
+use Rattle.dsr_typing.specs.Specifications.{IsSpecificationOf, specification}
 use Rattle.dsr_plan_headlines.specs.Headlines.{CertifiesNothingElse, CertifiesPlans, IsCertifyVerdict, IsToCertify, WasCertified}
 
 -- what `certify` leaves, by what it finds
@@ -69,14 +72,20 @@ module _ (before after : Outside) (files : Files) (held : before.held ≡ Some f
             })
       ]
 
+-- what `certify` saves is a certificate
+abbrev pub ArePlansValid : Type 0
+ArePlansValid =
+    (text : List ℕ) (spec : Spec) (choice : Choice) → IsSpecificationOf text spec → IsPlan spec choice
+    → IsCertificate spec (certificate_text spec choice)
+
 -- the verdict on a specification that is to be certified
-module _ (before after : Outside) (verdict : Verdict) (spec : Spec) (name : List ℕ) where
+module _ (valid : ArePlansValid) (before after : Outside) (verdict : Verdict) (spec : Spec) (text : List ℕ) (means : IsSpecificationOf text spec) (name : List ℕ) where
   certify_verdict : (found : plans.Found) → planned.IsFound spec found → IsCertifyTold spec name before after verdict found
       → IsCertifyVerdict spec name before after verdict
   certify_verdict (plan_found.Plan choice) is told = record {
     found = plan_found.Plan choice;
     is = is;
-    done = (told.0, told.1.put);
+    done = (told.0, valid text spec choice means is.plan, told.1.put);
     ok = (λ _. (choice, is.plan), λ _. told.1.says);
     refused = (λ e. let wrong : verdicts.Ok ≡ verdicts.PlanRefused = sym told.1.says ∙ e in absurd cc, λ none. absurd (none choice is.plan));
   }
@@ -88,7 +97,7 @@ module _ (before after : Outside) (verdict : Verdict) (spec : Spec) (name : List
     refused = (λ _. is.1, λ _. told.1.says);
   }
 
-module _ (once : HaveOneMeaning) (words : List (List ℕ)) (before after : Outside) (status : Status) (runs : Runs (asked words) before after status) where
+module _ (valid : ArePlansValid) (once : HaveOneMeaning) (words : List (List ℕ)) (before after : Outside) (status : Status) (runs : Runs (asked words) before after status) where
   certified_by : (files : Files) (spec : Spec) (name : List ℕ) (verdict : Verdict) → before.held ≡ Some files → status ≡ Said verdict
       → IsToCertify files words spec name → IsCertifyVerdict spec name before after verdict
   certified_by files spec name verdict held said is =
@@ -100,7 +109,7 @@ module _ (once : HaveOneMeaning) (words : List (List ℕ)) (before after : Outsi
             let read = certified_run.read in
             let meaning : specification read.tree ≡ spec = means_same once files is.spec_name is.text spec is.file is.means read in
             subst (λ s. IsCertifyVerdict s name before after verdict) meaning
-            (certify_verdict before after verdict (specification read.tree) name certified_run.found certified_run.is certified_run.told)
+            (certify_verdict valid before after verdict (specification read.tree) read.text (meant files is.spec_name read) name certified_run.found certified_run.is certified_run.told)
       ]
 
   pub certifies_plans : CertifiesPlans words before after status
@@ -124,7 +133,7 @@ module _ (once : HaveOneMeaning) (words : List (List ℕ)) (before after : Outsi
             short_text = certified_run.read.short;
             means = meant files spec_name certified_run.read;
           },
-          certify_verdict before after verdict (specification certified_run.read.tree) name certified_run.found certified_run.is certified_run.told,
+          certify_verdict valid before after verdict (specification certified_run.read.tree) certified_run.read.text (meant files spec_name certified_run.read) name certified_run.found certified_run.is certified_run.told,
         )
       ]
 

@@ -72,11 +72,12 @@ pub record IsToCertify (files : Files) (words : List (List ℕ)) (spec : Spec) (
   pub short_text : length text ≤ spec_limit
   pub means : IsSpecificationOf text spec
 
--- the certificate of the plan that is taken is saved, and their number of levels told; or nothing is saved, and what stands in
--- the way of a plan is told
+-- the certificate of the plan that is taken is saved, which is valid, and the number of its levels told; or nothing is saved, and
+-- what stands in the way of a plan is told
 abbrev pub IsCertifiedBy : Spec → List ℕ → Outside → Outside → Found → Type 0
 IsCertifiedBy spec name before after (Plan choice) =
     IsSaved before after name (certificate_text spec choice)
+    × IsCertificate spec (certificate_text spec choice)
     × (after.output.written ≡ appended before.output.written (certified_answer choice).text)
 IsCertifiedBy spec name before after (Stuck set) =
     Stands before after × (after.output.written ≡ appended before.output.written (refused_answer spec set).text)

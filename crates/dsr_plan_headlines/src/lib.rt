@@ -10,6 +10,7 @@ ghost use Rattle.dsr_script.specs.Runs.{Runs};
 ghost use Rattle.dsr_script.specs.declared.status.Status.{Status};
 
 use dsr_one_meaning::texts_have_one_meaning;
+use dsr_valid::certificates_of_plans_are_valid;
 
 /// A `plan` that speaks gives the verdict on the specification; none is said to have a plan or to
 /// have none unless one was looked for.
@@ -22,7 +23,7 @@ pub fn plans_are_found()
     texts_have_one_meaning();
 }
 
-/// A `certify` that speaks has certified the plan that is taken, or tells that there is none; none is
+/// A `certify` that speaks has saved the certificate of the plan that is taken, which is valid, or tells that there is none; none is
 /// said to be certified or to have no plan unless one was looked for.
 pub fn plans_are_certified()
     ensures certificates { (words : List (List ℕ)) (before after : Outside) (status : Status)
@@ -30,6 +31,7 @@ pub fn plans_are_certified()
     ensures nothing_else { (words : List (List ℕ)) (before after : Outside) (status : Status)
         → Runs (asked words) before after status → CertifiesNothingElse words before after status }
 {
+    certificates_of_plans_are_valid();
     texts_have_one_meaning();
 }
 

@@ -1,5 +1,8 @@
-//! A log with its text, apart from the crate itself, so that it is proved without its tests.
+//! A log with its text, reports that are read, and the first wrong lines of other texts, apart from the crates themselves, so that
+//! those are proved without tests.
 #![tactic(auto)]
 
 #[cfg(test)]
 mod logged;
+#[cfg(test)]
+mod texts;

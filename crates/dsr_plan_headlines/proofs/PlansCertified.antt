@@ -12,7 +12,7 @@ use Rattle.dsr_plan.specs.Planned as planned
 use Rattle.dsr_plan.specs.declared.plans.Found as plans
 use Rattle.dsr_plan.specs.declared.plans.Found.TheVariants as plan_found
 use Rattle.dsr_plan.specs.Refusals.{refused_answer}
-use Rattle.dsr_planning.specs.Plans.{IsPlan}
+use Rattle.dsr_planning.specs.Taken.{IsTaken}
 use Rattle.dsr_planning.specs.declared.choices.Choice.{Choice}
 use Rattle.dsr_script.proofs.Laws.{said_at_save, said_at_tell}
 use Rattle.dsr_script.specs.Outside.{IsSaved, Outside, Stands}
@@ -75,7 +75,7 @@ module _ (before after : Outside) (files : Files) (held : before.held ≡ Some f
 -- what `certify` saves is a certificate
 abbrev pub ArePlansValid : Type 0
 ArePlansValid =
-    (text : List ℕ) (spec : Spec) (choice : Choice) → IsSpecificationOf text spec → IsPlan spec choice
+    (text : List ℕ) (spec : Spec) (choice : Choice) → IsSpecificationOf text spec → IsTaken spec choice
     → IsCertificate spec (certificate_text spec choice)
 
 -- the verdict on a specification that is to be certified
@@ -85,7 +85,7 @@ module _ (valid : ArePlansValid) (before after : Outside) (verdict : Verdict) (s
   certify_verdict (plan_found.Plan choice) is told = record {
     found = plan_found.Plan choice;
     is = is;
-    done = (told.0, valid text spec choice means is.plan, told.1.put);
+    done = (told.0, valid text spec choice means is, told.1.put);
     ok = (λ _. (choice, is.plan), λ _. told.1.says);
     refused = (λ e. let wrong : verdicts.Ok ≡ verdicts.PlanRefused = sym told.1.says ∙ e in absurd cc, λ none. absurd (none choice is.plan));
   }

@@ -3,6 +3,6 @@ use Rattle.dsr_plan_headlines.proofs.plans_are_certified.Goals as goal
 
 pub returns : goal.returns
 returns c = record {
-  certificates = certifies_plans c.certificates_of_plans_are_valid.ensures c.texts_have_one_meaning.ensures;
-  nothing_else = certifies_nothing_else c.certificates_of_plans_are_valid.ensures c.texts_have_one_meaning.ensures;
+  certificates = certifies_plans c.certificates_of_plans_are_valid.ensures.taken c.texts_have_one_meaning.ensures;
+  nothing_else = certifies_nothing_else c.certificates_of_plans_are_valid.ensures.taken c.texts_have_one_meaning.ensures;
 }

@@ -24,8 +24,8 @@ pub fn plans_are_found()
 }
 
 /// A `certify` that speaks has saved the certificate of the plan that is taken, which is valid, or
-/// tells that there is none; none is
-/// said to be certified or to have no plan unless one was looked for.
+/// tells that there is none; none is said to be certified or to have no plan unless one was looked
+/// for.
 pub fn plans_are_certified()
     ensures certificates { (words : List (List ℕ)) (before after : Outside) (status : Status)
         → Runs (asked words) before after status → CertifiesPlans words before after status }

@@ -1,11 +1,10 @@
-// Commands over shelves and outputs in memory that fail, and over inputs too large for a table; what else they answer stands
-// as data of `dsr_runs`.
+// Commands over inputs too large for a table; what else they answer stands as data of `dsr_runs`.
 use dsr_cli::{Status, Verdict, run};
-use dsr_store::{Content, Held, Label, MemoryShelf, MemorySink, Missed, SureShelf, SureSink};
+use dsr_store::{Content, Held, Label, SureShelf, SureSink};
 use std::alloc::{AllocError, Global};
 use std::test::Fail;
 
-const LIST: &[u8] = b"version 1; order little;
+pub(crate) const LIST: &[u8] = b"version 1; order little;
 structure Head { fixed u16 n; u16 count; u32 first -> nodes; }
 structure Node { u32 value; u32 next -> nodes; }
 pool nodes : Node[n] at 8 codes 1 step 1 none 0;
@@ -21,7 +20,7 @@ constraint total : head.Count = size(Nodes);
 ";
 
 // The same as it is printed.
-const LIST_PRINTED: &str = "version 1 ;\n\
+pub(crate) const LIST_PRINTED: &str = "version 1 ;\n\
     order little ;\n\
     structure Head { fixed u16 n ; u16 count ; u32 first -> nodes ; }\n\
     structure Node { u32 value ; u32 next -> nodes ; }\n\
@@ -38,7 +37,7 @@ const LIST_PRINTED: &str = "version 1 ;\n\
     constraint total : head . Count = size ( Nodes ) ;\n";
 
 // That list with a further set, a guard and further constraints.
-const GUARDED: &[u8] = b"version 1; order little;
+pub(crate) const GUARDED: &[u8] = b"version 1; order little;
 structure Head { fixed u16 n; u16 count; u32 first -> nodes; }
 structure Node { u32 value; u32 next -> nodes; }
 pool nodes : Node[n] at 8 codes 1 step 1 none 0;
@@ -58,7 +57,7 @@ constraint total : head.Count = size(Nodes);
 ";
 
 // Two nodes, the second behind the first, and their number.
-const SOUND: [u8; 24] = [
+pub(crate) const SOUND: [u8; 24] = [
     2, 0, 2, 0, 1, 0, 0, 0, 7, 0, 0, 0, 2, 0, 0, 0, 9, 0, 0, 0, 0, 0, 0, 0,
 ];
 
@@ -75,14 +74,14 @@ fn add_file(
 }
 
 // A specification under `s` and an image under `i`.
-fn two_files(alloc: Global, spec: &[u8], image: &[u8]) -> Result<Vec<Held>, AllocError> {
+pub(crate) fn two_files(alloc: Global, spec: &[u8], image: &[u8]) -> Result<Vec<Held>, AllocError> {
     let mut files = Vec::new(alloc);
     add_file(alloc, &mut files, "s", spec)?;
     add_file(alloc, &mut files, "i", image)?;
     Ok(files)
 }
 
-fn words_of(alloc: Global, words: &[&str]) -> Result<Vec<String>, AllocError> {
+pub(crate) fn words_of(alloc: Global, words: &[&str]) -> Result<Vec<String>, AllocError> {
     let mut all = Vec::new(alloc);
     for word in words {
         all.push(word.to_string(alloc)?)?;
@@ -90,7 +89,7 @@ fn words_of(alloc: Global, words: &[&str]) -> Result<Vec<String>, AllocError> {
     Ok(all)
 }
 
-const OK: Status = Status::Said(Verdict::Ok);
+pub(crate) const OK: Status = Status::Said(Verdict::Ok);
 
 const INCONSISTENT: Status = Status::Said(Verdict::Inconsistent);
 
@@ -100,15 +99,13 @@ const SPEC_REFUSED: Status = Status::Said(Verdict::SpecRefused);
 
 const LAYOUT_REFUSED: Status = Status::Said(Verdict::LayoutRefused);
 
-const CHECK: [&str; 3] = ["check", "s", "i"];
+pub(crate) const CHECK: [&str; 3] = ["check", "s", "i"];
 
-const CONSISTENT: &str = "consistent\n";
+pub(crate) const CONSISTENT: &str = "consistent\n";
 
 const SHORT: &str = "layout 1 short\n";
 
 const OUTSIDE: &str = "layout 3 outside nodes\n";
-
-const FAILED: &str = "store failed\n";
 
 // Words over two files, and what they are answered.
 #[derive(Clone, Copy)]
@@ -270,82 +267,6 @@ fn prefixes_are_told(rt: HostRuntime) -> Result<(), Fail> {
     for length in 0..DECLARATIONS.len() + 1 {
         let prefix = &DECLARATIONS.as_bytes()[..length];
         assert!(rt; is_within(rt.alloc(), prefix)?, "prefix {length}");
-    }
-    Ok(())
-}
-
-// Whether the last call that failed is the load of this name; no name for none.
-fn is_last(last: &Option<Missed>, name: &str) -> bool {
-    match last {
-        None => name.is_empty(),
-        Some(missed) => !missed.saving && missed.name.bytes() == name.as_bytes(),
-    }
-}
-
-fn are_held(files: &[Held], spec: &[u8], image: &[u8]) -> bool {
-    match files {
-        [s, i] => {
-            s.name.bytes() == b"s".as_slice()
-                && s.bytes.bytes() == spec
-                && i.name.bytes() == b"i".as_slice()
-                && i.bytes.bytes() == image
-        }
-        _ => false,
-    }
-}
-
-// The call of the shelf and the put that fail, 0 for none, and what comes of it.
-type Failing = (u64, u64, Status, &'static str, &'static str);
-
-// Whether a command over the sound image ends so, with this load as the last that failed, and leaves the files.
-fn is_told(alloc: Global, words: &[&str], failing: &Failing) -> Result<bool, AllocError> {
-    let (call, put, status, text, last) = *failing;
-    let mut shelf = MemoryShelf {
-        files: two_files(alloc, LIST, &SOUND)?,
-        fail: vec![in alloc; call]?,
-        calls: 0,
-        last: None,
-    };
-    let mut out = MemorySink {
-        bytes: Vec::new(alloc),
-        fail: vec![in alloc; put]?,
-        calls: 0,
-    };
-    let words = words_of(alloc, words)?;
-    let ended = run(alloc, &words, &mut shelf, &mut out);
-    Ok(
-        ended == status
-            && out.bytes.as_slice() == text.as_bytes()
-            && is_last(&shelf.last, last)
-            && are_held(&shelf.files, LIST, &SOUND),
-    )
-}
-
-#[test]
-fn calls_fail_in_turn(rt: HostRuntime) -> Result<(), Fail> {
-    let cases: [Failing; 8] = [
-        (0, 0, OK, CONSISTENT, ""),
-        (1, 0, Status::StoreFailed, FAILED, "s"),
-        (2, 0, Status::StoreFailed, FAILED, "i"),
-        (3, 0, OK, CONSISTENT, ""),
-        (0, 1, Status::OutputFailed, "", ""),
-        (1, 1, Status::OutputFailed, "", "s"),
-        (2, 1, Status::OutputFailed, "", "i"),
-        (0, 2, OK, CONSISTENT, ""),
-    ];
-    for (i, failing) in cases.iter().enumerate() {
-        assert!(rt; is_told(rt.alloc(), &CHECK, failing)?, "case {i}");
-    }
-    let of_text: [Failing; 6] = [
-        (0, 0, OK, LIST_PRINTED, ""),
-        (1, 0, Status::StoreFailed, FAILED, "s"),
-        (2, 0, OK, LIST_PRINTED, ""),
-        (0, 1, Status::OutputFailed, "", ""),
-        (1, 1, Status::OutputFailed, "", "s"),
-        (0, 2, OK, LIST_PRINTED, ""),
-    ];
-    for (i, failing) in of_text.iter().enumerate() {
-        assert!(rt; is_told(rt.alloc(), &["text", "s"], failing)?, "text {i}");
     }
     Ok(())
 }

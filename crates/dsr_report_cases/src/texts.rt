@@ -31,7 +31,7 @@ updates 2
 ";
 
 // Each with the first line that isn't of the form; 0 where it is a report.
-const TEXTS: [(&[u8], u64); 14] = [
+const TEXTS: [(&[u8], u64); 17] = [
     (REPORT, 0),
     (b"updates 0\n", 0),
     (b"", 1),
@@ -39,6 +39,15 @@ const TEXTS: [(&[u8], u64); 14] = [
     (b"updates 1\n", 1),
     (b"updates 0\n\n", 2),
     (b"update 1 filled - 1.1 2\n", 2),
+    (
+        b"update 1 filled - 1.1 2\n  set recs[1].value 5 2\n  byte 10 05 02\nupdates 1\n",
+        0,
+    ),
+    (b"update 1 filled - 1.1 2\n  byte 10 05 02\nupdates 1\n", 0),
+    (
+        b"update 1 filled - 1.1 2\n  set recs[1].value 5 2\n  byte 10 05 02\nupdates 2\n",
+        4,
+    ),
     (b"update 1 filled - 1.1 3\nupdates 1\n", 1),
     (b"update 1 filled - 1.2 1\nupdates 1\n", 1),
     (b"update 1 filled - 1.1 1\n  byte 1 0A 01\nupdates 1\n", 2),

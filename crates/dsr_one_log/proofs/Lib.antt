@@ -1,7 +1,7 @@
-mod Back
 mod Clean
 mod Same
 mod Spelled
 mod Splits
 mod Told
+mod Unique
 mod Words

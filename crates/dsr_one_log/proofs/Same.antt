@@ -122,7 +122,7 @@ module _ (spec : Spec) (typed : IsTyped spec) (names : HasSpelledNames spec) whe
           | Some s ↦ λ e there.
               let other : slice_get s.fields q.field ≡ Some g =
               sym (ap (option_and_then (λ t. slice_get t.fields q.field)) e) ∙ (ap (λ n. option_and_then (λ t. slice_get t.fields q.field) (slice_get spec.base.structures n)) structure ∙ two) in
-              sym (((typed.base.structures p.structure s e).fields p.field f there).own_name named).own q.field g other called (sym name)
+              sym ((((typed.base.structures p.structure s e).fields p.field f there).own_name named).own q.field g other called (sym name))
         ] refl one
 
   module _ (a b : CellSet) (one : IsFirstSet spec a) (two : IsFirstSet spec b) (is : set_line spec a ≡ set_line spec b) where

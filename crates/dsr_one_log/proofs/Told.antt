@@ -1,5 +1,5 @@
 -- The lines that tell entries.
-use Rattle.std.proofs.Common.{◌≡◌, ◌<◌, ◌∙◌, ℕ, IsTrue, List, [], ◌∷◌, Option, None, Some, All, IfSome, drop, length, refl, ap, subst, sym}
+use Rattle.std.proofs.Common.{◌≡◌, ◌<◌, ◌+◌, ◌∙◌, ℕ, IsTrue, List, [], ◌∷◌, Option, None, Some, All, IfSome, drop, length, refl, ap, subst, sym}
 use Rattle.std.proofs.lemmas.List.Elements.{All-head, All-tail}
 use Rattle.dsr_ir.specs.declared.declarations.Spec.{Spec}
 use Rattle.dsr_ir.specs.declared.tuples.Element.{Element}
@@ -82,8 +82,8 @@ record IsResetTold (reset : Option Element) (rest : List Line) : Type 0 where
   behind : behind_reset (reset_then reset rest) ≡ rest
 
 reset_told : (reset : Option Element) (rest : List Line) → HasNoReset rest → IsResetTold reset rest
-reset_told None rest no = record { its = no.none; behind = no.stays }
-reset_told (Some elem) rest no = record { its = refl; behind = refl }
+reset_told None rest its = record { its = its.none; behind = its.stays }
+reset_told (Some elem) rest its = record { its = refl; behind = refl }
 
 entry_told : (entry : Entry) (rest : List Line) → IsOuter rest → entry_of (head_told entry) (reset_then entry.reset (sets_then entry.sets (bytes_then entry.bytes rest))) ≡ entry
 entry_told entry rest is =

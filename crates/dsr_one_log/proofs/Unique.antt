@@ -1,5 +1,6 @@
 -- The report of entries is that of no others.
 use Rattle.std.proofs.Common.{◌≡◌, ◌<◌, ◌+◌, ◌^◌, ◌∙◌, ℕ, List, length, refl, sym, ap, subst, arith}
+use Rattle.std.specs.Prelude.{Result, Ok, Err, IfErr, IsErrAnd}
 use Rattle.bstr.specs.Text.{lines_of}
 use Rattle.dsr_ir.specs.declared.declarations.Spec.{Spec}
 use Rattle.dsr_meaning.specs.Typed.{IsTyped}
@@ -39,3 +40,15 @@ module _ (spec : Spec) (typed : IsTyped spec) (names : HasSpelledNames spec) (en
       let told = told_back in
       ap entries_of (sym (same_lines spec typed names start (lines_told entries) ls few_lines told.are_lines its.are_lines (sym told.texts_are ∙ its.texts_are)))
       ∙ entries_back entries
+
+  pub log_back : (log : List Entry) → ((ls : List Line) × (log ≡ entries_of ls) × IsReportOf spec (lines_of text) ls) → log ≡ entries
+  log_back log its = its.1 ∙ one_log its.0 its.2
+
+pub err_told : {T E : Type 0} (P : E → Type 0) (r : Result T E) → IsErrAnd r P → IfErr r P
+err_told P (Ok x) is = tt
+err_told P (Err e) is = is
+
+-- what holds of a fault holds of the result that has it
+pub same_fault : {T E : Type 0} (P : E → Type 0) (fault : E) (r : Result T E) → P fault → IsErrAnd r (λ e. e ≡ fault) → IfErr r P
+same_fault P fault (Ok x) its is = tt
+same_fault P fault (Err e) its is = subst P (sym is) its

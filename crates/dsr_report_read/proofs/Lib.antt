@@ -1,12 +1,14 @@
 mod Ahead
 mod Descending
-mod Fronts
-mod HeadsBack
-mod LinesBack
+pub mod FirstNamed
+pub mod Fronts
+pub mod HeadsBack
+pub mod LinesBack
 mod Once
-mod ReadBack
+pub mod ReadBack
+mod Reported
 mod Row
-mod Sole
+pub mod Sole
 mod Sought
 mod Views
-mod Whole
+pub mod Whole

@@ -65,11 +65,11 @@ no_index : (b : Bool) (text : List ℕ) → b ≡ false → index_ahead b text �
 no_index true text e = absurd cc
 no_index false text e = refl
 
-told : (b : Bool) (o : Option ExprShape) → MatchBool b (IsSome o) (o ≡ None) → b ≡ is_some o
+pub told : (b : Bool) (o : Option ExprShape) → MatchBool b (IsSome o) (o ≡ None) → b ≡ is_some o
 told true o is = sym is
 told false o is = ap is_some (sym is)
 
-tells : (b : Bool) (o : Option ExprShape) → b ≡ is_some o → MatchBool b (IsSome o) (o ≡ None)
+pub tells : (b : Bool) (o : Option ExprShape) → b ≡ is_some o → MatchBool b (IsSome o) (o ≡ None)
 tells true o is = sym is
 tells false None is = refl
 tells false (Some x) is = absurd cc
@@ -170,10 +170,10 @@ module _ (spec : Spec) where
 
   -- ---- updates
 
-  record IsSmall (head : Head) : Type 0 where
-    conj : head.conj < 2 ^ 32
-    literal : head.literal < 2 ^ 32
-    rule : head.rule < 2 ^ 32
+  pub record IsSmall (head : Head) : Type 0 where
+    pub conj : head.conj < 2 ^ 32
+    pub literal : head.literal < 2 ^ 32
+    pub rule : head.rule < 2 ^ 32
 
   small_literal : (constraint : Constraint) (conj literal : ℕ) → IsTypedConstraint spec constraint → IsSome (literal_at constraint conj literal) → (conj < 2 ^ 32) × (literal < 2 ^ 32)
   small_literal constraint conj literal typed is =
@@ -187,7 +187,7 @@ module _ (spec : Spec) where
             (omega (arith, few, below), omega (arith, few_literals, literal_below))
       ] refl is
 
-  small_head : IsTyped spec → (head : Head) → IsHead spec head → IsSmall head
+  pub small_head : IsTyped spec → (head : Head) → IsHead spec head → IsSmall head
   small_head typed head its =
       let both = small_literal its.constraint head.conj head.literal (found_fits (IsTypedConstraint spec) spec.constraints head.constraint its.constraint typed.constraints its.constraint_is) its.literal in
       let few = typed.few_rules in

@@ -17,7 +17,7 @@ use Rattle.dsr_report_read.specs.declared.lines.Line.{Line}
 use Rattle.dsr_report_read.specs.declared.lines.Line.TheVariants as lines
 use Rattle.dsr_report_read.specs.declared.lines.State.{State}
 
-abbrev joined : List (List ℕ) → List ℕ
+abbrev pub joined : List (List ℕ) → List ℕ
 joined texts = flat_map (λ t. t) texts
 
 lines_joined : (fuel : ℕ) (text : List ℕ) → length text ≤ fuel → joined (lines_of text) ≡ text
@@ -145,8 +145,12 @@ module _ (spec : Spec) where
       subst (λ r. end_line s.count ++ joined (line_texts spec (moved s lines.End) r) ≡ inner s.last (lines.End ∷ r) ++ tail s.count (lines.End ∷ r)) (sym none)
       (append-nil (end_line s.count) ∙ (ap end_line last ∙ ap (λ t. t ++ tail s.count (lines.End ∷ [])) (sym (no_end s.last []))))
 
+  -- all lines are the report
+  pub joined_is : (ls : List Line) → AreLines spec start ls → (state_after start ls).last ≡ Some kinds.End → joined (line_texts spec start ls) ≡ report_text spec (entries_of ls)
+  joined_is ls are ended =
+      left ls start (λ e. absurd cc) are ended
+      ∙ (let many : 0 + length (entries_of ls) ≡ length (entries_of ls) = omega arith in ap (λ n. each_at (entry_text spec) 1 (entries_of ls) ++ end_line n) many)
+
   pub text_is : (text : List ℕ) (ls : List Line) → IsReportOf spec (lines_of text) ls → text ≡ report_text spec (entries_of ls)
   text_is text ls its =
-      sym (lines_joined (length text) text (omega arith)) ∙ (ap joined its.texts_are
-      ∙ (left ls start (λ e. absurd cc) its.are_lines its.ended
-      ∙ (let many : 0 + length (entries_of ls) ≡ length (entries_of ls) = omega arith in ap (λ n. each_at (entry_text spec) 1 (entries_of ls) ++ end_line n) many)))
+      sym (lines_joined (length text) text (omega arith)) ∙ (ap joined its.texts_are ∙ joined_is ls its.are_lines its.ended)

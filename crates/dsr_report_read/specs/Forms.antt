@@ -1,5 +1,5 @@
 -- Which texts are reports, and the first line that keeps a text from being one.
-use Rattle.std.specs.Prelude.{◌≡◌, ◌≢◌, ◌≤◌, ◌<◌, ◌+◌, ◌^◌, ℕ, false, IsTrue, IsSome, List, [], ◌∷◌, None, Some, MatchBool, length, take, slice_get}
+use Rattle.std.specs.Prelude.{◌≡◌, ◌≢◌, ◌≤◌, ◌<◌, ◌+◌, ◌^◌, ℕ, false, IsTrue, IsSome, is_some, IfSome, All, List, [], ◌∷◌, None, Some, MatchBool, length, take, slice_get}
 use Rattle.dsr_ir.specs.declared.constraints.Constraint.{Constraint}
 use Rattle.dsr_ir.specs.declared.constraints.Quant.{Quant}
 use Rattle.dsr_ir.specs.declared.constraints.Quant.TheVariants as quants
@@ -18,6 +18,7 @@ use Rattle.dsr_meaning.specs.Instances.{declared_field}
 use Rattle.dsr_meaning.specs.Typed.{Descends, HasName, pool_at, pool_of_var}
 use Rattle.dsr_repairing.specs.declared.entries.ByteChange.{ByteChange}
 use Rattle.dsr_repairing.specs.declared.entries.CellSet.{CellSet}
+use Rattle.dsr_repairing.specs.declared.entries.Entry.{Entry}
 use Rattle.dsr_report_read.specs.Lines.{kind_of, line_text, line_texts, may_follow, moved, start, state_after}
 use Rattle.dsr_report_read.specs.declared.lines.Head.{Head}
 use Rattle.dsr_report_read.specs.declared.lines.Kind.TheVariants as kinds
@@ -81,6 +82,18 @@ pub record IsSet (spec : Spec) (set : CellSet) : Type 0 where
   pub old : set.old < 2 ^ 64
   pub new : set.new < 2 ^ 64
 
+-- where fields of one pool have one name, some of them arrays, the first is the one whose structure is declared first
+-- among those that are arrays, and among those that are none
+pub record IsFirstNamed (base : Structures) (pool : ℕ) (place : FieldRef) (field : Field) : Type 0 where
+  pub none_before :
+      (other : FieldRef) (its : Field) → IsPoolField base pool other its → its.name ≡ field.name
+      → is_some its.len ≡ is_some field.len → other.structure < place.structure → ⊥
+
+-- so of the first field whose name it tells
+pub record IsFirstSet (spec : Spec) (set : CellSet) : Type 0 where
+  pub is_set : IsSet spec set
+  pub is_first : IsFirstNamed spec.base set.elem.pool set.path.field is_set.field
+
 pub record IsChange (change : ByteChange) : Type 0 where
   pub place : change.place < 2 ^ 64
   pub old : change.old < 256
@@ -89,9 +102,32 @@ pub record IsChange (change : ByteChange) : Type 0 where
 abbrev pub IsLine : Spec → Line → Type 0
 IsLine spec (lines.Update head) = IsHead spec head
 IsLine spec (lines.Reset elem) = IsRecord spec elem × (0 < elem.pool)
-IsLine spec (lines.Set set) = IsSet spec set
+IsLine spec (lines.Set set) = IsFirstSet spec set
 IsLine spec (lines.Byte change) = IsChange change
 IsLine spec lines.End = Unit {0}
+
+-- ---- what a report may tell
+
+-- for which literal the step was made, by which rule
+abbrev pub head_told : Entry → Head
+head_told entry = record {
+  constraint = entry.constraint;
+  binding = entry.binding;
+  conj = entry.conj;
+  literal = entry.literal;
+  rule = entry.rule;
+}
+
+-- each of its lines is one that may be told
+pub record IsTold (spec : Spec) (entry : Entry) : Type 0 where
+  pub head : IsHead spec (head_told entry)
+  pub reset : IfSome entry.reset (λ elem. IsRecord spec elem × (0 < elem.pool))
+  pub sets : All (IsFirstSet spec) entry.sets
+  pub bytes : All IsChange entry.bytes
+
+-- all entries are such as a report may tell
+abbrev pub IsReported : Spec → List Entry → Type 0
+IsReported spec entries = All (IsTold spec) entries
 
 -- ---- lines in a row
 

@@ -9,7 +9,7 @@ use Rattle.dsr_ir.specs.declared.declarations.Structures.{Structures}
 use Rattle.dsr_ir.specs.declared.tuples.Element.{Element}
 use Rattle.dsr_meaning.specs.Counting.{IsIn}
 use Rattle.dsr_meaning.specs.Typed.{Descends, pool_at}
-use Rattle.dsr_report_read.specs.Forms.{IsFirstWrong, IsHead, IsLine, IsNext, IsRecord, IsReportOf, IsSet}
+use Rattle.dsr_report_read.specs.Forms.{IsFirstSet, IsFirstWrong, IsHead, IsLine, IsNext, IsRecord, IsReportOf, IsSet}
 use Rattle.dsr_report_read.specs.declared.faults.ReadFault.{ReadFault}
 use Rattle.dsr_report_read.specs.declared.faults.ReadFault.TheVariants as faults
 use Rattle.dsr_report_read.specs.Lines.{kind_of, line_text}
@@ -53,6 +53,11 @@ pub record IsHeadOf (spec : Spec) (constraint : ℕ) (head : Head) : Type 0 wher
 -- of a pool with this number
 pub record IsSetIn (spec : Spec) (pool : ℕ) (set : CellSet) : Type 0 where
   pub is_set : IsSet spec set
+  pub pool_is : set.elem.pool ≡ pool
+
+-- so where its field is the first of its name
+pub record IsFirstSetIn (spec : Spec) (pool : ℕ) (set : CellSet) : Type 0 where
+  pub is_first : IsFirstSet spec set
   pub pool_is : set.elem.pool ≡ pool
 
 -- and of a structure with this one

@@ -3,7 +3,7 @@ ghost use Rattle.std.specs.Prelude.{◌≡◌, ◌+◌, ◌<◌, ◌^◌, Decide
 ghost use Rattle.bstr.specs.Text.{lines_of};
 ghost use Rattle.dsr_meaning.specs.Typed.{IsTyped};
 ghost use Rattle.dsr_report.specs.Reports.{report_text};
-ghost use Rattle.dsr_report_read.specs.Forms.{IsFirstWrong, IsReportOf};
+ghost use Rattle.dsr_report_read.specs.Forms.{IsFirstWrong, IsReported, IsReportOf};
 ghost use Rattle.dsr_report_read.specs.Grouped.{entries_of};
 ghost use Rattle.dsr_report_read.specs.Lines.{line_text};
 ghost use Rattle.dsr_report_read.specs.Reads.{IsLineOf, Reads, ReadsLine, ReadsRow, Tells, texts_of};
@@ -129,6 +129,7 @@ pub fn read(alloc: Global, spec: &Spec, text: &[u8]) -> Result<Log, ReadFault>
     ensures text { IfOk result (λ log. text.now ≡ report_text spec.now log.entries) }
     ensures formed { IfOk result (λ log. (lines : List LineOf)
         × (log.entries ≡ entries_of lines) × IsReportOf spec.now (lines_of text.now) lines) }
+    ensures reported { IfOk result (λ log. IsReported spec.now log.entries) }
     ensures fault { IfErr result (Tells (IsFirstWrong spec.now (lines_of text.now))) }
     ensures read { (lines : List LineOf) → IsReportOf spec.now (lines_of text.now) lines
         → IfErr result (λ fault. fault ≡ faults.NoMemory) }

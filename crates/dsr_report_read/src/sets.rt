@@ -3,9 +3,9 @@ ghost use Rattle.std.specs.Prelude.{◌≡◌, ◌<◌, ◌+◌, ◌^◌, Decide
 ghost use Rattle.dsr_meaning.specs.Instances.{declared_field};
 ghost use Rattle.dsr_meaning.specs.Typed.{AreTyped};
 ghost use Rattle.dsr_report.specs.Reports.{set_line};
-ghost use Rattle.dsr_report_read.specs.Forms.{IsOfPool, IsSet};
+ghost use Rattle.dsr_report_read.specs.Forms.{IsFirstSet, IsOfPool};
 ghost use Rattle.dsr_report_read.specs.Lenient as said;
-ghost use Rattle.dsr_report_read.specs.Reads.{IsSetAt, IsSetIn, IsSetUnder, Reads};
+ghost use Rattle.dsr_report_read.specs.Reads.{IsFirstSetIn, IsSetAt, IsSetUnder, Reads};
 
 use crate::bindings::element;
 use crate::fields::{has_name, is_of_pool};
@@ -117,7 +117,7 @@ fn read_set_under(
     Ok(None)
 }
 
-// What the line tells of a record of this pool.
+// What the line tells of a record of this pool: of the first field with the line's name.
 fn read_set_in(
     alloc: Global,
     spec: &Spec,
@@ -125,7 +125,7 @@ fn read_set_in(
     text: &[u8],
 ) -> Result<Option<CellSet>, NoMemory>
     requires typed { AreTyped spec.now.base }
-    ensures { IfOk result (Reads (IsSetIn spec.now pool) (set_line spec.now) text.now) }
+    ensures { IfOk result (Reads (IsFirstSetIn spec.now pool) (set_line spec.now) text.now) }
 {
     if !is_ahead(pool_name(spec, pool), skip(text, 6)) {
         return Ok(None);
@@ -145,7 +145,7 @@ fn read_set_in(
 
 pub fn read_set(alloc: Global, spec: &Spec, text: &[u8]) -> Result<Option<CellSet>, NoMemory>
     requires typed { AreTyped spec.now.base }
-    ensures { IfOk result (Reads (IsSet spec.now) (set_line spec.now) text.now) }
+    ensures { IfOk result (Reads (IsFirstSet spec.now) (set_line spec.now) text.now) }
 {
     let count = spec.base.pools.items().len() as u32;
     for pool in 0..count + 1 {

@@ -1,0 +1,7 @@
+mod Clean
+mod Same
+mod Spelled
+mod Splits
+mod Told
+mod Unique
+mod Words

@@ -214,5 +214,5 @@ module _ (spec : Spec) (typed : IsTyped spec) (names : HasSpelledNames spec) whe
       let rest : line_texts spec (moved s a) ls ≡ line_texts spec (moved s b) ks = cc in
       let same = same_line s.count a b (omega (arith, many, few)) one.0.is_line two.0.is_line first in
       let others = same_lines (moved s a) ls ks (omega (arith, many, few)) one.1 (subst (λ l. AreLines spec (moved s l) ks) (sym same) two.1)
-          (rest ∙ ap (λ l. line_texts spec (moved s l) ks) (sym same)) in
+      (rest ∙ ap (λ l. line_texts spec (moved s l) ks) (sym same)) in
       ap (λ l. l ∷ ls) same ∙ ap (λ ts. b ∷ ts) others

@@ -21,7 +21,7 @@ module _ (spec : Spec) where
   pub name_told : (place : FieldRef) (field : Field) → declared_field spec.base place ≡ Some field → field_name spec place.structure place.field ≡ field.name
   name_told place field declared =
       elim (slice_get spec.base.structures place.structure) as (λ o. option_and_then (λ s. slice_get s.fields place.field) o ≡ Some field
-          → option_map_or (λ s. option_map_or (λ f. f.name) (slice_get s.fields place.field) []) o [] ≡ field.name) [
+      → option_map_or (λ s. option_map_or (λ f. f.name) (slice_get s.fields place.field) []) o [] ≡ field.name) [
         | None ↦ λ none. absurd cc
         | Some s ↦ λ there. ap (λ o. option_map_or (λ f. f.name) o []) there
       ] declared

@@ -4,7 +4,7 @@ use dsr_store::{Content, Held, Label, SureShelf, SureSink};
 use std::alloc::{AllocError, Global};
 use std::test::Fail;
 
-pub(crate) const LIST: &[u8] = b"version 1; order little;
+const LIST: &[u8] = b"version 1; order little;
 structure Head { fixed u16 n; u16 count; u32 first -> nodes; }
 structure Node { u32 value; u32 next -> nodes; }
 pool nodes : Node[n] at 8 codes 1 step 1 none 0;
@@ -20,7 +20,7 @@ constraint total : head.Count = size(Nodes);
 ";
 
 // The same as it is printed.
-pub(crate) const LIST_PRINTED: &str = "version 1 ;\n\
+const LIST_PRINTED: &str = "version 1 ;\n\
     order little ;\n\
     structure Head { fixed u16 n ; u16 count ; u32 first -> nodes ; }\n\
     structure Node { u32 value ; u32 next -> nodes ; }\n\
@@ -37,7 +37,7 @@ pub(crate) const LIST_PRINTED: &str = "version 1 ;\n\
     constraint total : head . Count = size ( Nodes ) ;\n";
 
 // That list with a further set, a guard and further constraints.
-pub(crate) const GUARDED: &[u8] = b"version 1; order little;
+const GUARDED: &[u8] = b"version 1; order little;
 structure Head { fixed u16 n; u16 count; u32 first -> nodes; }
 structure Node { u32 value; u32 next -> nodes; }
 pool nodes : Node[n] at 8 codes 1 step 1 none 0;
@@ -57,7 +57,7 @@ constraint total : head.Count = size(Nodes);
 ";
 
 // Two nodes, the second behind the first, and their number.
-pub(crate) const SOUND: [u8; 24] = [
+const SOUND: [u8; 24] = [
     2, 0, 2, 0, 1, 0, 0, 0, 7, 0, 0, 0, 2, 0, 0, 0, 9, 0, 0, 0, 0, 0, 0, 0,
 ];
 
@@ -74,14 +74,14 @@ fn add_file(
 }
 
 // A specification under `s` and an image under `i`.
-pub(crate) fn two_files(alloc: Global, spec: &[u8], image: &[u8]) -> Result<Vec<Held>, AllocError> {
+fn two_files(alloc: Global, spec: &[u8], image: &[u8]) -> Result<Vec<Held>, AllocError> {
     let mut files = Vec::new(alloc);
     add_file(alloc, &mut files, "s", spec)?;
     add_file(alloc, &mut files, "i", image)?;
     Ok(files)
 }
 
-pub(crate) fn words_of(alloc: Global, words: &[&str]) -> Result<Vec<String>, AllocError> {
+fn words_of(alloc: Global, words: &[&str]) -> Result<Vec<String>, AllocError> {
     let mut all = Vec::new(alloc);
     for word in words {
         all.push(word.to_string(alloc)?)?;
@@ -89,7 +89,7 @@ pub(crate) fn words_of(alloc: Global, words: &[&str]) -> Result<Vec<String>, All
     Ok(all)
 }
 
-pub(crate) const OK: Status = Status::Said(Verdict::Ok);
+const OK: Status = Status::Said(Verdict::Ok);
 
 const INCONSISTENT: Status = Status::Said(Verdict::Inconsistent);
 
@@ -99,9 +99,9 @@ const SPEC_REFUSED: Status = Status::Said(Verdict::SpecRefused);
 
 const LAYOUT_REFUSED: Status = Status::Said(Verdict::LayoutRefused);
 
-pub(crate) const CHECK: [&str; 3] = ["check", "s", "i"];
+const CHECK: [&str; 3] = ["check", "s", "i"];
 
-pub(crate) const CONSISTENT: &str = "consistent\n";
+const CONSISTENT: &str = "consistent\n";
 
 const SHORT: &str = "layout 1 short\n";
 

@@ -4,5 +4,3 @@
 
 #[cfg(test)]
 mod commands;
-#[cfg(test)]
-mod failing;

@@ -1,15 +1,19 @@
 //! Reads runs of the program from the standard input, does each over files in memory, and prints how it ended.
 //!
-//! A line `=== NAME WORD WORD ..` begins a run with these words. Below it stand its files: a line `+++ NAME HEX` is a file
-//! of these bytes; a line `+++ NAME` begins one of text, up to the next such line, without the line feed before that line.
-//! Of each run is printed `=== NAME STATUS`, what it put, and `+++ NAME HEX` for each file that it saved.
+//! A line `=== NAME WORD WORD ..` begins a run with these words. A line `--- CALL PUT` below it tells which call of the shelf
+//! and which put fail, counted from 1; 0 for none. Then stand its files: a line `+++ NAME HEX` is a file of these bytes; a line
+//! `+++ NAME` begins one of text, up to the next such line, without the line feed before that line.
+//! Of each run is printed `=== NAME STATUS`, what it put, `--- load NAME` or `--- save NAME` for the call that failed, and
+//! `+++ NAME HEX` for each file that it saved.
 #![tactic(auto)]
 
+mod failing;
 mod files;
 
 use anyhow::bail;
 use dsr_cli::run;
 use dsr_store::{Held, MemoryShelf, MemorySink};
+use failing::{add_missed, failing_of};
 use files::{add_saved, files_of};
 use itoa::Buffer;
 use std::alloc::Global;
@@ -30,15 +34,16 @@ fn add_run(text: &mut String, alloc: Global, given: &str) -> anyhow::Result<()> 
     };
     let name = heading.split(' ').next().unwrap_or("");
     let words = words_of(alloc, heading)?;
+    let (call, put) = failing_of(files)?;
     let mut shelf = MemoryShelf {
         files: files_of(alloc, files)?,
-        fail: Vec::new(alloc),
+        fail: vec![in alloc; call]?,
         calls: 0,
         last: None,
     };
     let mut out = MemorySink {
         bytes: Vec::new(alloc),
-        fail: Vec::new(alloc),
+        fail: vec![in alloc; put]?,
         calls: 0,
     };
     let status = run(alloc, &words, &mut shelf, &mut out);
@@ -48,6 +53,7 @@ fn add_run(text: &mut String, alloc: Global, given: &str) -> anyhow::Result<()> 
     text.push_str(Buffer::new().format(status.number()))?;
     text.push_str("\n")?;
     text.push_str(str::from_utf8(&out.bytes)?)?;
+    add_missed(text, &shelf.last)?;
     add_saved(text, alloc, &files_of(alloc, files)?, &shelf.files)
 }
 

@@ -111,9 +111,19 @@ module _ (spec : Spec) (names : HasSpelledNames spec) where
       record {
         body = put_left (codes "update ") pieces;
         is = refl;
-        clean = row_clean (codes "update ") pieces refl
-            (number_clean count few, (refl, (word_clean (constraint_name spec head.constraint) (constraint_word spec names head.constraint), (refl,
-            (binding_clean its.constraint.quant head.binding its.binding, (refl, (place_clean head small.conj small.literal, (refl, (number_clean (head.rule + 1) (wide head.rule small.rule), tt)))))))));
+        clean = row_clean (codes "update ") pieces refl (
+          number_clean count few,
+          (
+            refl,
+            (
+              word_clean (constraint_name spec head.constraint) (constraint_word spec names head.constraint),
+              (
+                refl,
+                (binding_clean its.constraint.quant head.binding its.binding, (refl, (place_clean head small.conj small.literal, (refl, (number_clean (head.rule + 1) (wide head.rule small.rule), tt))))),
+              ),
+            ),
+          ),
+        );
       }
 
   record_line : (elem : Element) → IsRecord spec elem → IsOneLine (reset_line spec elem)
@@ -160,6 +170,7 @@ module _ (spec : Spec) (typed : IsTyped spec) (names : HasSpelledNames spec) whe
   pub each_is_one : (s : State) (ls : List Line) → s.count + length (entries_of ls) < 2 ^ 64 → AreLines spec s ls → AreOneLine (line_texts spec s ls)
   each_is_one s [] few are = tt
   each_is_one s (line ∷ rest) few are =
-      let many = all_counted s.count line rest in
-      (one_line spec names typed s.count line (omega (arith, many, few)) are.0.is_line,
-      each_is_one (moved s line) rest (omega (arith, many, few)) are.1)
+      let many = all_counted s.count line rest in (
+        one_line spec names typed s.count line (omega (arith, many, few)) are.0.is_line,
+        each_is_one (moved s line) rest (omega (arith, many, few)) are.1,
+      )

@@ -1,5 +1,5 @@
 -- The names of a specification, as texts tell them.
-use Rattle.std.proofs.Common.{◌≡◌, ◌<◌, ◌≤◌, ◌+◌, ◌-◌, ◌++◌, ◌∙◌, ◌==◌, ℕ, true, false, cond, inl, inr, List, [], ◌∷◌, None, Some, map, length, refl, sym, ap, subst, arith}
+use Rattle.std.proofs.Common.{◌≡◌, ◌<◌, ◌≤◌, ◌-◌, ◌++◌, ◌∙◌, ◌==◌, ℕ, true, false, cond, inl, inr, List, [], None, Some, map, length, refl, sym, ap, subst, arith}
 use Rattle.std.specs.Prelude.{codes, decimal, option_and_then, option_map, slice_get}
 use Rattle.std.specs.Option.{option_map_or}
 use Rattle.std.proofs.lemmas.Bool.Decides.{nat_tests}
@@ -77,7 +77,7 @@ module _ (spec : Spec) where
   pub named_first : (elem : Element) (rest : List ℕ) → element_text spec elem ++ rest ≡ pool_name spec elem.pool ++ behind_name elem rest
   named_first elem rest =
       elim (elem.pool == 0) as (λ b. cond b (codes "head") (((pool_name spec elem.pool ++ codes "[") ++ decimal elem.slot) ++ codes "]") ++ rest
-          ≡ cond b (codes "head") (pool_name spec elem.pool) ++ cond b rest (codes "[" ++ (decimal elem.slot ++ (codes "]" ++ rest)))) [
+      ≡ cond b (codes "head") (pool_name spec elem.pool) ++ cond b rest (codes "[" ++ (decimal elem.slot ++ (codes "]" ++ rest)))) [
         | true ↦ refl
         | false ↦ slot_grouped spec elem.pool elem.slot rest
       ] ∙ ap (λ name. name ++ behind_name elem rest) (name_is elem.pool)
@@ -105,10 +105,10 @@ module _ (spec : Spec) where
       let other : (pool == 0) ≡ false = grind (arith, nat_tests) in
       elim (slice_get_cases spec.base.pools (pool - 1)).1 [
         | inl w ↦ record {
-            its = w.0;
-            is = w.2;
-            name_is = ap (λ b. cond b (codes "head") (option_map_or (λ p. p.name) (slice_get spec.base.pools (pool - 1)) [])) other ∙ ap (λ o. option_map_or (λ p. p.name) o []) w.2;
-          }
+          its = w.0;
+          is = w.2;
+          name_is = ap (λ b. cond b (codes "head") (option_map_or (λ p. p.name) (slice_get spec.base.pools (pool - 1)) [])) other ∙ ap (λ o. option_map_or (λ p. p.name) o []) w.2;
+        }
         | inr w ↦ let past = w.0 in absurd (omega (arith, past, some, within))
       ]
 

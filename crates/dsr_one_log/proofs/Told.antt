@@ -1,5 +1,5 @@
 -- The lines that tell entries.
-use Rattle.std.proofs.Common.{◌≡◌, ◌<◌, ◌+◌, ◌∙◌, ℕ, IsTrue, List, [], ◌∷◌, Option, None, Some, All, IfSome, drop, length, refl, ap, subst, sym}
+use Rattle.std.proofs.Common.{◌≡◌, ◌<◌, ◌+◌, ◌∙◌, ℕ, IsTrue, List, [], ◌∷◌, Option, None, Some, All, IfSome, drop, length, refl, ap}
 use Rattle.std.proofs.lemmas.List.Elements.{All-head, All-tail}
 use Rattle.dsr_ir.specs.declared.declarations.Spec.{Spec}
 use Rattle.dsr_ir.specs.declared.tuples.Element.{Element}
@@ -159,16 +159,18 @@ GoesOn spec rest = (s : State) → MayEnd s.last → AreLines spec s rest
 module _ (spec : Spec) where
   bytes_are : (changes : List ByteChange) (rest : List Line) → All IsChange changes → GoesOn spec rest → (s : State) → IsTrue (may_follow s.last kinds.Byte) → AreLines spec s (bytes_then changes rest)
   bytes_are [] rest all on s may = on s (may_end s.last may)
-  bytes_are (change ∷ changes) rest all on s may =
-      (record { follows = may; is_line = All-head IsChange change changes all },
-      bytes_are changes rest (All-tail IsChange change changes all) on (moved s (lines.Byte change)) refl)
+  bytes_are (change ∷ changes) rest all on s may = (
+    record { follows = may; is_line = All-head IsChange change changes all },
+    bytes_are changes rest (All-tail IsChange change changes all) on (moved s (lines.Byte change)) refl,
+  )
 
   sets_are : (sets : List CellSet) (changes : List ByteChange) (rest : List Line) → All (IsFirstSet spec) sets → All IsChange changes → GoesOn spec rest → (s : State) → IsTrue (may_follow s.last kinds.Set)
       → AreLines spec s (sets_then sets (bytes_then changes rest))
   sets_are [] changes rest all each on s may = bytes_are changes rest each on s (may_change s.last may)
-  sets_are (set ∷ sets) changes rest all each on s may =
-      (record { follows = may; is_line = All-head (IsFirstSet spec) set sets all },
-      sets_are sets changes rest (All-tail (IsFirstSet spec) set sets all) each on (moved s (lines.Set set)) refl)
+  sets_are (set ∷ sets) changes rest all each on s may = (
+    record { follows = may; is_line = All-head (IsFirstSet spec) set sets all },
+    sets_are sets changes rest (All-tail (IsFirstSet spec) set sets all) each on (moved s (lines.Set set)) refl,
+  )
 
   reset_is : (reset : Option Element) (rest : List Line) → IfSome reset (λ elem. IsRecord spec elem × (0 < elem.pool))
       → ((s : State) → IsTrue (may_follow s.last kinds.Set) → AreLines spec s rest) → (count : ℕ) → AreLines spec (record { count = count; last = Some kinds.Update }) (reset_then reset rest)
@@ -180,9 +182,10 @@ module _ (spec : Spec) where
   lines_are (entry ∷ entries) all s may =
       let its = All-head (IsTold spec) entry entries all in
       let on = lines_are entries (All-tail (IsTold spec) entry entries all) in
-      let rest = lines_told entries in
-      (record { follows = may.update; is_line = its.head },
-      reset_is entry.reset (sets_then entry.sets (bytes_then entry.bytes rest)) its.reset (sets_are entry.sets entry.bytes rest its.sets its.bytes on) (s.count + 1))
+      let rest = lines_told entries in (
+        record { follows = may.update; is_line = its.head },
+        reset_is entry.reset (sets_then entry.sets (bytes_then entry.bytes rest)) its.reset (sets_are entry.sets entry.bytes rest its.sets its.bytes on) (s.count + 1),
+      )
 
   pub told_lines : (entries : List Entry) → IsReported spec entries → AreLines spec start (lines_told entries)
   told_lines entries all = lines_are entries all start (record { update = refl; end = refl })

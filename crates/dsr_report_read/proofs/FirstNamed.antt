@@ -6,14 +6,12 @@ use Rattle.dsr_answers.specs.Texts.{element_text, field_name}
 use Rattle.dsr_ir.specs.declared.declarations.Field.{Field}
 use Rattle.dsr_ir.specs.declared.declarations.FieldRef.{FieldRef}
 use Rattle.dsr_ir.specs.declared.declarations.Spec.{Spec}
-use Rattle.dsr_ir.specs.declared.declarations.Structure.{Structure}
-use Rattle.dsr_ir.specs.declared.rules.Path.{Path}
 use Rattle.dsr_meaning.specs.Instances.{declared_field}
 use Rattle.dsr_repairing.specs.declared.entries.CellSet.{CellSet}
 use Rattle.dsr_report.specs.Reports.{index_text, set_line}
 use Rattle.dsr_report_read.proofs.Sole.{tells, told}
 use Rattle.dsr_report_read.proofs.Sought.{NoneBefore}
-use Rattle.dsr_report_read.specs.Forms.{IsFirstNamed, IsPoolField, IsSet}
+use Rattle.dsr_report_read.specs.Forms.{IsPoolField, IsSet}
 use Rattle.dsr_report_read.specs.Reads.{IsFirstSetIn, IsSetIn, IsSetUnder, Reads}
 
 module _ (spec : Spec) where
@@ -21,7 +19,7 @@ module _ (spec : Spec) where
   pub name_told : (place : FieldRef) (field : Field) → declared_field spec.base place ≡ Some field → field_name spec place.structure place.field ≡ field.name
   name_told place field declared =
       elim (slice_get spec.base.structures place.structure) as (λ o. option_and_then (λ s. slice_get s.fields place.field) o ≡ Some field
-          → option_map_or (λ s. option_map_or (λ f. f.name) (slice_get s.fields place.field) []) o [] ≡ field.name) [
+      → option_map_or (λ s. option_map_or (λ f. f.name) (slice_get s.fields place.field) []) o [] ≡ field.name) [
         | None ↦ λ none. absurd cc
         | Some s ↦ λ there. ap (λ o. option_map_or (λ f. f.name) o []) there
       ] declared

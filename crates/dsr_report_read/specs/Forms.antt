@@ -82,14 +82,14 @@ pub record IsSet (spec : Spec) (set : CellSet) : Type 0 where
   pub old : set.old < 2 ^ 64
   pub new : set.new < 2 ^ 64
 
--- where fields of one pool have one name, some of them arrays, the first is the one whose structure is declared first
--- among those that are arrays, and among those that are none
+-- the first field of its name in the pool, among those that are arrays or among those that are none: no structure that
+-- is declared before has such a one
 pub record IsFirstNamed (base : Structures) (pool : ℕ) (place : FieldRef) (field : Field) : Type 0 where
   pub none_before :
       (other : FieldRef) (its : Field) → IsPoolField base pool other its → its.name ≡ field.name
       → is_some its.len ≡ is_some field.len → other.structure < place.structure → ⊥
 
--- so of the first field whose name it tells
+-- so of the first field of its name
 pub record IsFirstSet (spec : Spec) (set : CellSet) : Type 0 where
   pub is_set : IsSet spec set
   pub is_first : IsFirstNamed spec.base set.elem.pool set.path.field is_set.field

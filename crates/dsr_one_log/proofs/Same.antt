@@ -6,13 +6,12 @@ use Rattle.dsr_answers.specs.Texts.{binding_text, constraint_name, element_text,
 use Rattle.dsr_ir.specs.declared.declarations.Field.{Field}
 use Rattle.dsr_ir.specs.declared.declarations.FieldRef.{FieldRef}
 use Rattle.dsr_ir.specs.declared.declarations.Spec.{Spec}
-use Rattle.dsr_ir.specs.declared.rules.Path.{Path}
 use Rattle.dsr_ir.specs.declared.tuples.Element.{Element}
 use Rattle.dsr_meaning.specs.Instances.{declared_field}
 use Rattle.dsr_meaning.specs.Typed.{HasName, IsTyped}
 use Rattle.dsr_repairing.specs.declared.entries.ByteChange.{ByteChange}
 use Rattle.dsr_repairing.specs.declared.entries.CellSet.{CellSet}
-use Rattle.dsr_report.specs.Reports.{byte_line, index_text, reset_line, set_line, update_line}
+use Rattle.dsr_report.specs.Reports.{byte_line, reset_line, set_line, update_line}
 use Rattle.dsr_report_read.proofs.FirstNamed.{name_told}
 use Rattle.dsr_report_read.proofs.Fronts.{line_kind}
 use Rattle.dsr_report_read.proofs.HeadsBack.{binding_rest, name_is}

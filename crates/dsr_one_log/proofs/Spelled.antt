@@ -1,5 +1,5 @@
 -- The names of a specification, as texts tell them.
-use Rattle.std.proofs.Common.{◌≡◌, ◌<◌, ◌≤◌, ◌+◌, ◌-◌, ◌++◌, ◌∙◌, ◌==◌, ℕ, true, false, cond, inl, inr, List, [], ◌∷◌, None, Some, map, length, refl, sym, ap, subst, arith}
+use Rattle.std.proofs.Common.{◌≡◌, ◌<◌, ◌≤◌, ◌-◌, ◌++◌, ◌∙◌, ◌==◌, ℕ, true, false, cond, inl, inr, List, [], None, Some, map, length, refl, sym, ap, subst, arith}
 use Rattle.std.specs.Prelude.{codes, decimal, option_and_then, option_map, slice_get}
 use Rattle.std.specs.Option.{option_map_or}
 use Rattle.std.proofs.lemmas.Bool.Decides.{nat_tests}

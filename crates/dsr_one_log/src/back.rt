@@ -10,7 +10,7 @@ use dsr_report::{Log, text};
 use dsr_report_read::{ReadFault, read};
 use std::alloc::Global;
 
-// How many entries there are.
+// How many entries there are: few enough for the report to count them.
 fn many(log: &Log) -> usize
     ensures { length log.now.entries < 2 ^ 64 }
 {

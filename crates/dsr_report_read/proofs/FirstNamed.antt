@@ -1,20 +1,22 @@
 -- The first field of a name.
-use Rattle.std.proofs.Common.{◌≡◌, ◌<◌, ◌++◌, ◌∙◌, ℕ, true, List, [], Option, None, Some, sym, ap, subst}
+use Rattle.std.proofs.Common.{◌≡◌, ◌<◌, ◌+◌, ◌++◌, ◌∙◌, ℕ, zero, suc, IsTrue, true, List, [], Option, None, Some, sym, ap, subst, arith}
 use Rattle.std.specs.Prelude.{is_some, codes, decimal, option_and_then, slice_get}
 use Rattle.std.specs.Option.{option_map_or}
 use Rattle.dsr_answers.specs.Texts.{element_text, field_name}
 use Rattle.dsr_ir.specs.declared.declarations.Field.{Field}
 use Rattle.dsr_ir.specs.declared.declarations.FieldRef.{FieldRef}
 use Rattle.dsr_ir.specs.declared.declarations.Spec.{Spec}
-use Rattle.dsr_ir.specs.declared.declarations.Structure.{Structure}
-use Rattle.dsr_ir.specs.declared.rules.Path.{Path}
 use Rattle.dsr_meaning.specs.Instances.{declared_field}
 use Rattle.dsr_repairing.specs.declared.entries.CellSet.{CellSet}
 use Rattle.dsr_report.specs.Reports.{index_text, set_line}
 use Rattle.dsr_report_read.proofs.Sole.{tells, told}
 use Rattle.dsr_report_read.proofs.Sought.{NoneBefore}
-use Rattle.dsr_report_read.specs.Forms.{IsFirstNamed, IsPoolField, IsSet}
+use Rattle.dsr_report_read.specs.Forms.{IsFirstSet, IsFormed, IsLine, IsNext, IsPoolField, IsSet}
+use Rattle.dsr_report_read.specs.Lines.{kind_of, line_text, may_follow}
 use Rattle.dsr_report_read.specs.Reads.{IsFirstSetIn, IsSetIn, IsSetUnder, Reads}
+use Rattle.dsr_report_read.specs.declared.lines.Line.{Line}
+use Rattle.dsr_report_read.specs.declared.lines.Line.TheVariants as lines
+use Rattle.dsr_report_read.specs.declared.lines.State.{State}
 
 module _ (spec : Spec) where
   -- a declared field has its name
@@ -79,3 +81,36 @@ module _ (spec : Spec) where
 
   pub as_set_in : (pool : ℕ) (set : CellSet) → IsFirstSetIn spec pool set → IsSetIn spec pool set
   as_set_in pool set its = record { is_set = its.is_first.is_set; pool_is = its.pool_is }
+
+  -- ---- a text that no first field gives, none gives
+
+  none_below : (n : ℕ) (text : List ℕ) → ((set : CellSet) → IsFirstSet spec set → text ≡ set_line spec set → ⊥)
+      → (set : CellSet) → set.path.field.structure < n → IsSet spec set → text ≡ set_line spec set → ⊥
+  none_below zero text none set low its is = omega (arith, low)
+  none_below (suc n) text none set low its is =
+      none set
+      (record {
+        is_set = its;
+        is_first = record {
+          none_before = λ other field is_field name shape less.
+              none_below n text none (of_field other set) (omega (arith, low, less)) (of_field_is other field set its is_field shape)
+              (is ∙ same_line other set (name_told other field is_field.declared ∙ (name ∙ sym (name_told set.path.field its.field its.is_field.declared))));
+        };
+      })
+      is
+
+  pub none_formed : (s : State) (text : List ℕ) → ((line : Line) → IsNext spec s line → text ≡ line_text spec s.count line → ⊥)
+      → (line : Line) → IsTrue (may_follow s.last (kind_of line)) → IsFormed spec line → text ≡ line_text spec s.count line → ⊥
+  none_formed s text none (lines.Update head) follows its is = none (lines.Update head) (record { follows = follows; is_line = its }) is
+  none_formed s text none (lines.Reset elem) follows its is = none (lines.Reset elem) (record { follows = follows; is_line = its }) is
+  none_formed s text none (lines.Set set) follows its is =
+      none_below (set.path.field.structure + 1) text (λ other first same. none (lines.Set other) (record { follows = follows; is_line = first }) same) set (omega arith) its is
+  none_formed s text none (lines.Byte change) follows its is = none (lines.Byte change) (record { follows = follows; is_line = its }) is
+  none_formed s text none lines.End follows its is = none lines.End (record { follows = follows; is_line = its }) is
+
+  pub formed : (line : Line) → IsLine spec line → IsFormed spec line
+  formed (lines.Update head) its = its
+  formed (lines.Reset elem) its = its
+  formed (lines.Set set) its = its.is_set
+  formed (lines.Byte change) its = its
+  formed lines.End its = its

@@ -2,6 +2,7 @@
 use Rattle.std.proofs.Common.{◌≡◌, ◌<◌, ◌+◌, ◌∙◌, ℕ, List, [], ◌∷◌, Some, length, take, slice_get, refl, sym, ap, subst, arith}
 use Rattle.std.specs.Prelude.{Result, Ok, Err, IfErr, IsErrAnd}
 use Rattle.dsr_ir.specs.declared.declarations.Spec.{Spec}
+use Rattle.dsr_report_read.proofs.FirstNamed.{formed}
 use Rattle.dsr_report_read.proofs.Fronts.{line_kind}
 use Rattle.dsr_report_read.specs.Forms.{AreLines, IsFirstWrong, IsNext, IsReportOf}
 use Rattle.dsr_report_read.specs.Lines.{counted, kind_of, line_text, line_texts, moved, start, state_after}
@@ -62,7 +63,8 @@ module _ (spec : Spec) where
 
   pub never_wrong : (texts : List (List ℕ)) (all : List Line) (number : ℕ) → IsReportOf spec texts all → IsFirstWrong spec texts number → ⊥
   never_wrong texts all number its first =
-      apart first.before all start texts its.are_lines its.texts_are its.ended first.behind.texts_are first.behind.wrong first.behind.unended
+      apart first.before all start texts its.are_lines its.texts_are its.ended first.behind.texts_are
+      (λ line next is. first.behind.wrong line next.follows (formed spec line next.is_line) is) first.behind.unended
 
   -- so only want of memory keeps it from being read
   pub no_fault : {T : Type 0} (texts : List (List ℕ)) (all : List Line) → IsReportOf spec texts all → (fault : ReadFault) → Tells (IsFirstWrong spec texts) fault

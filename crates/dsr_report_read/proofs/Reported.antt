@@ -1,8 +1,7 @@
 -- What a report that is read may tell.
-use Rattle.std.proofs.Common.{◌≡◌, ◌<◌, ℕ, zero, suc, List, [], ◌∷◌, All, drop, length}
+use Rattle.std.proofs.Common.{◌<◌, ℕ, zero, suc, List, [], ◌∷◌, All, drop, length}
 use Rattle.std.specs.Prelude.{IfSome}
-use Rattle.std.specs.Option.{option_map_or}
-use Rattle.std.proofs.lemmas.List.Elements.{All-cons, All-drop, All-nil}
+use Rattle.std.proofs.lemmas.List.Elements.{All-cons, All-nil}
 use Rattle.dsr_ir.specs.declared.declarations.Spec.{Spec}
 use Rattle.dsr_report_read.specs.Forms.{AreLines, IsChange, IsFirstSet, IsLine, IsRecord, IsReportOf, IsReported, IsTold}
 use Rattle.dsr_report_read.specs.Grouped.{behind_reset, change_of, entries_of, reset_ahead, set_of, sets_ahead, told_ahead}

@@ -1,9 +1,10 @@
 -- Lines that were read one after the other.
-use Rattle.std.proofs.Common.{◌≡◌, ◌≤◌, ◌<◌, ◌+◌, ◌++◌, ◌∙◌, ℕ, zero, suc, List, [], ◌∷◌, None, Some, length, take, get_or, slice_get, refl, sym, ap, subst, arith, length-append}
+use Rattle.std.proofs.Common.{◌≡◌, ◌≤◌, ◌<◌, ◌+◌, ◌++◌, ◌∙◌, ℕ, zero, suc, IsTrue, List, [], ◌∷◌, None, Some, length, take, get_or, slice_get, refl, sym, ap, subst, arith, length-append}
 use Rattle.std.specs.Borrow.{Bor}
 use Rattle.dsr_ir.specs.declared.declarations.Spec.{Spec}
+use Rattle.dsr_report_read.proofs.FirstNamed.{none_formed}
 use Rattle.dsr_report_read.specs.Forms.{AreLines, IsFirstWrong, IsNext, IsReportOf}
-use Rattle.dsr_report_read.specs.Lines.{line_text, line_texts, moved, start, state_after}
+use Rattle.dsr_report_read.specs.Lines.{kind_of, line_text, line_texts, may_follow, moved, start, state_after}
 use Rattle.dsr_report_read.specs.Reads.{ReadsLine, texts_of}
 use Rattle.dsr_report_read.specs.declared.lines.Kind.TheVariants as kinds
 use Rattle.dsr_report_read.specs.declared.lines.Line.{Line}
@@ -115,10 +116,10 @@ module _ (spec : Spec) (texts : List (List ℕ)) where
               are_lines = read.are_lines;
               texts_are = ap (λ n. take n texts) many ∙ read.texts_are;
               within = omega (arith, less, many);
-              wrong = λ l next is.
+              wrong = λ l follows its is.
                   let both : Some text ≡ Some (line_text spec (state_after start ls).count l) = sym there ∙ (ap (slice_get texts) (sym many) ∙ is) in
                   let same : text ≡ line_text spec (state_after start ls).count l = cc in
-                  none l (subst (λ t. IsNext spec t l) (sym read.state_is) next) (same ∙ ap (λ t. line_text spec t.count l) (sym read.state_is));
+                  none_formed spec s text none l (subst (λ t. IsTrue (may_follow t.last (kind_of l))) (sym read.state_is) follows) its (same ∙ ap (λ t. line_text spec t.count l) (sym read.state_is));
               unended = λ _. omega (arith, less, many);
             };
           }
@@ -146,7 +147,7 @@ module _ (spec : Spec) (texts : List (List ℕ)) where
             are_lines = read.are_lines;
             texts_are = ap (λ n. take n texts) many ∙ read.texts_are;
             within = omega (arith, many);
-            wrong = λ l next is. let less = place_less texts (length ls) (line_text spec (state_after start ls).count l) is in absurd (omega (arith, less, many));
+            wrong = λ l follows its is. let less = place_less texts (length ls) (line_text spec (state_after start ls).count l) is in absurd (omega (arith, less, many));
             unended = λ ended. absurd (other (ap (λ t. t.last) read.state_is ∙ ended));
           };
         }

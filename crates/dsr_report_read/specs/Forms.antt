@@ -82,14 +82,14 @@ pub record IsSet (spec : Spec) (set : CellSet) : Type 0 where
   pub old : set.old < 2 ^ 64
   pub new : set.new < 2 ^ 64
 
--- where fields of one pool have one name, some of them arrays, the first is the one whose structure is declared first
--- among those that are arrays, and among those that are none
+-- the first field of its name in the pool, among those that are arrays or among those that are none: no structure that
+-- is declared before has such a one
 pub record IsFirstNamed (base : Structures) (pool : ℕ) (place : FieldRef) (field : Field) : Type 0 where
   pub none_before :
       (other : FieldRef) (its : Field) → IsPoolField base pool other its → its.name ≡ field.name
       → is_some its.len ≡ is_some field.len → other.structure < place.structure → ⊥
 
--- so of the first field whose name it tells
+-- so of the first field of its name
 pub record IsFirstSet (spec : Spec) (set : CellSet) : Type 0 where
   pub is_set : IsSet spec set
   pub is_first : IsFirstNamed spec.base set.elem.pool set.path.field is_set.field
@@ -99,6 +99,15 @@ pub record IsChange (change : ByteChange) : Type 0 where
   pub old : change.old < 256
   pub new : change.new < 256
 
+-- of which form a line is
+abbrev pub IsFormed : Spec → Line → Type 0
+IsFormed spec (lines.Update head) = IsHead spec head
+IsFormed spec (lines.Reset elem) = IsRecord spec elem × (0 < elem.pool)
+IsFormed spec (lines.Set set) = IsSet spec set
+IsFormed spec (lines.Byte change) = IsChange change
+IsFormed spec lines.End = Unit {0}
+
+-- the one that a reader takes, where several of the form have one text
 abbrev pub IsLine : Spec → Line → Type 0
 IsLine spec (lines.Update head) = IsHead spec head
 IsLine spec (lines.Reset elem) = IsRecord spec elem × (0 < elem.pool)
@@ -149,13 +158,14 @@ pub record IsReportOf (spec : Spec) (texts : List (List ℕ)) (lines : List Line
 
 -- ---- the first line that is wrong
 
--- so many lines are of the form, and no line that may follow stands behind them
+-- so many lines are of the form, and no line of the form that may follow stands behind them
 pub record IsWrongBehind (spec : Spec) (texts : List (List ℕ)) (before : List Line) : Type 0 where
   pub are_lines : AreLines spec start before
   pub texts_are : take (length before) texts ≡ line_texts spec start before
   pub within : length before ≤ length texts
   pub wrong :
-      (line : Line) → IsNext spec (state_after start before) line
+      (line : Line) → IsTrue (may_follow (state_after start before).last (kind_of line))
+      → IsFormed spec line
       → slice_get texts (length before) ≢ Some (line_text spec (state_after start before).count line)
   pub unended :
       (state_after start before).last ≡ Some kinds.End → length before < length texts

@@ -1,5 +1,4 @@
-use Rattle.std.proofs.Common.{◌≡◌, ◌∙◌, List, sym, ap, subst}
-use Rattle.bstr.specs.Text.{lines_of}
+use Rattle.std.proofs.Common.{◌≡◌, ◌∙◌}
 use Rattle.dsr_report_read.specs.declared.faults.ReadFault.TheVariants as faults
 use Rattle.dsr_one_log.proofs.Told.{lines_told}
 use Rattle.dsr_one_log.proofs.Unique.{err_told, log_back, same_fault, told_back}

@@ -1,10 +1,14 @@
 // Texts with what is wanted of their reading.
 ghost use Rattle.dsr_meaning.specs.Typed.{IsTyped};
+ghost use Rattle.dsr_report_read.specs.Forms.{IsReported};
+ghost use Rattle.dsr_spelled.specs.Spellings.{HasSpelledNames};
 
 use dsr_ir::{NoMemory, Spec};
+use dsr_one_log::read_back;
 use dsr_read::specification;
-use dsr_report::text;
+use dsr_report::{Log, text};
 use dsr_report_read::{ReadFault, read};
+use dsr_spelled::names_are_spelled;
 use std::alloc::Global;
 use std::test::Fail;
 
@@ -66,12 +70,25 @@ const TEXTS: [(&[u8], u64); 17] = [
     (b"update 1 filled - 1.1 1\r\nupdates 1\n", 1),
 ];
 
+// Whether this is the report of the log that is read back from the log's own.
+fn is_read_back(alloc: Global, spec: &Spec, log: &Log, report: &[u8]) -> Result<bool, NoMemory>
+    requires typed { IsTyped spec.now }
+    requires spelled { HasSpelledNames spec.now }
+    requires reported { IsReported spec.now log.now.entries }
+{
+    match read_back(alloc, spec, log) {
+        Ok(back) => Ok(text(alloc, spec, &back)?.as_slice() == report),
+        Err(_) => Err(NoMemory),
+    }
+}
+
 // Whether the text has this as its first wrong line, or is printed back.
 fn is_read_so(alloc: Global, spec: &Spec, report: &[u8], wanted: u64) -> Result<bool, NoMemory>
-    requires { IsTyped spec.now }
+    requires typed { IsTyped spec.now }
+    requires spelled { HasSpelledNames spec.now }
 {
     match read(alloc, spec, report) {
-        Ok(log) => Ok(wanted == 0 && text(alloc, spec, &log)?.as_slice() == report),
+        Ok(log) => Ok(wanted == 0 && is_read_back(alloc, spec, &log, report)?),
         Err(ReadFault::Line(line)) => Ok(wanted == line),
         Err(ReadFault::NoMemory) => Err(NoMemory),
     }
@@ -79,7 +96,8 @@ fn is_read_so(alloc: Global, spec: &Spec, report: &[u8], wanted: u64) -> Result<
 
 // The place of the first text that is read otherwise.
 fn first_wrong(alloc: Global, spec: &Spec) -> Result<Option<usize>, NoMemory>
-    requires { IsTyped spec.now }
+    requires typed { IsTyped spec.now }
+    requires spelled { HasSpelledNames spec.now }
 {
     for (place, (report, wanted)) in TEXTS.iter().enumerate() {
         if !is_read_so(alloc, spec, report, *wanted)? {
@@ -91,6 +109,7 @@ fn first_wrong(alloc: Global, spec: &Spec) -> Result<Option<usize>, NoMemory>
 
 // One function has all that is dropped, so that no test has a specification alive.
 fn first_told(alloc: Global) -> Result<Option<usize>, NoMemory> {
+    names_are_spelled();
     match specification(alloc, SPEC)? {
         Some(spec) => first_wrong(alloc, &spec),
         None => Ok(Some(TEXTS.len())),

@@ -37,7 +37,7 @@ const LIST_PRINTED: &str = "version 1 ;\n\
     constraint total : head . Count = size ( Nodes ) ;\n";
 
 // That list with a further set, a guard and further constraints.
-const GUARDED: &[u8] = b"version 1; order little;
+pub(crate) const GUARDED: &[u8] = b"version 1; order little;
 structure Head { fixed u16 n; u16 count; u32 first -> nodes; }
 structure Node { u32 value; u32 next -> nodes; }
 pool nodes : Node[n] at 8 codes 1 step 1 none 0;
@@ -74,14 +74,14 @@ fn add_file(
 }
 
 // A specification under `s` and an image under `i`.
-fn two_files(alloc: Global, spec: &[u8], image: &[u8]) -> Result<Vec<Held>, AllocError> {
+pub(crate) fn two_files(alloc: Global, spec: &[u8], image: &[u8]) -> Result<Vec<Held>, AllocError> {
     let mut files = Vec::new(alloc);
     add_file(alloc, &mut files, "s", spec)?;
     add_file(alloc, &mut files, "i", image)?;
     Ok(files)
 }
 
-fn words_of(alloc: Global, words: &[&str]) -> Result<Vec<String>, AllocError> {
+pub(crate) fn words_of(alloc: Global, words: &[&str]) -> Result<Vec<String>, AllocError> {
     let mut all = Vec::new(alloc);
     for word in words {
         all.push(word.to_string(alloc)?)?;
@@ -89,7 +89,7 @@ fn words_of(alloc: Global, words: &[&str]) -> Result<Vec<String>, AllocError> {
     Ok(all)
 }
 
-const OK: Status = Status::Said(Verdict::Ok);
+pub(crate) const OK: Status = Status::Said(Verdict::Ok);
 
 const INCONSISTENT: Status = Status::Said(Verdict::Inconsistent);
 
@@ -99,7 +99,7 @@ const SPEC_REFUSED: Status = Status::Said(Verdict::SpecRefused);
 
 const LAYOUT_REFUSED: Status = Status::Said(Verdict::LayoutRefused);
 
-const CHECK: [&str; 3] = ["check", "s", "i"];
+pub(crate) const CHECK: [&str; 3] = ["check", "s", "i"];
 
 const CONSISTENT: &str = "consistent\n";
 

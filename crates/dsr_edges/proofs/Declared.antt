@@ -1,10 +1,12 @@
 -- Sets and relations of which a typed constraint's causes speak are declared.
-use Rattle.std.proofs.Common.{◌≡◌, ◌++◌, ℕ, Bool, true, false, All, List, [], ◌∷◌, append_assoc, refl, sym, ap, subst, ◌∙◌}
+use Rattle.std.proofs.Common.{◌≡◌, ◌<◌, ◌+◌, ◌++◌, ℕ, Bool, true, false, All, List, [], ◌∷◌, length, take, get_or, append_assoc, refl, sym, ap, subst, ◌∙◌}
 use Rattle.std.specs.List.{flat_map}
 use Rattle.std.proofs.lemmas.List.Elements.{All-append, All-cons, All-head, All-nil, All-tail}
 use Rattle.dsr_breaking.specs.Causes.{atom_causes, bound_causes, constraint_causes, fewer_counted, literal_causes, literals_of, more_counted, quantifier_causes, size_causes, size_changes}
 use Rattle.dsr_breaking.specs.declared.causes.Cause.{Cause}
 use Rattle.dsr_effect.proofs.ListItems.{within}
+use Rattle.dsr_facts.proofs.Taking.{flat_more}
+use Rattle.std.proofs.lemmas.List.{get_or_default}
 use Rattle.dsr_edges.specs.Told.{IsOfDeclared}
 use Rattle.dsr_ir.specs.declared.constraints.Atom.{Atom}
 use Rattle.dsr_ir.specs.declared.constraints.Atom.TheVariants.{Member, Pair, Count, Value}
@@ -104,3 +106,9 @@ pub constraint_declared : (spec : Spec) (c : Constraint) → IsTypedConstraint s
 constraint_declared spec c typed =
     All-append (IsOfDeclared spec.base) (quantifier_causes c.quant) (flat_map literal_causes (literals_of c)) (quantifier_declared spec c.quant typed.quant)
     (subst (All (IsOfDeclared spec.base)) (flat_flat literal_causes (λ conj. conj.literals) c.conjs) (conjs_declared spec c.quant c.conjs typed.conjs))
+
+-- what the next item of a list gives is put behind the others
+pub more_listed : {S T : Type 0} (f : S → List T) (xs : List S) (i : ℕ) (d : S) → i < length xs → (old now new : List T) → now ≡ old ++ flat_map f (take i xs) → new ≡ now ++ f (get_or xs i d) → new ≡ old ++ flat_map f (take (i + 1) xs)
+more_listed f xs i d less old now new now_is new_is =
+    new_is ∙ ap (λ ys. ys ++ f (get_or xs i d)) now_is ∙ append_assoc old (flat_map f (take i xs)) (f (get_or xs i d))
+    ∙ ap (λ ys. old ++ ys) (flat_more f xs i (get_or xs i d) less (get_or_default xs i d (get_or xs i d) less))

@@ -1,10 +1,11 @@
 // What is known of the variables of two constraints.
-ghost use Rattle.std.specs.Prelude.{◌≡◌, ◌↔◌, ℕ, Decides, IsTrue, Some, slice_get};
+ghost use Rattle.std.specs.Prelude.{◌≡◌, ◌↔◌, ℕ, Decides, IsTrue};
 ghost use Rattle.dsr_breaking.specs.Excuses.{AreDifferentRecords, AreTargetsApart, IsBoundOnce, IsEndOnce};
 ghost use Rattle.dsr_edges.specs.Told.{AreFactsOf, different_by, once_by};
 ghost use Rattle.dsr_goal.specs.Knowing.{known_by};
 ghost use Rattle.dsr_ir.specs.declared.constraints.Var.{Var as VarOf};
 ghost use Rattle.dsr_ir.specs.declared.constraints.Var.TheVariants.{First, Second};
+ghost use Rattle.dsr_meaning.specs.Counting.{IsIn};
 ghost use Rattle.dsr_sides.specs.Owned.{IsSound, owner_of};
 
 use dsr_facts::Facts;
@@ -30,12 +31,6 @@ pub struct Different {
     second_second: bool,
 }
 
-fn has_number(numbers: &[u32], number: u32) -> bool
-    ensures { Decides result ((n : ℕ) × (its : ℕ) × (slice_get numbers.now n ≡ Some its) × (its ≡ number)) }
-{
-    numbers.iter().any(|its| *its == number)
-}
-
 // Whether each record is the source of one pair at most, or the target.
 fn is_end_once(facts: &Facts, owner: &Owner, rel: u32, var: Var) -> bool
     requires sound { IsSound owner.now }
@@ -45,7 +40,7 @@ fn is_end_once(facts: &Facts, owner: &Owner, rel: u32, var: Var) -> bool
     match var {
         Var::Head => false,
         Var::First => is_functional(owner.spec(), rel),
-        Var::Second => has_number(facts.injective.items(), rel),
+        Var::Second => facts.injective.items().contains(&rel),
     }
 }
 
@@ -91,12 +86,15 @@ impl BoundOnce {
 
 // Whether the variables are known to be members of two sets of a pair.
 fn has_known_pair(pairs: &[(u32, u32)], known: &Known, var: Var, other: &Known, at: Var) -> bool
-    ensures { Decides result ((n : ℕ) × (pair : ℕ × ℕ) × (slice_get pairs.now n ≡ Some pair)
+    ensures { Decides result ((pair : ℕ × ℕ) × IsIn pair pairs.now
         × IsTrue (known_by known.now var pair.0) × IsTrue (known_by other.now at pair.1)) }
 {
-    pairs
-        .iter()
-        .any(|pair| known.has(var, pair.0) && other.has(at, pair.1))
+    for pair in pairs {
+        if known.has(var, pair.0) && other.has(at, pair.1) {
+            return true;
+        }
+    }
+    false
 }
 
 fn are_different(facts: &Facts, owner: &Owner, var: Var, other: &Owner, at: Var) -> bool
@@ -167,14 +165,6 @@ impl Different {
     }
 }
 
-// Whether the quantifiers are of relations that share no target.
-fn has_pair(pairs: &[(u32, u32)], first: u32, second: u32) -> bool
-    ensures { Decides result ((n : ℕ) × (pair : ℕ × ℕ) × (slice_get pairs.now n ≡ Some pair)
-        × (pair.0 ≡ first) × (pair.1 ≡ second)) }
-{
-    pairs.iter().any(|pair| pair.0 == first && pair.1 == second)
-}
-
 /// Whether what is a target of the one quantifier's relation is none of the other's.
 pub fn are_targets_apart(facts: &Facts, owner: &Owner, other: &Owner) -> bool
     requires sound { IsSound owner.now }
@@ -187,5 +177,5 @@ pub fn are_targets_apart(facts: &Facts, owner: &Owner, other: &Owner) -> bool
     let Quant::Pairs(other_rel) = other.constraint().quant else {
         return false;
     };
-    has_pair(facts.apart.items(), rel, other_rel)
+    facts.apart.items().contains(&(rel, other_rel))
 }

@@ -2,7 +2,7 @@
 ghost use Rattle.std.specs.Prelude.{◌≡◌, All, IfOk};
 ghost use Rattle.dsr_edges.specs.Told.{AreFactsOf};
 ghost use Rattle.dsr_graph.specs.Asking.{AllCauses, AllExcuses, AllFacts, AllOwners, AreOwnCauses};
-ghost use Rattle.dsr_graph.specs.Graphs.{AreNodesOf, IsGraphOf, IsNodeOf};
+ghost use Rattle.dsr_graph.specs.Graphs.{AreListingsOf, IsGraphOf, IsNodeOf};
 ghost use Rattle.dsr_graph.specs.Kinds.{IsFirstIn};
 ghost use Rattle.dsr_updating.specs.Facts as said;
 ghost use Rattle.dsr_meaning.specs.Typed.{IsTyped};
@@ -10,7 +10,7 @@ ghost use Rattle.dsr_sides.specs.Owned.{IsSound, owner_of};
 
 use crate::graphs::{Graph, Node};
 use crate::kinds::{First, kinds_of};
-use crate::listings::Asked;
+use crate::listings::{Asked, Listing};
 use dsr_breaking::Cause;
 use dsr_edges::{Excuses, constraint_causes, literal_causes};
 use dsr_facts::{Facts, facts_before};
@@ -100,6 +100,34 @@ fn own_causes(alloc: Global, owner: &Owner, firsts: &[First]) -> Result<Vec<Seq<
     Ok(own)
 }
 
+// What is listed for each kind of the constraint's literals, whose first ones these are.
+fn kind_listings(
+    alloc: Global,
+    facts: &Facts,
+    owner: &Owner,
+    owners: &[Owner],
+    causes: &[Seq<Cause>],
+    firsts: &[First],
+) -> Result<Vec<Listing>, NoMemory>
+    requires sound { IsSound owner.now }
+    requires facts { AreFactsOf (owner_of owner.now) facts.now }
+    requires owners { AllOwners (owner_of owner.now).spec owners.now }
+    requires causes { AllCauses (owner_of owner.now).spec causes.now }
+    requires firsts { All (IsFirstIn (owner_of owner.now).constraint) firsts.now }
+    ensures { IfOk result (λ listings. AreListingsOf (owner_of owner.now) firsts.now listings.items) }
+{
+    let own = own_causes(alloc, owner, firsts)?;
+    let excuses = all_excuses(alloc, facts, owner, owners)?;
+    let asked = Asked {
+        owner,
+        firsts,
+        own: &own,
+        excuses: &excuses,
+        causes,
+    };
+    asked.listings(alloc)
+}
+
 fn node(
     alloc: Global,
     facts: &Facts,
@@ -114,18 +142,9 @@ fn node(
     requires causes { AllCauses (owner_of owner.now).spec causes.now }
     ensures { IfOk result (IsNodeOf (owner_of owner.now)) }
 {
-    let kinds = kinds_of(alloc, owner.spec(), owner.constraint())?;
-    let own = own_causes(alloc, owner, &kinds.firsts)?;
-    let excuses = all_excuses(alloc, facts, owner, owners)?;
-    let asked = Asked {
-        owner,
-        firsts: &kinds.firsts,
-        own: &own,
-        excuses: &excuses,
-        causes,
-    };
-    let listings = asked.listings(alloc)?;
     let from = Seq::new(Vec::from_slice(alloc, facts.from.items())?);
+    let kinds = kinds_of(alloc, owner.spec(), owner.constraint())?;
+    let listings = kind_listings(alloc, facts, owner, owners, causes, &kinds.firsts)?;
     Ok(Node {
         kinds,
         listings,
@@ -133,25 +152,35 @@ fn node(
     })
 }
 
-// All nodes, in order of the constraints.
-fn nodes(
+// The graph whose nodes are those of all constraints, in order.
+fn of_owners(
     alloc: Global,
     spec: &Spec,
     facts: &[Facts],
     owners: &[Owner],
     causes: &[Seq<Cause>],
-) -> Result<Vec<Node>, NoMemory>
+) -> Result<Graph, NoMemory>
     requires facts { AllFacts spec.now facts.now }
     requires owners { AllOwners spec.now owners.now }
     requires causes { AllCauses spec.now causes.now }
-    ensures { IfOk result (λ nodes. AreNodesOf spec.now nodes.items) }
+    ensures { IfOk result (IsGraphOf spec.now) }
 {
     let mut nodes = Vec::new(alloc);
     for (number, owner) in owners.iter().enumerate() {
         let next = node(alloc, &facts[number], owner, owners, causes)?;
         nodes.push(next)?;
     }
-    Ok(nodes)
+    Ok(Graph { nodes })
+}
+
+fn of_facts(alloc: Global, spec: &Spec, facts: &[Facts]) -> Result<Graph, NoMemory>
+    requires typed { IsTyped spec.now }
+    requires facts { AllFacts spec.now facts.now }
+    ensures { IfOk result (IsGraphOf spec.now) }
+{
+    let owners = all_owners(alloc, spec, facts)?;
+    let causes = all_causes(alloc, spec)?;
+    of_owners(alloc, spec, facts, &owners, &causes)
 }
 
 /// The graph of the specification.
@@ -160,8 +189,5 @@ pub fn graph(alloc: Global, spec: &Spec) -> Result<Graph, NoMemory>
     ensures { IfOk result (IsGraphOf spec.now) }
 {
     let facts = all_facts(alloc, spec)?;
-    let owners = all_owners(alloc, spec, &facts)?;
-    let causes = all_causes(alloc, spec)?;
-    let nodes = nodes(alloc, spec, &facts, &owners, &causes)?;
-    Ok(Graph { nodes })
+    of_facts(alloc, spec, &facts)
 }

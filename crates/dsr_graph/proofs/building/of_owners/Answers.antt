@@ -6,7 +6,7 @@ use Rattle.dsr_graph.specs.Asking.{AreCausesOf, AreFactsAt, IsOwnerAt}
 use Rattle.dsr_graph.specs.Graphs.{IsNodeOf, owner_at}
 use Rattle.dsr_graph.specs.Paired.{ArePaired}
 use Rattle.dsr_updating.specs.Facts.{from}
-use Rattle.dsr_graph.proofs.building.nodes.Goals as goal
+use Rattle.dsr_graph.proofs.building.of_owners.Goals as goal
 
 pub node-requires-clause-sound : goal.node-requires-clause-sound
 node-requires-clause-sound c =

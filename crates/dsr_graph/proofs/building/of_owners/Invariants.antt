@@ -1,7 +1,7 @@
 use Rattle.std.proofs.Common.{take}
 use Rattle.dsr_graph.specs.Graphs.{IsNodeOf, owner_at}
 use Rattle.dsr_graph.specs.Paired.{ArePaired}
-use Rattle.dsr_graph.proofs.building.nodes.Given as goal
+use Rattle.dsr_graph.proofs.building.of_owners.Given as goal
 
 abbrev pub invariant-loop-number : goal.invariant-loop-number
 invariant-loop-number l =

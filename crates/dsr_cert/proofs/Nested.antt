@@ -47,6 +47,14 @@ single_length g n (x ∷ xs) = ap suc (single_length g (suc n) xs)
 pub singles : {S T : Type 0} (g : ℕ → S → T) (xs : List S) (i : ℕ) → i ≤ length xs → length (each_at (λ k x. g k x ∷ []) 0 (take i xs)) ≡ i
 singles g xs i le = single_length g 0 (take i xs) ∙ take_length i xs le
 
+-- a part of no lines
+pub part_none : (spec : Spec) (lines : List (List ℕ)) (at : ℕ) → IsPart spec lines at [] []
+part_none spec lines at = record {
+  lines_are = λ k text there. absurd cc;
+  as_many = refl;
+  right = λ k fault from to wrong. absurd (omega (arith, from, to));
+}
+
 -- one more of each is one more part
 pub part_step : {S V : Type 0} (spec : Spec) (lines : List (List ℕ)) (at : ℕ) (f : ℕ → S → List Form) (g : ℕ → V → List (List ℕ)) (xs : List S) (i : ℕ) (x : S) → i < length xs → x ≡ get_or xs i x
     → (vs ws : List V) (v : V) → ws ≡ vs ++ v ∷ [] → length vs ≡ i

@@ -1,8 +1,8 @@
 -- Flaws by their ranks, and searches for the first one.
-use Rattle.std.proofs.Common.{◌≡◌, ◌<◌, ◌+◌, ◌++◌, ◌⊎◌, ℕ, inl, inr, true, false, nat_eq, List, [], ◌∷◌, refl, sym, subst, ◌∙◌, arith}
+use Rattle.std.proofs.Common.{◌≡◌, ◌<◌, ◌+◌, ◌++◌, ◌⊎◌, ℕ, inl, inr, true, false, nat_eq, Result, Ok, Err, List, [], ◌∷◌, refl, sym, subst, ◌∙◌, arith}
 use Rattle.std.proofs.lemmas.Bool.Decides.{nat_tests}
 use Rattle.dsr_cert.specs.Flaws.{Flaw, Uncovered, Unlisted, Falsifying, Breaking, Relying, IsFirstFlaw, IsFlaw, RanksBefore, Tells, rank, told_as}
-use Rattle.dsr_cert.specs.Searches.{BeginsWith, IsFirstUnder, IsFlawUnder, NoneUnder}
+use Rattle.dsr_cert.specs.Searches.{BeginsWith, IsFirstUnder, IsFlawUnder, NoneUnder, Searches}
 use Rattle.dsr_cert.specs.declared.faults.CertFault.{CertFault}
 use Rattle.dsr_cert.specs.declared.faults.CertFault.TheVariants as faults
 use Rattle.dsr_ir.specs.declared.declarations.Spec.{Spec}
@@ -114,6 +114,19 @@ module _ (spec : Spec) (choice : Choice) where
   none_all front bound numbers before flaw its =
       let n = numbers flaw its in
       before n.0 n.1 flaw (record { is = its.is; begins = n.2 })
+
+  -- a flaw is of one of five kinds
+  kind_number : (flaw : Flaw) → IsFlawUnder spec choice [] flaw → (k : ℕ) × (k < 5) × BeginsWith (k ∷ []) (rank flaw)
+  kind_number (Uncovered n) its = (0, omega arith, (refl, tt))
+  kind_number (Unlisted n conj literal) its = (1, omega arith, (refl, tt))
+  kind_number (Falsifying n conj literal) its = (2, omega arith, (refl, tt))
+  kind_number (Breaking n conj literal other) its = (3, omega arith, (refl, tt))
+  kind_number (Relying n on) its = (4, omega arith, (refl, tt))
+
+  -- the last kind's search is that of all kinds
+  pub searches_last : (r : Result (Unit {0}) CertFault) → NoneBelow [] 4 → Searches spec choice (4 ∷ []) r → Searches spec choice [] r
+  searches_last (Ok done) before here = none_all [] 5 kind_number (none_more [] 4 here before)
+  searches_last (Err fault) before here = tells_found [] 4 fault before here
 
   -- what is told of all of them
   pub first_of_all : (fault : CertFault) → IsFirstUnder spec choice [] fault → IsFirstFlaw spec choice fault

@@ -1,7 +1,8 @@
 -- Which literals a row tests, by marks, and whether they cover its constraint.
-use Rattle.std.proofs.Common.{◌≡◌, ◌↔◌, ℕ, zero, suc, Bool, true, false, IsTrue, List, [], ◌∷◌, Some, map, slice_get, slice_index_or, refl, sym, subst, ◌∙◌}
+use Rattle.std.proofs.Common.{◌≡◌, ◌↔◌, ◌<◌, ◌+◌, ◌++◌, ap, get_or, length, take, ℕ, zero, suc, Bool, true, false, IsTrue, List, [], ◌∷◌, Some, map, slice_get, slice_index_or, refl, sym, subst, ◌∙◌}
 use Rattle.std.specs.Prelude.{Decides, not, option_and_then}
 use Rattle.std.proofs.lemmas.Bool.{false≢true}
+use Rattle.std.proofs.lemmas.List.{map-append, take_more}
 use Rattle.dsr_covering.specs.Atoms as marked
 use Rattle.dsr_cert.specs.Flaws.{IsUncovered}
 use Rattle.dsr_cert.specs.Searches.{is_test, marks_of}
@@ -53,3 +54,8 @@ uncovered_if spec choice n constraint row row_of false told = (
   λ _. record { constraint = constraint; row = row; row_of = row_of; uncovered = λ covers. false≢true (told.1 ((covered_by constraint row).1 covers)) },
   λ _. refl,
 )
+
+-- what is told of the next item is put behind the others
+pub marked_more : {S T : Type 0} (f : S → T) (xs : List S) (i : ℕ) (x : S) → i < length xs → x ≡ get_or xs i x → (old new : List T) → old ≡ map f (take i xs) → new ≡ old ++ f x ∷ [] → new ≡ map f (take (i + 1) xs)
+marked_more f xs i x less is old new old_is new_is =
+    new_is ∙ (ap (λ ys. ys ++ f x ∷ []) old_is ∙ (sym (map-append f (take i xs) (x ∷ [])) ∙ ap (map f) (sym (take_more xs i x less ∙ ap (λ y. take i xs ++ y ∷ []) (sym is)))))

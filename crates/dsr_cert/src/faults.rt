@@ -2,33 +2,25 @@
 ghost use Rattle.std.specs.Prelude.{◌≡◌};
 
 use dsr_ir::NoMemory;
-use thiserror::Error;
 
 /// Why a text is no certificate, or a choice is no plan; constraints, conjunctions and literals
 /// count from 0.
-#[derive(Debug, Drop, Error)]
+#[derive(Clone, Copy)]
 pub enum CertFault {
     /// A line isn't what the format and the specification ask for; its number, counted from 1.
-    #[error("line {0} isn't what is asked for")]
     Text(u64),
     /// The tests of this constraint's row don't cover it.
-    #[error("the tests of constraint {0} don't cover it")]
     Coverage(u32),
     /// The way of this literal (constraint, conjunction, literal) is no listed template, or the
     /// literal is `given`.
-    #[error("no template is listed for literal {2} of conjunction {1} of constraint {0}")]
     NotATemplate(u32, u32, u32),
     /// The template of this literal falsifies another literal of its conjunction.
-    #[error("literal {2} of conjunction {1} of constraint {0} falsifies another one")]
     Falsifies(u32, u32, u32),
     /// A template of the first constraint breaks the second, whose level isn't higher.
-    #[error("constraint {0} breaks {1}")]
     Edge(u32, u32),
     /// The first constraint relies on the second, whose level isn't lower.
-    #[error("constraint {0} relies on {1}")]
     Reliance(u32, u32),
     /// The allocator had no memory left.
-    #[error("no memory left")]
     NoMemory,
 }
 

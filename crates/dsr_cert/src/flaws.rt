@@ -4,15 +4,16 @@ ghost use Rattle.dsr_cert.specs.Certificates.{Fits};
 ghost use Rattle.dsr_cert.specs.Flaws.{HasWay, IsBreaking, IsFalsifying, IsRelying, IsUncovered, IsUnlisted};
 ghost use Rattle.dsr_cert.specs.Searches as said;
 ghost use Rattle.dsr_cert.specs.Searches.{IsTakenFor, MayAsk, NoneUnder, Searches, kind_of, marks_of};
+ghost use Rattle.dsr_covering.specs.Atoms as marked;
 ghost use Rattle.dsr_graph.specs.Graphs.{IsGraphOf, IsOwnerIn};
 ghost use Rattle.dsr_listing.specs.Owners.{Owner as OwnerOf};
 ghost use Rattle.dsr_meaning.specs.Typed.{IsTyped};
-ghost use Rattle.dsr_planning.specs.Plans.{IsListedAt};
+ghost use Rattle.dsr_planning.specs.Plans.{Covers, IsListedAt};
 
 use crate::faults::CertFault;
 use dsr_covering::covers;
 use dsr_graph::{Graph, breaks, falsifies, relies, ways};
-use dsr_ir::{Literal, NoMemory, Seq, Spec, Template};
+use dsr_ir::{Constraint, Literal, NoMemory, Seq, Spec, Template};
 use dsr_placing::Position;
 use dsr_planning::{Choice, Row, Way};
 use std::alloc::Global;
@@ -52,6 +53,15 @@ fn marks(alloc: Global, row: &Row) -> Result<Vec<Seq<bool>>, NoMemory>
         rows.push(Seq::new(conj_marks(alloc, ways.items())?))?;
     }
     Ok(rows)
+}
+
+// Whether the constraint is covered by the tests of its row.
+fn is_covered(alloc: Global, constraint: &Constraint, row: &Row) -> Result<bool, NoMemory>
+    ensures { IfOk result
+        (λ is. Decides is (Covers constraint.now (marked.IsTested (marks_of row.now)))) }
+{
+    let marks = marks(alloc, row)?;
+    covers(alloc, constraint, &marks)
 }
 
 // Whether the template has this number among those that are listed for the literal, counted from 1.
@@ -135,7 +145,7 @@ impl<'a> Chosen<'a> {
         }
     }
 
-    // Whether the constraint isn't covered by its tests.
+    // Whether the constraint with this number isn't covered by its tests.
     fn is_uncovered(&self, alloc: Global, number: u32) -> Result<bool, NoMemory>
         ensures { IfOk result
             (λ is. Decides is (IsUncovered self.now.spec.now self.now.choice.now number)) }
@@ -146,8 +156,7 @@ impl<'a> Chosen<'a> {
         let Some(row) = self.row(number) else {
             return Ok(false);
         };
-        let marks = marks(alloc, row)?;
-        Ok(!covers(alloc, constraint, &marks)?)
+        Ok(!is_covered(alloc, constraint, row)?)
     }
 
     // Whether the literal is `given`, or its template isn't listed.

@@ -1,5 +1,5 @@
 -- What is known of variables, and what is excused.
-use Rattle.std.proofs.Common.{◌≡◌, ◌↔◌, ℕ, zero, suc, Bool, true, false, not, ◌&&◌, eqb, Decides, IsTrue,  List, [], ◌∷◌, Some, slice_get, inl, inr, refl, sym, ap, subst, ◌∙◌}
+use Rattle.std.proofs.Common.{◌≡◌, ◌↔◌, ◌&&◌, ℕ, Bool, true, false, not, eqb, IsTrue, Decides, List, refl, sym, ap, subst, ◌∙◌}
 use Rattle.std.proofs.lemmas.Bool.{false≢true}
 use Rattle.std.proofs.lemmas.Bool.Decides.{Decides-eqb}
 use Rattle.std.specs.Prelude.{MatchBool}
@@ -22,29 +22,10 @@ use Rattle.dsr_updating.specs.Known.IsKnown.{quantified, source, target, base}
 use Rattle.dsr_updating.specs.Templates.{KnownSets, TellsKnown}
 use Rattle.dsr_updating.specs.declared.effects.Tag.TheVariants.{Written, Entry}
 
--- an item with its place
-pub in_place : {T : Type 0} (xs : List T) (n : ℕ) (x : T) → slice_get xs n ≡ Some x → IsIn x xs
-in_place [] n x e = absurd cc
-in_place (y ∷ xs) zero x e = inl cc
-in_place (y ∷ xs) (suc n) x e = inr (in_place xs n x e)
-
-pub place_in : {T : Type 0} (xs : List T) (x : T) → IsIn x xs → (n : ℕ) × (slice_get xs n ≡ Some x)
-place_in [] x is_in = absurd is_in
-place_in (y ∷ xs) x (inl same) = (0, ap Some (sym same))
-place_in (y ∷ xs) x (inr later) = let found = place_in xs x later in (suc found.0, found.1)
-
 -- whether a search finds an item
 pub found_if : {T : Type 0} (xs ys : List T) (x : T) (r : Bool) → MatchBool (not r) (IsIn x xs → ⊥) (IsIn x xs) → xs ≡ ys → IsTrue r ↔ IsIn x ys
 found_if xs ys x true is_in same = (λ _. subst (IsIn x) same is_in, λ _. refl)
 found_if xs ys x false out same = (λ no. absurd (false≢true no), λ is_in. absurd (out (subst (IsIn x) (sym same) is_in)))
-
--- a number that is found among others
-pub number_if : (numbers others : List ℕ) (number : ℕ) (r : Bool) → numbers ≡ others → IsTrue r ↔ ((n : ℕ) × (its : ℕ) × (slice_get numbers n ≡ Some its) × (its ≡ number)) → IsTrue r ↔ IsIn number others
-number_if numbers others number r same decides = (
-  λ t. let found = decides.0 t in
-      subst (λ x. IsIn x others) found.3 (subst (IsIn found.1) same (in_place numbers found.0 found.1 found.2)),
-  λ is_in. let found = place_in numbers number (subst (IsIn number) (sym same) is_in) in decides.1 (found.0, number, found.1, refl),
-)
 
 -- two variables that are known to be members of sets without a common member
 pub different_if : (owner other : Owner) (pairs : List (ℕ × ℕ)) (known others : KnownSets) (v at : Var) (r : Bool) → other.spec ≡ owner.spec → pairs ≡ exclusive owner.spec owner.number → TellsKnown owner.spec owner.constraint.quant known → TellsKnown other.spec other.constraint.quant others → IsTrue r ↔ ((pair : ℕ × ℕ) × IsIn pair pairs × IsTrue (known v pair.0) × IsTrue (others at pair.1)) → IsTrue r ↔ AreDifferentRecords owner other v at

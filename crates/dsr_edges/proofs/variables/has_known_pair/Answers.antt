@@ -23,7 +23,7 @@ pub returns-then-has-2 : goal.returns-then-has-2
 returns-then-has-2 c = (
   λ _.
       let found = some_found (λ pair. IsTrue (known_by c.args.known.now c.args.var pair.0) × IsTrue (known_by c.args.other.now c.args.at pair.1)) c.args.pairs.now c.loop-pair.pair-index _ c.loop-pair-test.true c.args.pairs.now refl
-          (sym c.has.ensures ∙ c.if-has.true, sym c.has-then-has.ensures ∙ c.if-has-2.true) in
+      (sym c.has.ensures ∙ c.if-has.true, sym c.has-then-has.ensures ∙ c.if-has-2.true) in
       (found.0, found.1, found.2.0, found.2.1),
   λ _. refl,
 )

@@ -1,9 +1,7 @@
 use Rattle.std.proofs.Common.{◌≡◌, ◌∙◌, Some, slice_get, sym, ap, subst}
-use Rattle.std.specs.Prelude.{Decides, option_map}
+use Rattle.std.specs.Prelude.{option_map}
 use Rattle.dsr_cert.proofs.Tested.{uncovered_if}
 use Rattle.dsr_compensate.proofs.Each.{item_at}
-use Rattle.dsr_covering.specs.Atoms as marked
-use Rattle.dsr_planning.specs.Plans.{Covers}
 use Rattle.dsr_cert.proofs.flaws.Chosen.is_uncovered.Goals as goal
 
 pub returns : goal.returns
@@ -13,5 +11,5 @@ returns c =
     let found = c.in-Some.ensures.lookup in
     let constraint_is = subst (λ xs. slice_get xs n ≡ Some constraint) c.items.ensures (item_at c.items.result.now n constraint found.3.0 found.1) in
     let row_is = sym c.row.ensures ∙ ap (option_map (λ r. r.now)) c.in-Some-row.is in
-    uncovered_if c.args.self.now.spec.now c.args.self.now.choice.now n constraint c.in-Some-row.row.now (record { constraint_is = constraint_is; row_is = row_is }) c.in_ok-covers.field-0
-    (subst (λ marks. Decides c.in_ok-covers.field-0 (Covers constraint (marked.IsTested marks))) (c.deref.ensures.value ∙ c.in_ok-marks.ensures) c.in_ok-covers.ensures)
+    uncovered_if c.args.self.now.spec.now c.args.self.now.choice.now n constraint c.in-Some-row.row.now (record { constraint_is = constraint_is; row_is = row_is }) c.in_ok-is_covered.field-0
+    c.in_ok-is_covered.ensures

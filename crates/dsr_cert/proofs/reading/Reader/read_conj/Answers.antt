@@ -1,17 +1,20 @@
-use Rattle.std.proofs.Common.{◌<◌, ◌+◌, false, [], ◌∷◌, length, get_or, slice_get, sym, subst, arith}
+use Rattle.std.proofs.Common.{◌<◌, ◌≤◌, ◌+◌, false, [], ◌∷◌, length, get_or, slice_get, sym, subst, arith}
 use Rattle.std.proofs.lemmas.Option.{get_or_from_slice_get}
 use Rattle.std.proofs.lemmas.Result.{err_from_is_err_and}
 use Rattle.dsr_cert.proofs.Joined.{tells_later}
-use Rattle.dsr_cert.proofs.Nested.{each_stands, got_there, literal_from, part_step, single_length, singles}
+use Rattle.dsr_cert.proofs.Nested.{each_stands, got_there, literal_from, part_none, part_step, single_length, singles}
 use Rattle.dsr_cert.proofs.Saying.{few_forms}
-use Rattle.dsr_cert.specs.Certificates.{NamesWay, way_line}
+use Rattle.dsr_cert.specs.Certificates.{NamesWay, conj_lines, way_line}
 use Rattle.dsr_cert.specs.Forms.{OfLiteral}
-use Rattle.dsr_cert.specs.Parts.{IsPart, NoneWrong, Stands, texts_of}
+use Rattle.dsr_cert.specs.Parts.{AtOwner, IsPart, NoneWrong, Stands, texts_of}
 use Rattle.dsr_ir.specs.declared.constraints.Atom.TheVariants as atoms
 use Rattle.dsr_ir.specs.declared.constraints.Literal.{Literal}
 use Rattle.dsr_ir.specs.declared.constraints.Var.TheVariants as vars
-use Rattle.dsr_graph.proofs.Paired.{item_there, paired_step}
+use Rattle.dsr_graph.proofs.Paired.{item_there, paired_none, paired_step}
 use Rattle.dsr_planning.specs.Plans.{owner_at}
+use Rattle.dsr_compensate.proofs.Later.{take_whole}
+use Rattle.dsr_graph.specs.Paired.{ArePaired}
+use Rattle.dsr_meaning.specs.Lists.{each_at}
 use Rattle.dsr_cert.proofs.reading.Reader.read_conj.Goals as goal
 
 pub overflow_add-line : goal.overflow_add-line
@@ -69,3 +72,23 @@ loop-place-preserved c =
           (subst (λ k. IsPart spec lines (c.args.line + k) (OfLiteral n conj i ∷ []) (way_line conj i c.in_ok-way.way ∷ [])) (sym many) c.in_ok-way.ensures.0),
       λ constraint there. paired_step (λ k l way. NamesWay (owner_at spec n constraint) conj k l way) literals c.loop-place.ways.items c.add.new.items.items i literal c.in_ok-way.way here c.in_ok-add.ensures (c.in_ok-way.ensures.1 constraint there) (before.1 constraint there),
     )
+
+pub loop-place-init : goal.loop-place-init
+loop-place-init c =
+    let spec = c.args.self.now.spec.now in
+    let lines = texts_of c.args.self.now.lines.now in
+    let n = c.args.number in
+    let conj = c.args.conj in
+    subst (λ ways. IsPart spec lines c.args.line [] (conj_lines conj ways) × AtOwner spec n (λ owner. ArePaired (λ literal its way. NamesWay owner conj literal its way) [] ways)) (sym c.new-ways.ensures.items)
+    (part_none spec lines c.args.line, λ constraint there. paired_none (λ literal its way. NamesWay (owner_at spec n constraint) conj literal its way))
+
+pub returns : goal.returns
+returns c =
+    let spec = c.args.self.now.spec.now in
+    let lines = texts_of c.args.self.now.lines.now in
+    let n = c.args.number in
+    let conj = c.args.conj in
+    let ways = c.loop-place.ways.items in
+    let past = subst (λ xs. length xs ≤ c.loop-place.place) c.items-literal-items.ensures c.loop-place-test.false in
+    subst (λ xs. IsPart spec lines c.args.line (each_at (λ literal _. OfLiteral n conj literal ∷ []) 0 xs) (conj_lines conj ways) × AtOwner spec n (λ owner. ArePaired (λ literal its way. NamesWay owner conj literal its way) xs ways))
+    (take_whole c.loop-place.place c.args.its.now.literals past) c.loop-place.invariant

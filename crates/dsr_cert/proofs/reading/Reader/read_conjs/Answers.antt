@@ -1,17 +1,18 @@
-use Rattle.std.proofs.Common.{◌≡◌, ◌≤◌, ◌<◌, ◌+◌, Some, length, get_or, slice_get, sym, subst, arith}
+use Rattle.std.proofs.Common.{[], ap, ◌∙◌, ◌≡◌, ◌≤◌, ◌<◌, ◌+◌, Some, length, get_or, slice_get, sym, subst, arith}
 use Rattle.std.proofs.lemmas.Result.{err_from_is_err_and}
 use Rattle.dsr_cert.proofs.Joined.{tells_later}
-use Rattle.dsr_cert.proofs.Nested.{each_stands, next_step, part_step, single_length}
+use Rattle.dsr_cert.proofs.Nested.{each_stands, next_step, part_none, part_step, single_length}
 use Rattle.dsr_cert.proofs.Saying.{few_forms}
 use Rattle.dsr_cert.specs.Certificates.{conj_lines, conjs_lines, way_line}
 use Rattle.dsr_cert.specs.Forms.{conj_forms}
 use Rattle.dsr_cert.specs.Parts.{AreNamedIn, IsPart, NoneWrong, Stands, texts_of}
 use Rattle.dsr_compensate.proofs.Each.{item_at, take_length}
 use Rattle.dsr_compensate.proofs.Later.{take_whole}
-use Rattle.dsr_graph.proofs.Paired.{paired_step}
+use Rattle.dsr_graph.proofs.Paired.{paired_none, paired_step}
 use Rattle.dsr_graph.specs.Paired.{ArePaired}
 use Rattle.dsr_meaning.specs.Lists.{each_at}
 use Rattle.dsr_planning.specs.Plans.{owner_at}
+use Rattle.std.specs.Prelude.{option_and_then}
 use Rattle.dsr_cert.proofs.reading.Reader.read_conjs.Goals as goal
 
 pub read_conj-requires-clause-stands : goal.read_conj-requires-clause-stands
@@ -83,3 +84,19 @@ returns c =
     let before = c.loop-place.invariant in
     subst (λ xs. IsPart spec lines c.args.line (each_at (conj_forms n) 0 xs) (conjs_lines rows) × (ArePaired (λ k y ws. AreNamedIn (owner_at spec n c.args.constraint.now) k y ws) xs rows × (c.loop-place.next ≡ c.args.line + length (each_at (conj_forms n) 0 xs)))) (take_whole c.loop-place.place c.args.constraint.now.conjs past)
     (before.0, (before.1, before.2))
+
+pub loop-place-init : goal.loop-place-init
+loop-place-init c =
+    let spec = c.args.self.now.spec.now in
+    let lines = texts_of c.args.self.now.lines.now in
+    let n = c.args.number in
+    let owner = owner_at spec n c.args.constraint.now in
+    subst (λ rows. IsPart spec lines c.args.line [] (conjs_lines rows) × ArePaired (λ conj its ways. AreNamedIn owner conj its ways) [] rows × (c.args.line ≡ c.args.line + 0)) (sym c.new-rows.ensures.items)
+    (part_none spec lines c.args.line, paired_none (λ conj its ways. AreNamedIn owner conj its ways), omega arith)
+
+pub read_conj-requires-clause-conj : goal.read_conj-requires-clause-conj
+read_conj-requires-clause-conj c =
+    let i = c.loop-place.place in
+    let x = c.conj-item.result in
+    ap (option_and_then (λ constraint. slice_get constraint.conjs i)) c.requires.constraint
+    ∙ subst (λ xs. slice_get xs i ≡ Some x) c.items-conj-items.ensures (item_at c.items-conj-items.result.now i x c.loop-place-test.true c.conj-item.is)

@@ -1,13 +1,13 @@
-use Rattle.std.proofs.Common.{◌≡◌, ◌≤◌, ◌<◌, ◌+◌, Some, length, get_or, slice_get, sym, subst, arith}
+use Rattle.std.proofs.Common.{[], refl, ◌≡◌, ◌≤◌, ◌<◌, ◌+◌, Some, length, get_or, slice_get, sym, subst, arith}
 use Rattle.std.proofs.lemmas.Result.{err_from_is_err_and}
 use Rattle.dsr_cert.proofs.Joined.{tells_later}
-use Rattle.dsr_cert.proofs.Nested.{each_stands, next_step, part_step}
+use Rattle.dsr_cert.proofs.Nested.{each_stands, next_step, part_none, part_step}
 use Rattle.dsr_cert.specs.Certificates.{row_lines, rows_lines}
 use Rattle.dsr_cert.specs.Forms.{constraint_forms}
 use Rattle.dsr_cert.specs.Parts.{IsNamedRow, IsPart, NoneWrong, Stands, texts_of}
 use Rattle.dsr_compensate.proofs.Each.{item_at, take_length}
 use Rattle.dsr_compensate.proofs.Later.{take_whole}
-use Rattle.dsr_graph.proofs.Paired.{paired_step}
+use Rattle.dsr_graph.proofs.Paired.{paired_none, paired_step}
 use Rattle.dsr_graph.specs.Paired.{ArePaired}
 use Rattle.dsr_meaning.specs.Lists.{each_at}
 use Rattle.dsr_cert.proofs.reading.Reader.read_rows.Goals as goal
@@ -57,3 +57,16 @@ returns c =
     let before = c.loop-number.invariant in
     subst (λ xs. IsPart spec lines 1 (each_at constraint_forms 0 xs) (rows_lines spec rows) × (ArePaired (λ k y r. IsNamedRow spec k y r) xs rows × (c.loop-number.next ≡ 1 + length (each_at constraint_forms 0 xs)))) (take_whole c.loop-number.number spec.constraints past)
     (before.0, (before.1, before.2))
+
+pub loop-number-init : goal.loop-number-init
+loop-number-init c =
+    let spec = c.args.self.now.spec.now in
+    let lines = texts_of c.args.self.now.lines.now in
+    subst (λ rows. IsPart spec lines 1 [] (rows_lines spec rows) × ArePaired (λ n constraint row. IsNamedRow spec n constraint row) [] rows × (1 ≡ 1 + 0)) (sym c.new-rows.ensures.items)
+    (part_none spec lines 1, paired_none (λ n constraint row. IsNamedRow spec n constraint row), refl)
+
+pub read_row-requires-clause-constraint : goal.read_row-requires-clause-constraint
+read_row-requires-clause-constraint c =
+    let i = c.loop-number.number in
+    let x = c.constraint-item.result in
+    subst (λ xs. slice_get xs i ≡ Some x) c.items-constraint-items.ensures (item_at c.items-constraint-items.result.now i x c.loop-number-test.true c.constraint-item.is)

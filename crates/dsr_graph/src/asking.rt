@@ -1,5 +1,5 @@
 // What the graph tells.
-ghost use Rattle.std.specs.Prelude.{◌≡◌, ℕ, Decides, List, Some, option_map, slice_get};
+ghost use Rattle.std.specs.Prelude.{◌≡◌, Decides, List, Some, option_map, slice_get};
 ghost use Rattle.dsr_breaking.specs.Breaks.{Breaks, Falsifies, Relies};
 ghost use Rattle.dsr_graph.specs.Graphs as said;
 ghost use Rattle.dsr_graph.specs.Graphs.{IsOwnerIn, IsWayOf, owner_at, ways_of};
@@ -184,9 +184,9 @@ fn from_in(graph: &Graph, constraint: u32) -> &[u32]
 }
 
 fn is_among(numbers: &[u32], number: u32) -> bool
-    ensures { Decides result ((n : ℕ) × (its : ℕ) × (slice_get numbers.now n ≡ Some its) × (its ≡ number)) }
+    ensures { Decides result (IsIn number numbers.now) }
 {
-    numbers.iter().any(|its| *its == number)
+    numbers.contains(&number)
 }
 
 /// Whether the constraint uses a fact that the other one gives.

@@ -5,7 +5,7 @@ ghost use Rattle.dsr_image.specs.Images.{IsCellClaimed};
 ghost use Rattle.dsr_meaning.specs.Cells.{IsCellOf, IsFieldCell};
 ghost use Rattle.dsr_meaning.specs.Writes.{AreCellsApart};
 
-use crate::tables::{BIG, BITS, BYTES, LITTLE, Row};
+use crate::cell_rows::{BIG, BITS, BYTES, LITTLE, Row};
 use dsr_image::{ImageBytes, Whole};
 use dsr_ir::{Cell, NoMemory, Order};
 use std::alloc::Global;
@@ -17,13 +17,13 @@ fn image(alloc: Global) -> Result<Whole, NoMemory>
     Ok(Whole::new(Vec::from_slice(alloc, &BYTES)?))
 }
 
-fn hex(alloc: Global, bytes: &[u8]) -> Result<String, Fail> {
-    let mut text = String::new(alloc);
+// The bytes as the digits of one number.
+fn number_of(bytes: &[u8]) -> u128 {
+    let mut number = 0;
     for byte in bytes {
-        let digits = format!(in alloc; "{byte:02x}")?;
-        text.push_str(&digits)?;
+        number = number << 8 | u128::from(*byte);
     }
-    Ok(text)
+    number
 }
 
 // Whether the cell has a form that a field may have.
@@ -53,7 +53,7 @@ fn fits(number: u64, width: u8) -> bool
 }
 
 // Whether the cell has the value, and then the other one, and nothing else of the image changes.
-fn holds(alloc: Global, cell: &Cell, row: &Row) -> Result<bool, Fail> {
+fn holds(alloc: Global, cell: &Cell, row: &Row) -> Result<bool, NoMemory> {
     let (_, _, value, other, after) = *row;
     let mut image = image(alloc)?;
     if !is_cell(image.len(), cell) || !fits(other, cell.width) {
@@ -62,17 +62,10 @@ fn holds(alloc: Global, cell: &Cell, row: &Row) -> Result<bool, Fail> {
     let before = image.get(cell);
     image.put(cell, other);
     let put = image.get(cell);
-    let bytes = hex(alloc, &image.into_bytes())?;
-    Ok(before == value && put == other && bytes.as_str() == after)
+    Ok(before == value && put == other && number_of(&image.into_bytes()) == after)
 }
 
-// The cell of the first row that doesn't hold.
-fn first_wrong(
-    alloc: Global,
-    rows: &[Row],
-    bytewise: bool,
-    order: Order,
-) -> Result<Option<Cell>, Fail> {
+fn all_hold(alloc: Global, rows: &[Row], bytewise: bool, order: Order) -> Result<bool, NoMemory> {
     for row in rows {
         let cell = Cell {
             bit: row.0,
@@ -81,52 +74,42 @@ fn first_wrong(
             order,
         };
         if !holds(alloc, &cell, row)? {
-            return Ok(Some(cell));
+            return Ok(false);
         }
     }
-    Ok(None)
+    Ok(true)
 }
 
-#[test]
-fn whole_bytes(rt: HostRuntime) -> Result<(), Fail> {
-    assert!(rt; first_wrong(rt.alloc(), &LITTLE, true, Order::Little)?.is_none());
-    assert!(rt; first_wrong(rt.alloc(), &BIG, true, Order::Big)?.is_none());
-    Ok(())
+fn whole_bytes_hold(alloc: Global) -> Result<bool, NoMemory> {
+    Ok(all_hold(alloc, &LITTLE, true, Order::Little)? && all_hold(alloc, &BIG, true, Order::Big)?)
 }
 
-#[test]
-fn bits_in_either_order(rt: HostRuntime) -> Result<(), Fail> {
-    assert!(rt; first_wrong(rt.alloc(), &BITS, false, Order::Little)?.is_none());
-    assert!(rt; first_wrong(rt.alloc(), &BITS, false, Order::Big)?.is_none());
-    Ok(())
+fn bits_hold(alloc: Global) -> Result<bool, NoMemory> {
+    Ok(all_hold(alloc, &BITS, false, Order::Little)? && all_hold(alloc, &BITS, false, Order::Big)?)
 }
 
-// The bytes of an image, one after the other.
-fn told(alloc: Global, image: &Whole) -> Result<Vec<u8>, NoMemory> {
-    let mut bytes = Vec::new(alloc);
+// Whether the image tells its bytes one after the other.
+fn tells_bytes(image: &Whole) -> bool {
     for at in 0..image.len() {
-        bytes.push(image.byte(at))?;
+        if BYTES.get(at as usize) != Some(&image.byte(at)) {
+            return false;
+        }
     }
-    Ok(bytes)
+    image.len() == 10
 }
 
-#[test]
-fn bytes_are_told(rt: HostRuntime) -> Result<(), Fail> {
-    let image = image(rt.alloc())?;
-    assert_eq!(rt; image.len(), 10);
-    assert!(rt; told(rt.alloc(), &image)?.as_slice() == BYTES.as_slice());
-    assert!(rt; image.into_bytes().as_slice() == BYTES.as_slice());
-    Ok(())
+fn claims(image: &mut Whole) -> bool
+    requires { length image.old ≡ 10 }
+    ensures { image.new ≡ image.old }
+{
+    image.claim(0, 10).is_ok() && image.claim(3, 4).is_ok() && image.claim(10, 0).is_ok()
 }
 
-#[test]
-fn claims_leave_the_bytes(rt: HostRuntime) -> Result<(), Fail> {
-    let mut image = image(rt.alloc())?;
-    assert!(rt; image.claim(0, 10).is_ok());
-    assert!(rt; image.claim(3, 4).is_ok());
-    assert!(rt; image.claim(10, 0).is_ok());
-    assert!(rt; image.into_bytes().as_slice() == BYTES.as_slice());
-    Ok(())
+// Whether the bytes are told, and are left as they were by claims.
+fn bytes_stay(alloc: Global) -> Result<bool, NoMemory> {
+    let mut image = image(alloc)?;
+    let is_claimed = tells_bytes(&image) && claims(&mut image);
+    Ok(is_claimed && image.into_bytes().as_slice() == BYTES.as_slice())
 }
 
 // Two puts into cells of any image that share no bit, and what both hold then.
@@ -146,9 +129,8 @@ fn put_both<I: ImageBytes>(image: &mut I, a: &Cell, b: &Cell, v: u64, w: u64) ->
     (image.get(a), image.get(b))
 }
 
-#[test]
-fn two_puts_hold(rt: HostRuntime) -> Result<(), Fail> {
-    let mut image = image(rt.alloc())?;
+fn two_puts_hold(alloc: Global) -> Result<bool, NoMemory> {
+    let mut image = image(alloc)?;
     let low = Cell {
         bit: 16,
         width: 16,
@@ -161,6 +143,14 @@ fn two_puts_hold(rt: HostRuntime) -> Result<(), Fail> {
         bytewise: false,
         order: Order::Big,
     };
-    assert!(rt; put_both(&mut image, &low, &high, 258, 5) == (258, 5));
+    Ok(put_both(&mut image, &low, &high, 258, 5) == (258, 5))
+}
+
+#[test]
+fn cells_hold_what_is_put(rt: HostRuntime) -> Result<(), Fail> {
+    assert!(rt; whole_bytes_hold(rt.alloc())?);
+    assert!(rt; bits_hold(rt.alloc())?);
+    assert!(rt; bytes_stay(rt.alloc())?);
+    assert!(rt; two_puts_hold(rt.alloc())?);
     Ok(())
 }

@@ -1,7 +1,7 @@
 use Rattle.std.proofs.Common.{subst}
 use Rattle.dsr_rows.specs.Functionals.{FindsNextPair}
 use Rattle.dsr_rows.proofs.PairsOfRows.{no_next}
-use Rattle.dsr_rows_cases.proofs.functional.push.Goals as goal
+use Rattle.dsr_base_cases.proofs.functional.push.Goals as goal
 
 pub push-requires-clause-last : goal.push-requires-clause-last
 push-requires-clause-last c =

@@ -1,0 +1,177 @@
+// The pairs of a relation, with the sources of each target.
+ghost use Rattle.std.specs.Prelude.{◌≡◌, ◌≤◌, ◌+◌, ◌++◌, ◌∷◌, [], IfOk, false, true, length};
+
+use dsr_related::Relation;
+use std::alloc::{AllocError, Global};
+use std::test::Fail;
+
+// What a relation is asked, with the answer behind it.
+#[derive(Clone, Copy)]
+enum Question {
+    Has(u32, u64, bool),
+    TargetsOf(u32, u64),
+    First(Option<(u32, u64)>),
+    After(u32, u64, Option<(u32, u64)>),
+    AfterNear(u32, u64, usize, Option<(u32, u64)>),
+    NextTarget(u32, u64, Option<u64>),
+    GreatestTarget(u32, Option<u64>),
+    SourcesOf(u64, u64),
+    GreatestSource(u64, Option<u32>),
+}
+
+// What (0, 2), (3, 0) and (3, 1) answer.
+const ASKED_OF_TWO: [Question; 7] = [
+    Question::Has(3, 1, true),
+    Question::Has(1, 3, false),
+    Question::TargetsOf(3, 2),
+    Question::First(Some((0, 2))),
+    Question::After(0, 2, Some((3, 0))),
+    Question::GreatestTarget(3, Some(1)),
+    Question::GreatestTarget(1, None),
+];
+
+// What (0, 2), (3, 0), (3, 2) and (7, 2) answer: of sources, and of what follows, near any place.
+const ASKED_OF_MANY: [Question; 17] = [
+    Question::SourcesOf(0, 1),
+    Question::SourcesOf(1, 0),
+    Question::SourcesOf(2, 3),
+    Question::SourcesOf(9, 0),
+    Question::GreatestSource(0, Some(3)),
+    Question::GreatestSource(1, None),
+    Question::GreatestSource(2, Some(7)),
+    Question::GreatestSource(9, None),
+    Question::AfterNear(3, 0, 1, Some((3, 2))),
+    Question::AfterNear(3, 0, 0, Some((3, 2))),
+    Question::AfterNear(3, 0, 4, Some((3, 2))),
+    Question::AfterNear(7, 2, 3, None),
+    Question::AfterNear(7, 2, 9, None),
+    Question::NextTarget(3, 0, Some(0)),
+    Question::NextTarget(3, 1, Some(2)),
+    Question::NextTarget(3, 3, None),
+    Question::NextTarget(1, 0, None),
+];
+
+// What (0, 2), (3, 0) and (7, 2) answer where each source has one target at most.
+const ASKED_OF_ONE: [Question; 14] = [
+    Question::Has(3, 0, true),
+    Question::Has(3, 2, false),
+    Question::TargetsOf(3, 1),
+    Question::TargetsOf(4, 0),
+    Question::First(Some((0, 2))),
+    Question::After(0, 1, Some((0, 2))),
+    Question::AfterNear(3, 0, 1, Some((7, 2))),
+    Question::NextTarget(3, 0, Some(0)),
+    Question::NextTarget(3, 1, None),
+    Question::GreatestTarget(7, Some(2)),
+    Question::SourcesOf(2, 2),
+    Question::SourcesOf(1, 0),
+    Question::GreatestSource(2, Some(7)),
+    Question::GreatestSource(1, None),
+];
+
+// (0, 2), (3, 0) and (3, 1), not in order, and one of them twice.
+fn two(alloc: Global) -> Result<Relation, AllocError>
+    ensures { IfOk result (λ relation. relation.pairs.ordered ≡ true) }
+{
+    let mut relation = Relation::new(alloc, 5, 0)?;
+    relation.push(3, 1);
+    relation.push(0, 2);
+    relation.push(3, 0);
+    relation.push(3, 1);
+    relation.finish();
+    Ok(relation)
+}
+
+// Pushes (0, 2), (3, 0), (3, 2) and (7, 2), not in order, and one of them twice.
+fn push_many(relation: &mut Relation)
+    requires room { length relation.old.pairs.pairs + 5 ≤ relation.old.pairs.room }
+    requires many { relation.old.functional ≡ false }
+    ensures pairs { relation.new.pairs.pairs
+        ≡ relation.old.pairs.pairs ++ (3, 2) ∷ (7, 2) ∷ (3, 0) ∷ (0, 2) ∷ (3, 2) ∷ [] }
+    ensures targets { relation.new.targets ≡ relation.old.targets }
+{
+    relation.push(3, 2);
+    relation.push(7, 2);
+    relation.push(3, 0);
+    relation.push(0, 2);
+    relation.push(3, 2);
+}
+
+// The pairs above, where the sources of the first targets are counted, three or none.
+fn many(alloc: Global, is_counted: bool) -> Result<Relation, AllocError>
+    ensures { IfOk result (λ relation. relation.pairs.ordered ≡ true) }
+{
+    let mut relation = Relation::new(alloc, 5, if is_counted { 3 } else { 0 })?;
+    push_many(&mut relation);
+    relation.finish();
+    Ok(relation)
+}
+
+// Pushes (0, 2), (3, 0) and (7, 2) to a relation in which each source has one target at most.
+fn push_one(relation: &mut Relation)
+    requires empty { relation.old.pairs.pairs ≡ [] }
+    requires room { relation.old.pairs.room ≡ 8 }
+    ensures pairs { relation.new.pairs.pairs ≡ (0, 2) ∷ (3, 0) ∷ (7, 2) ∷ [] }
+    ensures targets { relation.new.targets ≡ relation.old.targets }
+{
+    relation.push(0, 2);
+    relation.push(3, 0);
+    relation.push(7, 2);
+}
+
+// The pairs above, where the sources of the first targets are counted, three or none.
+fn one(alloc: Global, is_counted: bool) -> Result<Relation, AllocError>
+    ensures { IfOk result (λ relation. relation.pairs.ordered ≡ true) }
+{
+    let mut relation = Relation::functional(alloc, 8, if is_counted { 3 } else { 0 })?;
+    push_one(&mut relation);
+    relation.finish();
+    Ok(relation)
+}
+
+fn answers(relation: &Relation, question: Question) -> bool
+    requires { relation.now.pairs.ordered ≡ true }
+{
+    match question {
+        Question::Has(first, second, is) => relation.has(first, second) == is,
+        Question::TargetsOf(first, count) => relation.targets_of(first) == count,
+        Question::First(pair) => relation.first() == pair,
+        Question::After(first, second, pair) => relation.after(first, second) == pair,
+        Question::AfterNear(first, second, near, pair) => {
+            relation.after_near(first, second, near) == pair
+        }
+        Question::NextTarget(first, from, second) => relation.next_target(first, from) == second,
+        Question::GreatestTarget(first, second) => relation.greatest_target(first) == second,
+        Question::SourcesOf(second, count) => relation.sources_of(second) == count,
+        Question::GreatestSource(second, first) => relation.greatest_source(second) == first,
+    }
+}
+
+// Whether all is answered, and nothing is left of the pairs when they are taken away. The one function that drops a
+// relation, since that costs most to prove.
+fn all_answer(relation: Relation, asked: &[Question]) -> bool
+    requires { relation.pairs.ordered ≡ true }
+{
+    let mut relation = relation;
+    let mut right = true;
+    for question in asked {
+        right = right && answers(&relation, *question);
+    }
+    relation.clear();
+    right && !relation.has(3, 0)
+}
+
+#[test]
+fn targets_and_sources_are_asked(rt: HostRuntime) -> Result<(), Fail> {
+    assert!(rt; all_answer(two(rt.alloc())?, &ASKED_OF_TWO));
+    assert!(rt; all_answer(many(rt.alloc(), true)?, &ASKED_OF_MANY));
+    assert!(rt; all_answer(many(rt.alloc(), false)?, &ASKED_OF_MANY));
+    Ok(())
+}
+
+#[test]
+fn each_source_has_one_target(rt: HostRuntime) -> Result<(), Fail> {
+    assert!(rt; all_answer(one(rt.alloc(), true)?, &ASKED_OF_ONE));
+    assert!(rt; all_answer(one(rt.alloc(), false)?, &ASKED_OF_ONE));
+    Ok(())
+}

@@ -9,7 +9,6 @@ use crate::cell_rows::{BIG, BITS, BYTES, LITTLE, Row};
 use dsr_image::{ImageBytes, Whole};
 use dsr_ir::{Cell, NoMemory, Order};
 use std::alloc::Global;
-use std::test::Fail;
 
 fn image(alloc: Global) -> Result<Whole, NoMemory>
     ensures { IfOk result (λ image. length image ≡ 10) }
@@ -65,7 +64,7 @@ fn holds(alloc: Global, cell: &Cell, row: &Row) -> Result<bool, NoMemory> {
     Ok(before == value && put == other && number_of(&image.into_bytes()) == after)
 }
 
-fn all_hold(alloc: Global, rows: &[Row], bytewise: bool, order: Order) -> Result<bool, NoMemory> {
+fn all_hold(alloc: Global, rows: &[Row], bytewise: bool, order: Order) -> bool {
     for row in rows {
         let cell = Cell {
             bit: row.0,
@@ -73,19 +72,19 @@ fn all_hold(alloc: Global, rows: &[Row], bytewise: bool, order: Order) -> Result
             bytewise,
             order,
         };
-        if !holds(alloc, &cell, row)? {
-            return Ok(false);
+        if !holds(alloc, &cell, row).unwrap_or(false) {
+            return false;
         }
     }
-    Ok(true)
+    true
 }
 
-fn whole_bytes_hold(alloc: Global) -> Result<bool, NoMemory> {
-    Ok(all_hold(alloc, &LITTLE, true, Order::Little)? && all_hold(alloc, &BIG, true, Order::Big)?)
-}
-
-fn bits_hold(alloc: Global) -> Result<bool, NoMemory> {
-    Ok(all_hold(alloc, &BITS, false, Order::Little)? && all_hold(alloc, &BITS, false, Order::Big)?)
+pub fn hold_what_is_put(alloc: Global) -> bool {
+    all_hold(alloc, &LITTLE, true, Order::Little)
+        && all_hold(alloc, &BIG, true, Order::Big)
+        && all_hold(alloc, &BITS, false, Order::Little)
+        && all_hold(alloc, &BITS, false, Order::Big)
+        && two_puts_hold(alloc).unwrap_or(false)
 }
 
 // Whether the image tells its bytes one after the other.
@@ -106,7 +105,7 @@ fn claims(image: &mut Whole) -> bool
 }
 
 // Whether the bytes are told, and are left as they were by claims.
-fn bytes_stay(alloc: Global) -> Result<bool, NoMemory> {
+pub fn bytes_stay(alloc: Global) -> Result<bool, NoMemory> {
     let mut image = image(alloc)?;
     let is_claimed = tells_bytes(&image) && claims(&mut image);
     Ok(is_claimed && image.into_bytes().as_slice() == BYTES.as_slice())
@@ -144,13 +143,4 @@ fn two_puts_hold(alloc: Global) -> Result<bool, NoMemory> {
         order: Order::Big,
     };
     Ok(put_both(&mut image, &low, &high, 258, 5) == (258, 5))
-}
-
-#[test]
-fn cells_hold_what_is_put(rt: HostRuntime) -> Result<(), Fail> {
-    assert!(rt; whole_bytes_hold(rt.alloc())?);
-    assert!(rt; bits_hold(rt.alloc())?);
-    assert!(rt; bytes_stay(rt.alloc())?);
-    assert!(rt; two_puts_hold(rt.alloc())?);
-    Ok(())
 }

@@ -8,7 +8,6 @@ use dsr_ir::{
 use std::alloc::Global;
 use std::cmp::Ordering;
 use std::hash::{DefaultHasher, Hash, Hasher};
-use std::test::Fail;
 
 const ATOM: Atom = Atom::Pair(Var::Head, Var::Second, 2);
 
@@ -31,15 +30,9 @@ pub fn name(alloc: Global, text: &[u8]) -> Result<Name, NoMemory> {
 pub fn one<T: Drop>(alloc: Global, item: T) -> Result<Seq<T>, NoMemory>
     ensures { IfOk result (λ items. items ≡ item ∷ []) }
 {
-    Ok(Seq::new(listed(alloc, item)?))
-}
-
-fn listed<T: Drop>(alloc: Global, item: T) -> Result<Vec<T>, NoMemory>
-    ensures { IfOk result (λ items. items.items ≡ item ∷ []) }
-{
     let mut items = Vec::new(alloc);
     items.push(item)?;
-    Ok(items)
+    Ok(Seq::new(items))
 }
 
 fn hash_of(name: &Name) -> u64 {
@@ -63,7 +56,8 @@ fn name_is_copied(alloc: Global) -> Result<bool, NoMemory> {
 
 fn some_name_is_copied(alloc: Global) -> Result<bool, NoMemory> {
     let name = Some(name(alloc, b"nodes")?);
-    Ok(copied(alloc, &name)?.is_some())
+    let copy = copied(alloc, &name)?;
+    Ok(copy.is_some())
 }
 
 // ((4 + 3) - 2) * (9 / 5)
@@ -106,15 +100,14 @@ fn template_is_copied(alloc: Global) -> Result<bool, NoMemory> {
 
 // given (any of one atom)
 fn given(alloc: Global) -> Result<FormulaNode, NoMemory> {
-    let any = FormulaNode::Any(listed(alloc, FormulaNode::Leaf(ATOM))?);
+    let any = FormulaNode::Any(Vec::from_array(alloc, [FormulaNode::Leaf(ATOM)])?);
     Ok(FormulaNode::Given(Box::new(alloc, any)?))
 }
 
 // not given (any of one atom), together with that atom
 fn formula(alloc: Global) -> Result<Formula, NoMemory> {
     let not = FormulaNode::Not(Box::new(alloc, given(alloc)?)?);
-    let mut every = listed(alloc, not)?;
-    every.push(FormulaNode::Leaf(ATOM))?;
+    let every = Vec::from_array(alloc, [not, FormulaNode::Leaf(ATOM)])?;
     Ok(Formula::new(FormulaNode::Every(every)))
 }
 
@@ -142,12 +135,10 @@ fn formula_is_copied(alloc: Global) -> Result<bool, NoMemory> {
     Ok(is_formula(&formula) && is_formula(&copy))
 }
 
-#[test]
-fn plain_data_is_copied(rt: HostRuntime) -> Result<(), Fail> {
-    assert!(rt; name_is_copied(rt.alloc())?);
-    assert!(rt; some_name_is_copied(rt.alloc())?);
-    assert!(rt; expression_is_copied(rt.alloc())?);
-    assert!(rt; template_is_copied(rt.alloc())?);
-    assert!(rt; formula_is_copied(rt.alloc())?);
-    Ok(())
+pub fn are_equal(alloc: Global) -> bool {
+    name_is_copied(alloc).unwrap_or(false)
+        && some_name_is_copied(alloc).unwrap_or(false)
+        && expression_is_copied(alloc).unwrap_or(false)
+        && template_is_copied(alloc).unwrap_or(false)
+        && formula_is_copied(alloc).unwrap_or(false)
 }

@@ -5,7 +5,6 @@ ghost use Rattle.dsr_ir.specs.Layouts.{pool_numbers, field_place};
 use crate::copies::one;
 use dsr_ir::{FieldPlace, FieldRef, Layout, NoMemory, Order, PoolNumbers, TryClone, Width};
 use std::alloc::Global;
-use std::test::Fail;
 
 const FIELD: FieldRef = FieldRef {
     structure: 0,
@@ -72,9 +71,6 @@ fn is_copied(alloc: Global) -> Result<bool, NoMemory> {
     Ok(copy.length() == 112)
 }
 
-#[test]
-fn layouts_are_told_and_copied(rt: HostRuntime) -> Result<(), Fail> {
-    assert!(rt; is_told(rt.alloc())?);
-    assert!(rt; is_copied(rt.alloc())?);
-    Ok(())
+pub fn are_told_and_copied(alloc: Global) -> bool {
+    is_told(alloc).unwrap_or(false) && is_copied(alloc).unwrap_or(false)
 }

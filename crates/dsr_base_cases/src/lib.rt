@@ -22,3 +22,5 @@ mod orders;
 mod pairs;
 #[cfg(test)]
 mod relations;
+#[cfg(test)]
+mod tests;

@@ -1,7 +1,6 @@
 // Sets of slots.
 use dsr_rows::Marks;
-use std::alloc::{AllocError, Global};
-use std::test::Fail;
+use std::alloc::Global;
 
 // A call on 130 slots, with its answer behind its arguments.
 #[derive(Clone, Copy)]
@@ -65,17 +64,13 @@ fn answers(marks: &mut Marks, call: Call) -> bool {
     }
 }
 
-fn all_answer(alloc: Global) -> Result<bool, AllocError> {
-    let mut marks = Marks::new(alloc, 130)?;
+pub fn all_answer(alloc: Global) -> bool {
+    let Ok(mut marks) = Marks::new(alloc, 130) else {
+        return false;
+    };
     let mut right = true;
     for call in CALLS {
         right = right && answers(&mut marks, call);
     }
-    Ok(right)
-}
-
-#[test]
-fn slots_are_marked(rt: HostRuntime) -> Result<(), Fail> {
-    assert!(rt; all_answer(rt.alloc())?);
-    Ok(())
+    right
 }

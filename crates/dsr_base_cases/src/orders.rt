@@ -2,7 +2,6 @@
 use crate::copies::{name, one};
 use dsr_ir::{Binding, Element, Fact, FieldRef, Inc, NoMemory, Path, Symbol, Target};
 use std::alloc::Global;
-use std::test::Fail;
 
 const HEAD: Element = Element { pool: 0, slot: 0 };
 
@@ -51,13 +50,13 @@ fn is_below(alloc: Global, less: &str, more: &str) -> Result<bool, NoMemory> {
     Ok(less < more && less.bytes() != more.bytes())
 }
 
-fn names_rise(alloc: Global) -> Result<bool, NoMemory> {
-    for (less, more) in NAMES {
-        if !is_below(alloc, less, more)? {
-            return Ok(false);
+fn names_rise(alloc: Global) -> bool {
+    for (less, more) in &NAMES {
+        if !is_below(alloc, less, more).unwrap_or(false) {
+            return false;
         }
     }
-    Ok(true)
+    true
 }
 
 fn lists_rise(alloc: Global) -> Result<bool, NoMemory> {
@@ -66,13 +65,11 @@ fn lists_rise(alloc: Global) -> Result<bool, NoMemory> {
     Ok(low < high && low.items().len() == 1)
 }
 
-#[test]
-fn plain_data_is_ordered(rt: HostRuntime) -> Result<(), Fail> {
-    assert!(rt; all_rise(&BINDINGS));
-    assert!(rt; all_rise(&FACTS));
-    assert!(rt; names_rise(rt.alloc())?);
-    assert!(rt; lists_rise(rt.alloc())?);
-    Ok(())
+pub fn are_kept(alloc: Global) -> bool {
+    all_rise(&BINDINGS)
+        && all_rise(&FACTS)
+        && names_rise(alloc)
+        && lists_rise(alloc).unwrap_or(false)
 }
 
 const PATH: Path = Path {
@@ -99,9 +96,11 @@ fn gives(inc: Inc, symbol: Symbol, has_target: bool) -> bool {
         && inc.target().is_some() == has_target
 }
 
-#[test]
-fn inclusions_have_symbols_and_targets(rt: HostRuntime) {
-    for (inc, symbol, has_target) in INCLUSIONS {
-        assert!(rt; gives(inc, symbol, has_target));
+pub fn inclusions_give() -> bool {
+    for (inc, symbol, has_target) in &INCLUSIONS {
+        if !gives(*inc, *symbol, *has_target) {
+            return false;
+        }
     }
+    true
 }

@@ -3,7 +3,6 @@ ghost use Rattle.std.specs.Prelude.{◌≡◌, ◌≤◌, ◌+◌, ◌++◌, ◌
 
 use dsr_related::Relation;
 use std::alloc::{AllocError, Global};
-use std::test::Fail;
 
 // What a relation is asked, with the answer behind it.
 #[derive(Clone, Copy)]
@@ -149,10 +148,12 @@ fn answers(relation: &Relation, question: Question) -> bool
 
 // Whether all is answered, and nothing is left of the pairs when they are taken away. The one function that drops a
 // relation, since that costs most to prove.
-fn all_answer(relation: Relation, asked: &[Question]) -> bool
-    requires { relation.pairs.ordered ≡ true }
+fn all_answer(related: Result<Relation, AllocError>, asked: &[Question]) -> bool
+    requires { IfOk related (λ relation. relation.pairs.ordered ≡ true) }
 {
-    let mut relation = relation;
+    let Ok(mut relation) = related else {
+        return false;
+    };
     let mut right = true;
     for question in asked {
         right = right && answers(&relation, *question);
@@ -161,17 +162,10 @@ fn all_answer(relation: Relation, asked: &[Question]) -> bool
     right && !relation.has(3, 0)
 }
 
-#[test]
-fn targets_and_sources_are_asked(rt: HostRuntime) -> Result<(), Fail> {
-    assert!(rt; all_answer(two(rt.alloc())?, &ASKED_OF_TWO));
-    assert!(rt; all_answer(many(rt.alloc(), true)?, &ASKED_OF_MANY));
-    assert!(rt; all_answer(many(rt.alloc(), false)?, &ASKED_OF_MANY));
-    Ok(())
-}
-
-#[test]
-fn each_source_has_one_target(rt: HostRuntime) -> Result<(), Fail> {
-    assert!(rt; all_answer(one(rt.alloc(), true)?, &ASKED_OF_ONE));
-    assert!(rt; all_answer(one(rt.alloc(), false)?, &ASKED_OF_ONE));
-    Ok(())
+pub fn are_asked_in_order(alloc: Global) -> bool {
+    all_answer(two(alloc), &ASKED_OF_TWO)
+        && all_answer(many(alloc, true), &ASKED_OF_MANY)
+        && all_answer(many(alloc, false), &ASKED_OF_MANY)
+        && all_answer(one(alloc, true), &ASKED_OF_ONE)
+        && all_answer(one(alloc, false), &ASKED_OF_ONE)
 }

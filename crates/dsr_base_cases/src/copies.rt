@@ -1,5 +1,5 @@
 // Copies of what specifications, formulas and updates are made of.
-ghost use Rattle.std.specs.Prelude.{◌≡◌, ◌∷◌, [], IfOk};
+ghost use Rattle.std.specs.Prelude.{◌≡◌, ◌++◌, ◌∷◌, [], IfOk};
 
 use dsr_ir::{
     At, Atom, Expr, ExprNode, FieldRef, Formula, FormulaNode, Goal, Name, NoMemory, Path, Pick,
@@ -30,9 +30,16 @@ pub fn name(alloc: Global, text: &[u8]) -> Result<Name, NoMemory> {
 pub fn one<T: Drop>(alloc: Global, item: T) -> Result<Seq<T>, NoMemory>
     ensures { IfOk result (λ items. items ≡ item ∷ []) }
 {
-    let mut items = Vec::new(alloc);
+    Ok(Seq::new(with(Vec::new(alloc), item)?))
+}
+
+// A list with one item more.
+fn with<T: Drop>(items: Vec<T>, item: T) -> Result<Vec<T>, NoMemory>
+    ensures { IfOk result (λ new. new.items ≡ items.items ++ item ∷ []) }
+{
+    let mut items = items;
     items.push(item)?;
-    Ok(Seq::new(items))
+    Ok(items)
 }
 
 fn hash_of(name: &Name) -> u64 {
@@ -100,14 +107,14 @@ fn template_is_copied(alloc: Global) -> Result<bool, NoMemory> {
 
 // given (any of one atom)
 fn given(alloc: Global) -> Result<FormulaNode, NoMemory> {
-    let any = FormulaNode::Any(Vec::from_array(alloc, [FormulaNode::Leaf(ATOM)])?);
+    let any = FormulaNode::Any(with(Vec::new(alloc), FormulaNode::Leaf(ATOM))?);
     Ok(FormulaNode::Given(Box::new(alloc, any)?))
 }
 
 // not given (any of one atom), together with that atom
 fn formula(alloc: Global) -> Result<Formula, NoMemory> {
     let not = FormulaNode::Not(Box::new(alloc, given(alloc)?)?);
-    let every = Vec::from_array(alloc, [not, FormulaNode::Leaf(ATOM)])?;
+    let every = with(with(Vec::new(alloc), not)?, FormulaNode::Leaf(ATOM))?;
     Ok(Formula::new(FormulaNode::Every(every)))
 }
 

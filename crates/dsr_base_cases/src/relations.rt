@@ -81,49 +81,30 @@ fn two(alloc: Global) -> Result<Relation, AllocError>
     Ok(relation)
 }
 
-// Pushes (0, 2), (3, 0), (3, 2) and (7, 2), not in order, and one of them twice.
-fn push_many(relation: &mut Relation)
-    requires room { length relation.old.pairs.pairs + 5 ≤ relation.old.pairs.room }
-    requires many { relation.old.functional ≡ false }
-    ensures pairs { relation.new.pairs.pairs
-        ≡ relation.old.pairs.pairs ++ (3, 2) ∷ (7, 2) ∷ (3, 0) ∷ (0, 2) ∷ (3, 2) ∷ [] }
-    ensures targets { relation.new.targets ≡ relation.old.targets }
-{
-    relation.push(3, 2);
-    relation.push(7, 2);
-    relation.push(3, 0);
-    relation.push(0, 2);
-    relation.push(3, 2);
-}
-
-// The pairs above, where the sources of the first targets are counted, three or none.
+// (0, 2), (3, 0), (3, 2) and (7, 2), not in order, and one of them twice. The sources of the first targets are
+// counted, three or none.
 fn many(alloc: Global, is_counted: bool) -> Result<Relation, AllocError>
     ensures { IfOk result (λ relation. relation.pairs.ordered ≡ true) }
 {
     let mut relation = Relation::new(alloc, 5, if is_counted { 3 } else { 0 })?;
-    push_many(&mut relation);
+    relation.push(3, 2);
+    relation.push(7, 2);
+    relation.push(3, 0);
+    relation.push(0, 2);
+    relation.push(3, 2);
     relation.finish();
     Ok(relation)
 }
 
-// Pushes (0, 2), (3, 0) and (7, 2) to a relation in which each source has one target at most.
-fn push_one(relation: &mut Relation)
-    requires empty { relation.old.pairs.pairs ≡ [] }
-    requires room { relation.old.pairs.room ≡ 8 }
-    ensures pairs { relation.new.pairs.pairs ≡ (0, 2) ∷ (3, 0) ∷ (7, 2) ∷ [] }
-    ensures targets { relation.new.targets ≡ relation.old.targets }
-{
-    relation.push(0, 2);
-    relation.push(3, 0);
-    relation.push(7, 2);
-}
-
-// The pairs above, where the sources of the first targets are counted, three or none.
+// (0, 2), (3, 0) and (7, 2), where each source has one target at most. The sources of the first targets are counted,
+// three or none.
 fn one(alloc: Global, is_counted: bool) -> Result<Relation, AllocError>
     ensures { IfOk result (λ relation. relation.pairs.ordered ≡ true) }
 {
     let mut relation = Relation::functional(alloc, 8, if is_counted { 3 } else { 0 })?;
-    push_one(&mut relation);
+    relation.push(0, 2);
+    relation.push(3, 0);
+    relation.push(7, 2);
     relation.finish();
     Ok(relation)
 }

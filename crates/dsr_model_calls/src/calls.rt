@@ -1,4 +1,4 @@
-// Calls that the program `dsr_model_cases` leaves out, each once.
+// Calls that the program `dsr_model_cases` leaves out, each once, and the copy of a specification.
 ghost use Rattle.std.specs.Prelude.{◌≡◌, true, IfOk, IfSome};
 ghost use Rattle.std.specs.Bool.{OnTrue};
 ghost use Rattle.dsr_given.specs.Shapes.{Gives, rule_shapes};
@@ -9,14 +9,13 @@ ghost use Rattle.dsr_model.specs.Views.{IsLayoutFor, IsOfPairs};
 
 use dsr_found::model_of;
 use dsr_given::Given;
-use dsr_ir::{Element, Fact, Instance, Layout, NoMemory, Spec, Target};
+use dsr_ir::{Element, Fact, Instance, Layout, NoMemory, Pool, Rule, Spec, Target, TryClone};
 use dsr_layout::record_count;
 use dsr_members::Members;
 use dsr_model::Model;
 use dsr_read::specification;
 use dsr_related::Relation;
 use std::alloc::Global;
-use std::test::Fail;
 
 const TEXT: &[u8] =
     b"version 1; order little; structure Head { fixed u8 n; } structure Rec { u8 value; } \
@@ -24,17 +23,13 @@ const TEXT: &[u8] =
     rule head, k in pool recs => recs[k] in All; rule x in All => <x, x.value> in Value; \
     constraint filled : size(All) >= 1;";
 
-// Whether the calls on a model answer as they should: those on pairs, and those on what waits.
-#[derive(Drop)]
-struct Told {
-    pairs: bool,
-    waiting: bool,
-}
-
-const NO_MODEL: Told = Told {
-    pairs: false,
-    waiting: false,
-};
+const COPIED: &[u8] =
+    b"version 1; order little; structure Head { fixed u16 base; u16 count; u32 first -> nodes; \
+    u32 next[((4 + 3) - 2) * (9 / 5)] -> nodes; } structure Node { u32 value; } \
+    pool nodes : Node[8] slot 12 at base codes 1 step 1 none 0; set Nodes of nodes; \
+    relation Next : nodes -> nodes; fresh nodes avoid Nodes; \
+    rule head when head.count <= 7 => head.first in Nodes; \
+    constraint empty : forall x in Nodes : not x in Nodes;";
 
 // The pair with a number that an instance gives, if any.
 fn given_number(model: &Model, instance: &Instance) -> Option<Fact>
@@ -172,47 +167,74 @@ fn is_waiting_right(alloc: Global, spec: &Spec, layout: &Layout) -> Result<bool,
     Ok(asked && !unasked)
 }
 
-fn told_by(alloc: Global, spec: &Spec, layout: &Layout, model: &mut Model) -> Result<Told, NoMemory>
+// Whether all calls on a model of the specification answer as they should.
+fn answers(alloc: Global, spec: &Spec, layout: &Layout, model: &mut Model) -> bool
     requires typed { IsTyped spec.now }
     requires layout { IsLayoutFor spec.now layout.now }
     requires legal { IsLegalLayout layout.now }
     requires rules { model.old.given.rules ≡ rule_shapes spec.now layout.now }
     requires ordered { model.old.ordered ≡ true }
 {
-    let waiting = is_waiting_right(alloc, spec, layout)?;
-    let pairs = are_pairs_right(alloc, spec, layout, model)?;
-    Ok(Told { pairs, waiting })
+    is_waiting_right(alloc, spec, layout).unwrap_or(false)
+        && are_pairs_right(alloc, spec, layout, model).unwrap_or(false)
 }
 
-// What the calls on the model of an image with two records tell.
-fn told_under(alloc: Global, spec: &Spec) -> Result<Told, NoMemory>
+// Whether the calls on the model of an image with two records answer.
+fn answers_under(alloc: Global, spec: &Spec) -> bool
     requires { IsTyped spec.now }
 {
-    let image = Vec::from_slice(alloc, &[2, 7, 9])?;
+    let Ok(image) = Vec::from_slice(alloc, &[2, 7, 9]) else {
+        return false;
+    };
     match model_of(alloc, spec, image) {
-        Some(mut found) => told_by(alloc, spec, &found.layout, &mut found.model),
-        None => Ok(NO_MODEL),
+        Some(mut found) => answers(alloc, spec, &found.layout, &mut found.model),
+        None => false,
     }
 }
 
-// One function has all that is dropped, so that no test has a specification or a model alive.
-fn all_told(alloc: Global) -> Result<Told, NoMemory> {
-    match specification(alloc, TEXT)? {
-        Some(spec) => told_under(alloc, &spec),
-        None => Ok(NO_MODEL),
+pub fn models_answer(alloc: Global) -> bool {
+    match specification(alloc, TEXT) {
+        Ok(Some(spec)) => answers_under(alloc, &spec),
+        _ => false,
     }
 }
 
-#[test]
-fn pairs_are_collected_and_forgotten(rt: HostRuntime) -> Result<(), Fail> {
-    let told = all_told(rt.alloc())?;
-    assert!(rt; told.pairs);
-    Ok(())
+fn is_same_pool(copy: &Pool, source: &Pool) -> bool {
+    copy.name == source.name && copy.start == source.start && copy.slot == source.slot
 }
 
-#[test]
-fn members_wait_that_are_to(rt: HostRuntime) -> Result<(), Fail> {
-    let told = all_told(rt.alloc())?;
-    assert!(rt; told.waiting);
-    Ok(())
+fn is_same_rule(copy: &Rule, source: &Rule) -> bool {
+    copy.inc == source.inc && copy.span == source.span
+}
+
+fn has_same_pool(copy: &[Pool], source: &[Pool]) -> bool {
+    match (copy, source) {
+        ([copy], [source]) => is_same_pool(copy, source),
+        _ => false,
+    }
+}
+
+fn has_same_rule(copy: &[Rule], source: &[Rule]) -> bool {
+    match (copy, source) {
+        ([copy], [source]) => is_same_rule(copy, source),
+        _ => false,
+    }
+}
+
+fn is_copied(alloc: Global, spec: &Spec) -> bool {
+    match TryClone::clone(spec, alloc) {
+        Ok(copy) => {
+            has_same_pool(copy.base.pools.items(), spec.base.pools.items())
+                && has_same_rule(copy.rules.items(), spec.rules.items())
+        }
+        Err(_) => false,
+    }
+}
+
+// Whether a specification with one pool and one rule has them in its copy.
+pub fn specification_is_copied(alloc: Global) -> bool {
+    match specification(alloc, COPIED) {
+        Ok(Some(spec)) => is_copied(alloc, &spec),
+        _ => false,
+    }
 }

@@ -97,6 +97,13 @@ fn is_member(members: &Members, set: u32, elem: Element) -> bool {
     members.has_element(set, elem) && members.has(set, elem.slot)
 }
 
+// Whether (1, 9) is one of the pairs, and no other is asked for with success.
+fn has_pair(relation: &Relation) -> bool
+    requires { relation.now.pairs.ordered ≡ true }
+{
+    relation.has(1, 9) && !relation.has(1, 7) && relation.targets_of(0) == 0
+}
+
 // Whether the pair of the instance is collected, and no other.
 fn is_collected(
     alloc: Global,
@@ -104,13 +111,15 @@ fn is_collected(
     layout: &Layout,
     instance: &Instance,
     fact: &Fact,
-) -> Result<bool, NoMemory>
+) -> bool
     requires typed { IsTyped spec.now }
     requires layout { IsLayoutFor spec.now layout.now }
     requires gives { Gives (rule_shapes spec.now layout.now) instance.now fact.now }
 {
-    let relation = collected(alloc, spec, layout, instance, fact)?;
-    Ok(relation.has(1, 9) && !relation.has(1, 7) && relation.targets_of(0) == 0)
+    match collected(alloc, spec, layout, instance, fact) {
+        Ok(relation) => has_pair(&relation),
+        Err(_) => false,
+    }
 }
 
 // Whether the model has a fact until the instance that gives it is forgotten.
@@ -127,12 +136,7 @@ fn is_forgotten(model: &mut Model, instance: &Instance, fact: &Fact) -> bool
 }
 
 // Whether a pair is given, collected and forgotten, and its record is a member, as the head isn't.
-fn are_pairs_right(
-    alloc: Global,
-    spec: &Spec,
-    layout: &Layout,
-    model: &mut Model,
-) -> Result<bool, NoMemory>
+fn are_pairs_right(alloc: Global, spec: &Spec, layout: &Layout, model: &mut Model) -> bool
     requires typed { IsTyped spec.now }
     requires layout { IsLayoutFor spec.now layout.now }
     requires rules { model.old.given.rules ≡ rule_shapes spec.now layout.now }
@@ -146,25 +150,26 @@ fn are_pairs_right(
         index: 0,
     };
     let Some(fact) = given_number(model, &instance) else {
-        return Ok(false);
+        return false;
     };
-    let is_given = fact == Fact::Pair(0, elem, Target::Num(9));
-    let is_alone = is_collected(alloc, spec, layout, &instance, &fact)?;
-    let is_in = is_member(model.members(), 0, elem) && !is_member(model.members(), 0, head);
-    Ok(is_given && is_alone && is_in && is_forgotten(model, &instance, &fact))
+    fact == Fact::Pair(0, elem, Target::Num(9))
+        && is_collected(alloc, spec, layout, &instance, &fact)
+        && is_member(model.members(), 0, elem)
+        && !is_member(model.members(), 0, head)
+        && is_forgotten(model, &instance, &fact)
 }
 
 // Whether a member waits exactly where it is to.
-fn is_waiting_right(alloc: Global, spec: &Spec, layout: &Layout) -> Result<bool, NoMemory>
+fn is_waiting_right(alloc: Global, spec: &Spec, layout: &Layout) -> bool
     requires typed { IsTyped spec.now }
     requires legal { IsLegalLayout layout.now }
 {
     if !has_slot(spec, layout, 0, 1) {
-        return Ok(false);
+        return false;
     }
-    let asked = waits_alone(alloc, spec, layout, 0, 1, true)?;
-    let unasked = waits_alone(alloc, spec, layout, 0, 1, false)?;
-    Ok(asked && !unasked)
+    let asked = waits_alone(alloc, spec, layout, 0, 1, true);
+    let unasked = waits_alone(alloc, spec, layout, 0, 1, false);
+    asked.unwrap_or(false) && !unasked.unwrap_or(true)
 }
 
 // Whether all calls on a model of the specification answer as they should.
@@ -175,8 +180,7 @@ fn answers(alloc: Global, spec: &Spec, layout: &Layout, model: &mut Model) -> bo
     requires rules { model.old.given.rules ≡ rule_shapes spec.now layout.now }
     requires ordered { model.old.ordered ≡ true }
 {
-    is_waiting_right(alloc, spec, layout).unwrap_or(false)
-        && are_pairs_right(alloc, spec, layout, model).unwrap_or(false)
+    is_waiting_right(alloc, spec, layout) && are_pairs_right(alloc, spec, layout, model)
 }
 
 // Whether the calls on the model of an image with two records answer.

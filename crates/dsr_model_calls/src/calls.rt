@@ -97,7 +97,7 @@ fn is_member(members: &Members, set: u32, elem: Element) -> bool {
     members.has_element(set, elem) && members.has(set, elem.slot)
 }
 
-// Whether (1, 9) is one of the pairs, and no other is asked for with success.
+// Whether (1, 9) is one of the pairs, as (1, 7) isn't, nor any of 0.
 fn has_pair(relation: &Relation) -> bool
     requires { relation.now.pairs.ordered ≡ true }
 {
@@ -203,24 +203,18 @@ pub fn models_answer(alloc: Global) -> bool {
     }
 }
 
-fn is_same_pool(copy: &Pool, source: &Pool) -> bool {
-    copy.name == source.name && copy.start == source.start && copy.slot == source.slot
-}
-
-fn is_same_rule(copy: &Rule, source: &Rule) -> bool {
-    copy.inc == source.inc && copy.span == source.span
-}
-
-fn has_same_pool(copy: &[Pool], source: &[Pool]) -> bool {
-    match (copy, source) {
-        ([copy], [source]) => is_same_pool(copy, source),
+fn are_same_pools(copies: &[Pool], sources: &[Pool]) -> bool {
+    match (copies, sources) {
+        ([copy], [source]) => {
+            copy.name == source.name && copy.start == source.start && copy.slot == source.slot
+        }
         _ => false,
     }
 }
 
-fn has_same_rule(copy: &[Rule], source: &[Rule]) -> bool {
-    match (copy, source) {
-        ([copy], [source]) => is_same_rule(copy, source),
+fn are_same_rules(copies: &[Rule], sources: &[Rule]) -> bool {
+    match (copies, sources) {
+        ([copy], [source]) => copy.inc == source.inc && copy.span == source.span,
         _ => false,
     }
 }
@@ -228,8 +222,8 @@ fn has_same_rule(copy: &[Rule], source: &[Rule]) -> bool {
 fn is_copied(alloc: Global, spec: &Spec) -> bool {
     match TryClone::clone(spec, alloc) {
         Ok(copy) => {
-            has_same_pool(copy.base.pools.items(), spec.base.pools.items())
-                && has_same_rule(copy.rules.items(), spec.rules.items())
+            are_same_pools(copy.base.pools.items(), spec.base.pools.items())
+                && are_same_rules(copy.rules.items(), spec.rules.items())
         }
         Err(_) => false,
     }

@@ -1,8 +1,9 @@
 //! Reads runs of the program from the standard input, does each over files in memory, and prints how it ended.
 //!
 //! A line `=== NAME WORD WORD ..` begins a run with these words. A line `--- CALL PUT` below it tells which call of the shelf
-//! and which put fail, counted from 1; 0 for none. Then stand its files: a line `+++ NAME HEX` is a file of these bytes; a line
-//! `+++ NAME` begins one of text, up to the next such line, without the line feed before that line.
+//! and which put fail, counted from 1; 0 for none. A third number is how many bytes a failed save leaves, 0 where it isn't
+//! told. Then stand its files: a line `+++ NAME HEX` is a file of these bytes; a line `+++ NAME` begins one of text, up to the
+//! next such line, without the line feed before that line.
 //! Of each run is printed `=== NAME STATUS`, what it put, `--- load NAME` or `--- save NAME` for the call that failed, and
 //! `+++ NAME HEX` for each file that it saved.
 #![tactic(auto)]
@@ -12,7 +13,7 @@ mod files;
 
 use anyhow::bail;
 use dsr_cli::run;
-use dsr_store::{Held, MemoryShelf, MemorySink};
+use dsr_store::{MemorySink, TornShelf};
 use failing::{add_missed, failing_of};
 use files::{add_saved, files_of};
 use itoa::Buffer;
@@ -34,16 +35,17 @@ fn add_run(text: &mut String, alloc: Global, given: &str) -> anyhow::Result<()> 
     };
     let name = heading.split(' ').next().unwrap_or("");
     let words = words_of(alloc, heading)?;
-    let (call, put) = failing_of(files)?;
-    let mut shelf = MemoryShelf {
+    let failing = failing_of(files)?;
+    let mut shelf = TornShelf {
         files: files_of(alloc, files)?,
-        fail: vec![in alloc; call]?,
+        fail: vec![in alloc; failing.call]?,
+        cut: failing.cut,
         calls: 0,
         last: None,
     };
     let mut out = MemorySink {
         bytes: Vec::new(alloc),
-        fail: vec![in alloc; put]?,
+        fail: vec![in alloc; failing.put]?,
         calls: 0,
     };
     let status = run(alloc, &words, &mut shelf, &mut out);

@@ -13,6 +13,15 @@ import shutil
 import sys
 
 
+def stands(crate, stamp):
+    """Whether the library was given before, of these sources."""
+    try:
+        with open("%s/out/rlib/stamp" % crate.folder, encoding="utf-8") as file:
+            return file.read() == stamp and os.path.isfile("%s/out/rlib/%s.rlib/format" % (crate.folder, crate.name))
+    except OSError:
+        return False
+
+
 def main():
     rt = importlib.machinery.SourceFileLoader("rt", shutil.which("rt")).load_module()
     crates = rt.rtlib.crates_below(os.getcwd())
@@ -29,11 +38,17 @@ def main():
     for crate in crates:
         if crate.is_program or wanted and crate.name not in wanted or any(it.name not in kept.rlibs for it in crate.below()):
             continue
-        if not kept.give(crate, False, kept.key(crate)):
-            continue
+        if not stands(crate, stamp_once(crate)):
+            key = kept.key(crate)
+            if not os.path.isdir(kept.place(crate, False, key)):
+                continue
+            # (what is given onto its own files fails, and rt then drops it for all)
+            shutil.rmtree("%s/out/rlib" % crate.folder, ignore_errors=True)
+            if not kept.give(crate, False, key):
+                continue
+            with open("%s/out/rlib/stamp" % crate.folder, "w", encoding="utf-8") as file:
+                file.write(stamp_once(crate))
         kept.is_built(crate)
-        with open("%s/out/rlib/stamp" % crate.folder, "w", encoding="utf-8") as file:
-            file.write(stamp_once(crate))
         given += 1
     print("%d libraries of %d crates are there" % (given, len(crates)))
 

@@ -3,7 +3,7 @@
 
     bench/effects.py PROGRAM
 
-PROGRAM is crates/dsr_graph_cases/out/dsr_graph_cases, as `rt ci dsr_graph_cases` leaves it. It reads the
+PROGRAM is crates/dsr_spec_cases/out/dsr_spec_cases, as `rt ci dsr_spec_cases` leaves it. It reads the
 specification, so parsing it and printing each effect are in the time; a specification without literals is taken off.
 """
 import subprocess
@@ -38,7 +38,7 @@ def text(constraints):
 
 
 def run(program, constraints):
-    words = ("=== effects limits\n" + text(constraints)).encode()
+    words = ("##### graphs\n=== effects limits\n" + text(constraints)).encode()
     best, lines = None, 0
     for _ in range(5):
         begin = time.perf_counter()

@@ -1,87 +1,39 @@
-//! Reads specifications with images from the standard input and prints what is told of their
-//! layouts, or the numbers of the pools, and what references, codes and cells mean there.
+//! Reads cases from the standard input and prints what is told of each text with an image.
 //!
-//! A line `=== NAME IMAGE` begins a case, whose image stands in hexadecimal; `+N` behind the digits
-//! stands for N more bytes of 0. The lines below it, up to one that begins with `@ `, are the text
-//! of its declarations. Each line that begins with `@ ` asks for something, and is printed with its
-//! answer, but for those that give a name to a rule or a constraint:
-//!
-//!     @ rule NAME: premise SET single|array FIELD|slots POOL gives ..
-//!     @ constraint NAME: once|each SET|pairs RELATION, LITERAL and .. or ..
-//!     @ told RULES : CONSTRAINTS         what is told of the layout with these, by their names
-//!     @ cell record R field F entry N    a cell with its value
-//!     @ reference pool P value N         what the value of a reference means
-//!     @ code pool P slot S               the code of a slot
-//!
-//! Sets, relations and structures are numbers from 0 on, pools from 1 on, and pool 0 is the head.
-//! A record is its pool and its slot with a dot between them, a field its structure and its place
-//! there.
+//! A line `##### NAME` begins a section, and the lines below it, up to the next such line, are its cases: `layouts`,
+//! `models` or `updates`, each as the file of that name says.
 #![tactic(auto)]
 
-mod answers;
-mod cells;
-mod constraints;
-mod declared;
-mod questions;
-mod references;
-mod rules;
+mod bytes;
+mod entries;
+mod headings;
+mod layouts;
+mod models;
+mod updates;
 mod words;
 
-use answers::{Case, add_answer};
 use anyhow::bail;
-use dsr_image::Whole;
 use dsr_lines::Lines;
+use headings::heading_of;
 use std::alloc::Global;
 use std::io;
 
-// The bytes of an image as its heading gives them.
-fn bytes_of(alloc: Global, word: &str) -> anyhow::Result<Vec<u8>> {
-    let (digits, zeros) = word.split_once('+').unwrap_or((word, "0"));
-    let zeros: usize = zeros.parse()?;
-    let Ok(mut bytes) = hex::decode(alloc, digits) else {
-        bail!("no bytes: {digits}");
-    };
-    for _ in 0..zeros {
-        bytes.push(0)?;
+fn add_section(lines: &mut Lines, alloc: Global, part: &str) -> anyhow::Result<()> {
+    let (name, section) = heading_of(part)?;
+    match name {
+        "layouts" => layouts::add_cases(lines, alloc, section),
+        "models" => models::add_cases(lines, alloc, section),
+        "updates" => updates::add_cases(lines, alloc, section),
+        _ => bail!("no section: {name}"),
     }
-    Ok(bytes)
-}
-
-fn add_answers(lines: &mut Lines, alloc: Global, case: &Case) -> anyhow::Result<()> {
-    for line in case.body.split('\n') {
-        if let Some(question) = line.strip_prefix("@ ") {
-            add_answer(lines, alloc, case, question)?;
-        }
-    }
-    Ok(())
-}
-
-fn add_case(lines: &mut Lines, alloc: Global, part: &str) -> anyhow::Result<()> {
-    let Some((heading, body)) = part.split_once('\n') else {
-        bail!("a heading without its line feed: {part}");
-    };
-    let Some((name, image)) = heading.split_once(' ') else {
-        bail!("a heading without an image: {heading}");
-    };
-    let bytes = bytes_of(alloc, image)?;
-    let image = Whole::new(Vec::from_slice(alloc, &bytes)?);
-    let case = Case {
-        text: body.split("\n@ ").next().unwrap_or(""),
-        body,
-        bytes: &bytes,
-        image: &image,
-    };
-    lines.word(name);
-    lines.word("\n");
-    add_answers(lines, alloc, &case)
 }
 
 fn main(rt: HostRuntime) -> anyhow::Result<()> {
     let alloc = rt.alloc();
     let input = io::read_to_string(alloc, rt.stdin())?;
     let mut lines = Lines::new(alloc);
-    for part in input.split("=== ").skip(1) {
-        add_case(&mut lines, alloc, part)?;
+    for part in input.split("##### ").skip(1) {
+        add_section(&mut lines, alloc, part)?;
     }
     rt.print(lines.whole()?)?;
     Ok(())

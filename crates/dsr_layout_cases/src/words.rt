@@ -1,5 +1,6 @@
 // The words of a line.
 use anyhow::{Result, bail};
+use dsr_ir::Element;
 
 /// The words of a line, which are read one after the other. What isn't as it is asked for is read
 /// as an empty word or 0, and that is told in the end.
@@ -73,8 +74,20 @@ impl<'a> Words<'a> {
 
     /// Two numbers with a dot between them.
     pub fn pair(&mut self) -> (u32, u32) {
-        let (first, second) = self.word().split_once('.').unwrap_or(("", ""));
+        let word = self.word();
+        self.pair_of(word)
+    }
+
+    // The two numbers in a word.
+    fn pair_of(&mut self, word: &str) -> (u32, u32) {
+        let (first, second) = word.split_once('.').unwrap_or(("", ""));
         (self.value_of(first), self.value_of(second))
+    }
+
+    /// The record whose pool and slot stand in a word.
+    pub fn record_of(&mut self, word: &str) -> Element {
+        let (pool, slot) = self.pair_of(word);
+        Element { pool, slot }
     }
 
     /// An error where the line wasn't as it should be, or has more words.

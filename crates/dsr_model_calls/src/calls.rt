@@ -1,4 +1,4 @@
-// Calls that the program `dsr_model_cases` leaves out, each once, and the copy of a specification.
+// Calls that the program `dsr_layout_cases` leaves out, each once, and the copy of a specification.
 ghost use Rattle.std.specs.Prelude.{◌≡◌, true, IfOk, IfSome};
 ghost use Rattle.std.specs.Bool.{OnTrue};
 ghost use Rattle.dsr_given.specs.Shapes.{Gives, rule_shapes};

@@ -1,4 +1,4 @@
-//! Calls on models that the program `dsr_model_cases` leaves out, each once, apart from the program itself, so that it is
+//! Calls on models that the program `dsr_layout_cases` leaves out, each once, apart from the program itself, so that it is
 //! proved once.
 #![tactic(auto)]
 

@@ -1,72 +1,39 @@
-//! Reads specifications from the standard input and prints what is said of each: that it is one,
-//! or the kind and the place of its fault.
+//! Reads cases from the standard input and prints what is told of each text alone.
 //!
-//! A line `=== NAME` begins a case. The lines below it, up to the next such line, are its text; the
-//! line feed before that next line, or at the input's end, isn't part of it. A line `+++ NAME` begins
-//! a case whose text comes, after a line feed, behind that of the last `===`. `tables` behind the name
-//! asks for the tables as well, and `prefixes` for what is said of each prefix of the text.
+//! A line `##### NAME` begins a section, and the lines below it, up to the next such line, are its cases: `texts`,
+//! `declarations`, `specifications` or `graphs`, each as the file of that name says.
 #![tactic(auto)]
 
-mod answers;
-mod cases;
-mod clauses;
+mod declarations;
+mod faults;
+mod graphs;
+mod headings;
+mod specifications;
+mod texts;
 
-use answers::add_answer;
-use cases::{Case, Wanted, case_of};
+use anyhow::bail;
 use dsr_lines::Lines;
+use headings::heading_of;
 use std::alloc::Global;
 use std::io;
 
-// The answers to the prefixes of a text, from none of its bytes to all of them.
-fn add_prefixes(lines: &mut Lines, alloc: Global, case: &Case) {
-    let text = case.text.as_bytes();
-    for length in 0..=text.len() {
-        lines.word(case.name);
-        lines.part(" ", length as u64);
-        add_answer(lines, alloc, &text[..length], false);
+fn add_section(lines: &mut Lines, alloc: Global, part: &str) -> anyhow::Result<()> {
+    let (name, section) = heading_of(part)?;
+    match name {
+        "texts" => texts::add_cases(lines, alloc, section),
+        "declarations" => declarations::add_cases(lines, alloc, section),
+        "specifications" => specifications::add_cases(lines, alloc, section),
+        "graphs" => graphs::add_cases(lines, alloc, section),
+        _ => bail!("no section: {name}"),
     }
-}
-
-fn add_case(lines: &mut Lines, alloc: Global, case: &Case) {
-    match case.wanted {
-        Wanted::Prefixes => add_prefixes(lines, alloc, case),
-        Wanted::Answer => {
-            lines.word(case.name);
-            add_answer(lines, alloc, case.text.as_bytes(), false);
-        }
-        Wanted::Tables => {
-            lines.word(case.name);
-            add_answer(lines, alloc, case.text.as_bytes(), true);
-        }
-    }
-}
-
-// The cases of a group; the text of the first comes before the texts of the others.
-fn add_group(lines: &mut Lines, alloc: Global, group: &str) -> anyhow::Result<()> {
-    let mut parts = group.split("+++ ");
-    let Some(first) = parts.next() else {
-        return Ok(());
-    };
-    let first = case_of(first)?;
-    add_case(lines, alloc, &first);
-    for part in parts {
-        let case = case_of(part)?;
-        let text = format!(in alloc; "{}\n{}", first.text, case.text)?;
-        let case = Case {
-            text: text.as_str(),
-            ..case
-        };
-        add_case(lines, alloc, &case);
-    }
-    Ok(())
 }
 
 fn main(rt: HostRuntime) -> anyhow::Result<()> {
     let alloc = rt.alloc();
     let input = io::read_to_string(alloc, rt.stdin())?;
     let mut lines = Lines::new(alloc);
-    for group in input.split("=== ").skip(1) {
-        add_group(&mut lines, alloc, group)?;
+    for part in input.split("##### ").skip(1) {
+        add_section(&mut lines, alloc, part)?;
     }
     rt.print(lines.whole()?)?;
     Ok(())

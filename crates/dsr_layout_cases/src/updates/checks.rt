@@ -1,0 +1,80 @@
+// Whether a step can be made.
+ghost use Rattle.std.specs.Prelude.{◌<◌, ◌^◌, All, IfSome, IsSomeAnd, slice_get};
+ghost use Rattle.std.specs.Bool.{OnTrue};
+ghost use Rattle.dsr_meaning.specs.Legal.{IsLegalLayout};
+ghost use Rattle.dsr_stepping.specs.Steps as said;
+ghost use Rattle.dsr_stepping.specs.Steps.{CanWrite, IsSlot};
+
+use crate::entries::has_entry;
+use crate::updates::numbers::written_number;
+use dsr_ir::{Cell, Element, Layout, Spec, Template, Write};
+use dsr_layout::{cell, pool_numbers};
+use dsr_stepping::Step;
+
+// Whether a number fits a cell.
+fn fits(number: u64, cell: &Cell) -> bool
+    ensures { OnTrue result (number < 2 ^ cell.now.width) }
+{
+    match u32::from(cell.width) {
+        64 => true,
+        width => number.checked_shr(width) == Some(0),
+    }
+}
+
+fn can_write(spec: &Spec, layout: &Layout, step: &Step, write: &Write) -> bool
+    requires legal { IsLegalLayout layout.now }
+    ensures { OnTrue result (CanWrite spec.now layout.now step.now write.now) }
+{
+    let index = if write.path.indexed { step.index } else { 0 };
+    let Some(number) = written_number(spec, layout, step, write) else {
+        return false;
+    };
+    if !has_entry(layout, step.elem, write.path.field, index) {
+        return false;
+    }
+    fits(number, &cell(layout, step.elem, write.path.field, index))
+}
+
+// Whether each of the writes can be made.
+fn can_write_all(spec: &Spec, layout: &Layout, step: &Step, writes: &[Write]) -> bool
+    requires legal { IsLegalLayout layout.now }
+    ensures { OnTrue result (All (CanWrite spec.now layout.now step.now) writes.now) }
+{
+    for write in writes {
+        if !can_write(spec, layout, step, write) {
+            return false;
+        }
+    }
+    true
+}
+
+/// Whether the writes of the step's update can be made.
+pub fn can_update(spec: &Spec, template: &Template, layout: &Layout, step: &Step) -> bool
+    requires legal { IsLegalLayout layout.now }
+    ensures { OnTrue result (IsSomeAnd (slice_get template.now.updates step.now.update)
+        (λ update. All (CanWrite spec.now layout.now step.now) update.writes)) }
+{
+    match template.updates.items().get(step.update as usize) {
+        Some(update) => can_write_all(spec, layout, step, update.writes.items()),
+        None => false,
+    }
+}
+
+fn is_slot(layout: &Layout, elem: Element) -> bool
+    ensures { OnTrue result (IsSlot layout.now elem) }
+{
+    match pool_numbers(layout, elem.pool) {
+        Some(numbers) => u64::from(elem.slot) < numbers.count,
+        None => false,
+    }
+}
+
+/// Whether the fresh record, where there is one, is a slot of a pool.
+pub fn can_be_fresh(layout: &Layout, fresh: Option<Element>) -> bool
+    ensures { OnTrue result (IfSome fresh (IsSlot layout.now)) }
+{
+    match fresh {
+        Some(elem) => is_slot(layout, elem),
+        None => true,
+    }
+}

@@ -1,4 +1,8 @@
-// Calls that the program `dsr_layout_cases` leaves out, each once, and the copy of a specification.
+// Calls that nothing else makes, each once, and the copy of a specification: whether they answer as they should, of a
+// specification with a pool and two rules, whose first set has two members and whose first relation gives the second
+// the number 9.
+//
+// A line `=== NAME HEX` begins a case, with the bytes of its image; the lines below it are its specification's text.
 ghost use Rattle.std.specs.Prelude.{◌≡◌, true, IfOk, IfSome};
 ghost use Rattle.std.specs.Bool.{OnTrue};
 ghost use Rattle.dsr_given.specs.Shapes.{Gives, rule_shapes};
@@ -7,29 +11,18 @@ ghost use Rattle.dsr_meaning.specs.Typed.{IsTyped};
 ghost use Rattle.dsr_members.specs.Sets.{HasSlot, empty_sets};
 ghost use Rattle.dsr_model.specs.Views.{IsLayoutFor, IsOfPairs};
 
+use crate::bytes::bytes_of;
+use crate::headings::{heading_of, name_and_image};
 use dsr_found::model_of;
 use dsr_given::Given;
 use dsr_ir::{Element, Fact, Instance, Layout, NoMemory, Pool, Rule, Spec, Target, TryClone};
 use dsr_layout::record_count;
+use dsr_lines::Lines;
 use dsr_members::Members;
 use dsr_model::Model;
 use dsr_read::specification;
 use dsr_related::Relation;
 use std::alloc::Global;
-
-const TEXT: &[u8] =
-    b"version 1; order little; structure Head { fixed u8 n; } structure Rec { u8 value; } \
-    pool recs : Rec[n] at 1 codes 1 step 1 none 0; set All of recs; relation Value : recs -> number; \
-    rule head, k in pool recs => recs[k] in All; rule x in All => <x, x.value> in Value; \
-    constraint filled : size(All) >= 1;";
-
-const COPIED: &[u8] =
-    b"version 1; order little; structure Head { fixed u16 base; u16 count; u32 first -> nodes; \
-    u32 next[((4 + 3) - 2) * (9 / 5)] -> nodes; } structure Node { u32 value; } \
-    pool nodes : Node[8] slot 12 at base codes 1 step 1 none 0; set Nodes of nodes; \
-    relation Next : nodes -> nodes; fresh nodes avoid Nodes; \
-    rule head when head.count <= 7 => head.first in Nodes; \
-    constraint empty : forall x in Nodes : not x in Nodes;";
 
 // The pair with a number that an instance gives, if any.
 fn given_number(model: &Model, instance: &Instance) -> Option<Fact>
@@ -172,37 +165,6 @@ fn is_waiting_right(alloc: Global, spec: &Spec, layout: &Layout) -> bool
     asked.unwrap_or(false) && !unasked.unwrap_or(true)
 }
 
-// Whether all calls on a model of the specification answer as they should.
-fn answers(alloc: Global, spec: &Spec, layout: &Layout, model: &mut Model) -> bool
-    requires typed { IsTyped spec.now }
-    requires layout { IsLayoutFor spec.now layout.now }
-    requires legal { IsLegalLayout layout.now }
-    requires rules { model.old.given.rules ≡ rule_shapes spec.now layout.now }
-    requires ordered { model.old.ordered ≡ true }
-{
-    is_waiting_right(alloc, spec, layout) && are_pairs_right(alloc, spec, layout, model)
-}
-
-// Whether the calls on the model of an image with two records answer.
-fn answers_under(alloc: Global, spec: &Spec) -> bool
-    requires { IsTyped spec.now }
-{
-    let Ok(image) = Vec::from_slice(alloc, &[2, 7, 9]) else {
-        return false;
-    };
-    match model_of(alloc, spec, image) {
-        Some(mut found) => answers(alloc, spec, &found.layout, &mut found.model),
-        None => false,
-    }
-}
-
-pub fn models_answer(alloc: Global) -> bool {
-    match specification(alloc, TEXT) {
-        Ok(Some(spec)) => answers_under(alloc, &spec),
-        _ => false,
-    }
-}
-
 fn are_same_pools(copies: &[Pool], sources: &[Pool]) -> bool {
     match (copies, sources) {
         ([copy], [source]) => {
@@ -214,7 +176,9 @@ fn are_same_pools(copies: &[Pool], sources: &[Pool]) -> bool {
 
 fn are_same_rules(copies: &[Rule], sources: &[Rule]) -> bool {
     match (copies, sources) {
-        ([copy], [source]) => copy.inc == source.inc && copy.span == source.span,
+        ([copy, second], [source, other]) => {
+            copy.inc == source.inc && copy.span == source.span && second.inc == other.inc
+        }
         _ => false,
     }
 }
@@ -229,10 +193,53 @@ fn is_copied(alloc: Global, spec: &Spec) -> bool {
     }
 }
 
-// Whether a specification with one pool and one rule has them in its copy.
-pub fn specification_is_copied(alloc: Global) -> bool {
-    match specification(alloc, COPIED) {
-        Ok(Some(spec)) => is_copied(alloc, &spec),
-        _ => false,
+fn add_answer(lines: &mut Lines, word: &str, is: bool) {
+    lines.word(word);
+    lines.word(if is { "+" } else { "-" });
+}
+
+fn add_answers(lines: &mut Lines, alloc: Global, spec: &Spec, layout: &Layout, model: &mut Model)
+    requires typed { IsTyped spec.now }
+    requires layout { IsLayoutFor spec.now layout.now }
+    requires legal { IsLegalLayout layout.now }
+    requires rules { model.old.given.rules ≡ rule_shapes spec.now layout.now }
+    requires ordered { model.old.ordered ≡ true }
+{
+    let is_waiting = is_waiting_right(alloc, spec, layout);
+    add_answer(lines, " waiting", is_waiting);
+    let are_pairs = are_pairs_right(alloc, spec, layout, model);
+    add_answer(lines, " pairs", are_pairs);
+}
+
+fn add_calls(lines: &mut Lines, alloc: Global, spec: &Spec, image: Vec<u8>)
+    requires { IsTyped spec.now }
+{
+    add_answer(lines, " copied", is_copied(alloc, spec));
+    match model_of(alloc, spec, image) {
+        Some(mut found) => {
+            add_answers(lines, alloc, spec, &found.layout, &mut found.model);
+        }
+        None => lines.word(" has no model"),
     }
+}
+
+fn add_case(lines: &mut Lines, alloc: Global, case: &str) -> anyhow::Result<()> {
+    let (heading, text) = heading_of(case)?;
+    let (name, digits) = name_and_image(heading)?;
+    let image = bytes_of(alloc, digits)?;
+    lines.word(name);
+    match specification(alloc, text.as_bytes()) {
+        Ok(Some(spec)) => add_calls(lines, alloc, &spec, image),
+        Ok(None) | Err(_) => lines.word(" has no specification"),
+    }
+    lines.word("\n");
+    Ok(())
+}
+
+/// The answers to the cases of a section.
+pub fn add_cases(lines: &mut Lines, alloc: Global, section: &str) -> anyhow::Result<()> {
+    for case in section.split("=== ").skip(1) {
+        add_case(lines, alloc, case)?;
+    }
+    Ok(())
 }

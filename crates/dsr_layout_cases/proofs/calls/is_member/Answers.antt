@@ -2,7 +2,7 @@ use Rattle.std.proofs.Common.{◌≡◌, ◌<◌, Option, None, Some, IsSomeAnd,
 use Rattle.dsr_ir.specs.declared.tuples.Element.{Element}
 use Rattle.dsr_members.proofs.Elements.{is_place}
 use Rattle.dsr_members.specs.declared.sets.SetMarks.{SetMarks}
-use Rattle.dsr_model_calls.proofs.calls.is_member.Goals as goal
+use Rattle.dsr_layout_cases.proofs.calls.is_member.Goals as goal
 
 below : (e : Element) (o : Option SetMarks) → IsSomeAnd o (λ s. (s.pool ≡ e.pool) × (e.slot < s.count))
     → IsSomeAnd o (λ s. e.slot < s.count)

@@ -13,15 +13,6 @@ import shutil
 import sys
 
 
-def stands(crate, stamp):
-    """Whether the library was given before, of these sources."""
-    try:
-        with open("%s/out/rlib/stamp" % crate.folder, encoding="utf-8") as file:
-            return file.read() == stamp and os.path.isfile("%s/out/rlib/%s.rlib/format" % (crate.folder, crate.name))
-    except OSError:
-        return False
-
-
 def main():
     rt = importlib.machinery.SourceFileLoader("rt", shutil.which("rt")).load_module()
     crates = rt.rtlib.crates_below(os.getcwd())

@@ -1,10 +1,11 @@
 //! Reads cases from the standard input and prints what is told of each text with an image.
 //!
 //! A line `##### NAME` begins a section, and the lines below it, up to the next such line, are its cases: `layouts`,
-//! `models` or `updates`, each as the file of that name says.
+//! `models`, `updates` or `calls`, each as the file of that name says.
 #![tactic(auto)]
 
 mod bytes;
+mod calls;
 mod entries;
 mod headings;
 mod layouts;
@@ -24,6 +25,7 @@ fn add_section(lines: &mut Lines, alloc: Global, part: &str) -> anyhow::Result<(
         "layouts" => layouts::add_cases(lines, alloc, section),
         "models" => models::add_cases(lines, alloc, section),
         "updates" => updates::add_cases(lines, alloc, section),
+        "calls" => calls::add_cases(lines, alloc, section),
         _ => bail!("no section: {name}"),
     }
 }

@@ -1,0 +1,76 @@
+// Sets of slots.
+use dsr_rows::Marks;
+use std::alloc::Global;
+
+// A call on 130 slots, with its answer behind its arguments.
+#[derive(Clone, Copy)]
+enum Call {
+    Add(u64, bool),
+    Remove(u64, bool),
+    Has(u64, bool),
+    Count(u64),
+    Next(u64, Option<u64>),
+    NextAbsent(u64, Option<u64>),
+    Greatest(Option<u64>),
+    GreatestAbsent(Option<u64>),
+    Clear,
+}
+
+const CALLS: [Call; 25] = [
+    Call::Greatest(None),
+    Call::GreatestAbsent(Some(129)),
+    // the first, the last and two in the middle
+    Call::Add(0, true),
+    Call::Add(63, true),
+    Call::Add(64, true),
+    Call::Add(129, true),
+    Call::Add(64, false),
+    // behind the last
+    Call::Add(130, false),
+    Call::Count(4),
+    Call::Has(63, true),
+    Call::Has(62, false),
+    Call::Next(1, Some(63)),
+    Call::Next(65, Some(129)),
+    Call::Next(130, None),
+    Call::NextAbsent(63, Some(65)),
+    Call::NextAbsent(129, None),
+    Call::Greatest(Some(129)),
+    Call::GreatestAbsent(Some(128)),
+    Call::Remove(129, true),
+    Call::Remove(129, false),
+    Call::Count(3),
+    Call::Clear,
+    Call::Count(0),
+    Call::Next(0, None),
+    Call::NextAbsent(0, Some(0)),
+];
+
+// Whether a call answers so. A call behind the last slot answers as where nothing is marked.
+fn answers(marks: &mut Marks, call: Call) -> bool {
+    match call {
+        Call::Add(slot, is_new) => (slot < marks.slots() && marks.add(slot)) == is_new,
+        Call::Remove(slot, was) => (slot < marks.slots() && marks.remove(slot)) == was,
+        Call::Has(slot, is) => (slot < marks.slots() && marks.has(slot)) == is,
+        Call::Count(count) => marks.count() == count,
+        Call::Next(from, slot) => marks.next(from) == slot,
+        Call::NextAbsent(from, slot) => marks.next_absent(from) == slot,
+        Call::Greatest(slot) => marks.greatest() == slot,
+        Call::GreatestAbsent(slot) => marks.greatest_absent() == slot,
+        Call::Clear => {
+            marks.clear();
+            true
+        }
+    }
+}
+
+pub fn all_answer(alloc: Global) -> bool {
+    let Ok(mut marks) = Marks::new(alloc, 130) else {
+        return false;
+    };
+    let mut right = true;
+    for call in CALLS {
+        right = right && answers(&mut marks, call);
+    }
+    right
+}

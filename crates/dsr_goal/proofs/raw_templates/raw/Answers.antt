@@ -1,4 +1,4 @@
-use Rattle.std.proofs.Common.{◌≡◌, [], IfOk, MatchOption, slice_get, sym, subst}
+use Rattle.std.proofs.Common.{◌≡◌, [], IfOk, MatchOption, sym, subst}
 use Rattle.dsr_meaning.specs.Typed.{IsTypedConstraint}
 use Rattle.dsr_meaning.proofs.Firing.{found_fits}
 use Rattle.dsr_updating.specs.Templates.{AreRawOf}

@@ -1,5 +1,5 @@
 -- What a derived `==` says of two templates: that they are the same.
-use Rattle.std.proofs.Common.{◌≡◌, ◌&&◌, ℕ, Bool, true, false, List, [], ◌∷◌, Option, None, Some, eqb, refl, ap, subst, Decides}
+use Rattle.std.proofs.Common.{◌≡◌, ◌&&◌, ℕ, Bool, true, false, List, [], ◌∷◌, Option, None, Some, eqb, refl, sym, ap, subst, true≢false, Decides}
 use Rattle.std.proofs.Math.Bool.{beq}
 use Rattle.std.specs.Cmp.{booleans_Decides}
 use Rattle.std.specs.Cmp.Lexicographic.{pointwise}
@@ -41,9 +41,12 @@ use Rattle.dsr_ir.specs.contracts.updates.TemplateEq.TheImpl.Laws.{laws-law}
 use Rattle.dsr_ir.specs.contracts.updates.UpdatePartialEq.TheImpl as update
 use Rattle.dsr_ir.specs.contracts.updates.WritePartialEq.TheImpl as write
 
+never : {A : Type 0} → false ≡ true → A
+never e = absurd (true≢false (sym e))
+
 both : (p q : Bool) → (p && q) ≡ true → (p ≡ true) × (q ≡ true)
 both true q e = (refl, e)
-both false q e = absurd cc
+both false q e = never e
 
 num : (a b : ℕ) → eqb a b ≡ true → a ≡ b
 num a b = (Decides-eqb a b).0
@@ -54,13 +57,13 @@ flag a b = (booleans_Decides a b).0
 maybe : {T : Type 0} (E : T → T → Bool) → ((a b : T) → E a b ≡ true → a ≡ b) → (p q : Option T) → option_eq E p q ≡ true → p ≡ q
 maybe E is None None e = refl
 maybe E is (Some a) (Some b) e = ap Some (is a b e)
-maybe E is None (Some b) e = absurd cc
-maybe E is (Some a) None e = absurd cc
+maybe E is None (Some b) e = never e
+maybe E is (Some a) None e = never e
 
 each : {T : Type 0} (E : T → T → Bool) → ((a b : T) → E a b ≡ true → a ≡ b) → (xs ys : List T) → pointwise E xs ys ≡ true → xs ≡ ys
 each E is [] [] e = refl
-each E is [] (y ∷ ys) e = absurd cc
-each E is (x ∷ xs) [] e = absurd cc
+each E is [] (y ∷ ys) e = never e
+each E is (x ∷ xs) [] e = never e
 each E is (x ∷ xs) (y ∷ ys) e =
     let h = both (E x y) (pointwise E xs ys) e in
     λ i. is x y h.0 i ∷ each E is xs ys h.1 i
@@ -69,7 +72,7 @@ var_is : (a b : Var) → variable.ghosts.eq a b ≡ true → a ≡ b
 var_is vars.Head vars.Head e = refl
 var_is vars.First vars.First e = refl
 var_is vars.Second vars.Second e = refl
-var_is _ _ e = absurd cc
+var_is _ _ e = never e
 
 op_is : (a b : Op) → op.ghosts.eq a b ≡ true → a ≡ b
 op_is ops.Eq ops.Eq e = refl
@@ -78,7 +81,7 @@ op_is ops.Lt ops.Lt e = refl
 op_is ops.Le ops.Le e = refl
 op_is ops.Gt ops.Gt e = refl
 op_is ops.Ge ops.Ge e = refl
-op_is _ _ e = absurd cc
+op_is _ _ e = never e
 
 goal_is : (a b : Goal) → goal.ghosts.eq a b ≡ true → a ≡ b
 goal_is goals.AddSet goals.AddSet e = refl
@@ -89,7 +92,7 @@ goal_is goals.SetValue goals.SetValue e = refl
 goal_is goals.Trim goals.Trim e = refl
 goal_is goals.Supply goals.Supply e = refl
 goal_is goals.ExactlyOne goals.ExactlyOne e = refl
-goal_is _ _ e = absurd cc
+goal_is _ _ e = never e
 
 measure_is : (a b : Measure) → measure.ghosts.eq a b ≡ true → a ≡ b
 measure_is (measures.Whole s) (measures.Whole t) e = ap measures.Whole (num s t e)
@@ -99,7 +102,7 @@ measure_is (measures.Out v r) (measures.Out w q) e =
 measure_is (measures.Into r v) (measures.Into q w) e =
     let h = both (eqb r q) (variable.ghosts.eq v w) e in
     λ i. measures.Into (num r q h.0 i) (var_is v w h.1 i)
-measure_is _ _ e = absurd cc
+measure_is _ _ e = never e
 
 test_is : (a b : Test) → test.ghosts.eq a b ≡ true → a ≡ b
 test_is (tests.Cmp o k) (tests.Cmp p l) e =
@@ -109,7 +112,7 @@ test_is tests.Legal tests.Legal e = refl
 test_is tests.Illegal tests.Illegal e = refl
 test_is tests.IsNone tests.IsNone e = refl
 test_is tests.IsSome tests.IsSome e = refl
-test_is _ _ e = absurd cc
+test_is _ _ e = never e
 
 pick_is : (a b : Pick) → pick.ghosts.eq a b ≡ true → a ≡ b
 pick_is (picks.Num k) (picks.Num l) e = ap picks.Num (num k l e)
@@ -117,19 +120,19 @@ pick_is picks.NoneCode picks.NoneCode e = refl
 pick_is (picks.CodeOf v) (picks.CodeOf w) e = ap picks.CodeOf (var_is v w e)
 pick_is picks.Fresh picks.Fresh e = refl
 pick_is (picks.SizeOf m) (picks.SizeOf n) e = ap picks.SizeOf (measure_is m n e)
-pick_is _ _ e = absurd cc
+pick_is _ _ e = never e
 
 place_is : (a b : Place) → place.ghosts.eq a b ≡ true → a ≡ b
 place_is places.Head places.Head e = refl
 place_is (places.Of v) (places.Of w) e = ap places.Of (var_is v w e)
 place_is places.Deriver places.Deriver e = refl
-place_is _ _ e = absurd cc
+place_is _ _ e = never e
 
 at_is : (a b : At) → at.ghosts.eq a b ≡ true → a ≡ b
 at_is ats.Scalar ats.Scalar e = refl
 at_is (ats.SlotOf v) (ats.SlotOf w) e = ap ats.SlotOf (var_is v w e)
 at_is ats.Deriver ats.Deriver e = refl
-at_is _ _ e = absurd cc
+at_is _ _ e = never e
 
 field_is : (a b : FieldRef) → field.ghosts.eq a b ≡ true → a ≡ b
 field_is a b e =

@@ -1,7 +1,7 @@
 -- Lists that are made item by item.
-use Rattle.std.proofs.Common.{◌≡◌, ◌<◌, ◌+◌, ℕ, List, [], ◌∷◌, ◌++◌, map, take, length, get_or, All, sym, ap, ◌∙◌, add-one, subst}
+use Rattle.std.proofs.Common.{◌≡◌, ◌<◌, ◌≤◌, ◌+◌, ℕ, List, [], ◌∷◌, ◌++◌, map, take, length, get_or, All, sym, ap, ◌∙◌, add-one, subst}
 use Rattle.std.proofs.Math.Seq.{take-suc}
-use Rattle.std.proofs.lemmas.List.{map-append, length-map, get_or-map}
+use Rattle.std.proofs.lemmas.List.{map-append, length-map, get_or-map, take_all}
 
 module _ {X S : Type 0} (g : X → S) where
   -- what holds of the shapes of all items holds of that of one
@@ -15,3 +15,7 @@ module _ {X S : Type 0} (g : X → S) where
       pushed
       ∙ (λ j. before j ++ made j ∷ [])
       ∙ sym (ap (λ ys. map h (map g ys)) e ∙ ap (map h) (map-append g (take i xs) (x ∷ [])) ∙ map-append h (map g (take i xs)) (g x ∷ []))
+
+  -- all items were gone over, in an equal list
+  pub all_shaped : {Y : Type 0} (h : S → Y) (xs items : List X) → items ≡ xs → (i : ℕ) → length items ≤ i → {made : List Y} → made ≡ map h (map g (take i items)) → made ≡ map h (map g xs)
+  all_shaped h xs items same i le before = before ∙ ap (λ ys. map h (map g ys)) (take_all i items le ∙ same)

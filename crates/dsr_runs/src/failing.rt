@@ -3,12 +3,20 @@ use anyhow::bail;
 use dsr_store::Missed;
 use std::str;
 
-// The number of the call.
-fn number_of(digits: &str) -> anyhow::Result<u64> {
+/// The number that these digits are.
+pub fn number_of(digits: &str) -> anyhow::Result<u64> {
     let Ok(number) = digits.parse::<u64>() else {
         bail!("no number: {digits}");
     };
     Ok(number)
+}
+
+/// The two numbers of a line.
+pub fn two_numbers(line: &str) -> anyhow::Result<(u64, u64)> {
+    let Some((first, second)) = line.split_once(' ') else {
+        bail!("no two numbers: {line}");
+    };
+    Ok((number_of(first)?, number_of(second)?))
 }
 
 /// Which call of the shelf and which put fail; 0 for none.
@@ -16,11 +24,7 @@ pub fn failing_of(given: &str) -> anyhow::Result<(u64, u64)> {
     let Some(behind) = given.strip_prefix("--- ") else {
         return Ok((0, 0));
     };
-    let line = behind.split('\n').next().unwrap_or(behind);
-    let Some((call, put)) = line.split_once(' ') else {
-        bail!("no two numbers: {line}");
-    };
-    Ok((number_of(call)?, number_of(put)?))
+    two_numbers(behind.split('\n').next().unwrap_or(behind))
 }
 
 /// Appends the call of the shelf that failed, if one did.

@@ -1,21 +1,30 @@
 //! Reads runs of the program from the standard input, does each over files in memory, and prints how it ended.
 //!
 //! A line `=== NAME WORD WORD ..` begins a run with these words. A line `--- CALL PUT` below it tells which call of the shelf
-//! and which put fail, counted from 1; 0 for none. Then stand its files: a line `+++ NAME HEX` is a file of these bytes; a line
-//! `+++ NAME` begins one of text, up to the next such line, without the line feed before that line.
+//! and which put fail, counted from 1; 0 for none. A line `<<< WORD WORD ..` has these words run first, over a shelf that never
+//! fails, so that the run begins with what they left. A line `*** FIRST LAST` makes a run of each number of these, with the
+//! number in place of each `#`.
+//! Then stand its files: a line `+++ NAME` begins one, which is the text up to the next such line, without the line feed before
+//! that line. Words behind its name go on with it: `HEX` appends these bytes, `HEX*COUNT` so often, `HEX*COUNT+HEX` each time with
+//! so much added to them, as to a number whose least byte is the first; `trial:NUMBER` appends the image of that trial; `<COUNT`
+//! cuts off what is behind so many bytes.
 //! Of each run is printed `=== NAME STATUS`, what it put, `--- load NAME` or `--- save NAME` for the call that failed, and
-//! `+++ NAME HEX` for each file that it saved.
+//! `+++ NAME HEX` for each file that it saved, or `+++ NAME = OTHER` for one of more than 4,096 bytes, all those of the file
+//! OTHER before.
 #![tactic(auto)]
 
 mod failing;
 mod files;
+mod pieces;
+mod repeating;
 
 use anyhow::bail;
 use dsr_cli::run;
 use dsr_store::{Held, MemoryShelf, MemorySink};
 use failing::{add_missed, failing_of};
-use files::{add_saved, files_of};
+use files::add_saved;
 use itoa::Buffer;
+use repeating::{add_runs, begun};
 use std::alloc::Global;
 use std::{io, str};
 
@@ -36,7 +45,7 @@ fn add_run(text: &mut String, alloc: Global, given: &str) -> anyhow::Result<()> 
     let words = words_of(alloc, heading)?;
     let (call, put) = failing_of(files)?;
     let mut shelf = MemoryShelf {
-        files: files_of(alloc, files)?,
+        files: begun(alloc, files)?,
         fail: vec![in alloc; call]?,
         calls: 0,
         last: None,
@@ -54,7 +63,7 @@ fn add_run(text: &mut String, alloc: Global, given: &str) -> anyhow::Result<()> 
     text.push_str("\n")?;
     text.push_str(str::from_utf8(&out.bytes)?)?;
     add_missed(text, &shelf.last)?;
-    add_saved(text, alloc, &files_of(alloc, files)?, &shelf.files)
+    add_saved(text, alloc, &begun(alloc, files)?, &shelf.files)
 }
 
 fn main(rt: HostRuntime) -> anyhow::Result<()> {
@@ -62,7 +71,7 @@ fn main(rt: HostRuntime) -> anyhow::Result<()> {
     let input = io::read_to_string(alloc, rt.stdin())?;
     let mut text = String::new(alloc);
     for given in input.split("=== ").skip(1) {
-        add_run(&mut text, alloc, given)?;
+        add_runs(&mut text, alloc, given)?;
     }
     rt.print(text)?;
     Ok(())

@@ -16,6 +16,15 @@ struct Stage<'a> {
     missed: &'a str,
 }
 
+fn behind<'a>(calls: &'a [Call<'a>], faults: u64, saving: bool, missed: &'a str) -> Stage<'a> {
+    Stage {
+        calls,
+        faults,
+        saving,
+        missed,
+    }
+}
+
 // Whether all stages end so over the files of one folder.
 fn are_right(rt: &HostRuntime, alloc: Global, stages: &[Stage<'_>]) -> Result<bool, AllocError> {
     let mut shelf = FileShelf {
@@ -38,38 +47,6 @@ const WHOLE: [u8; 5000] = [7; 5000];
 
 const SAVED: &str = "shelf-test.bin";
 
-#[test]
-fn a_file_is_saved_and_loaded(rt: HostRuntime) -> Result<(), Fail> {
-    let calls = [
-        Call::Save(SAVED, &WHOLE, true),
-        Call::Load(SAVED, 10000, Some(&WHOLE)),
-        Call::Load(SAVED, 4097, Some(&WHOLE[..4097])),
-        Call::Load(SAVED, 3, Some(&WHOLE[..3])),
-        Call::Load(SAVED, 0, Some(b"")),
-        Call::Save(SAVED, b"short", true),
-        Call::Load(SAVED, 10000, Some(b"short")),
-        Call::Load("absent.bin", 9, None),
-    ];
-    let stages = [
-        Stage {
-            calls: &calls,
-            faults: 1,
-            saving: false,
-            missed: "absent.bin",
-        },
-        Stage {
-            calls: &[Call::Save("absent/file.bin", b"x", false)],
-            faults: 2,
-            saving: true,
-            missed: "absent/file.bin",
-        },
-    ];
-    let are_right = are_right(&rt, rt.alloc(), &stages)?;
-    fs::remove_file(&rt, SAVED)?;
-    assert!(rt; are_right);
-    Ok(())
-}
-
 const NAME: &str = "replaced.bin";
 
 const LINK: &str = "replaced.link";
@@ -85,35 +62,55 @@ const REPLACING: [Call<'static>; 5] = [
     Call::Save(".", b"new", false),
 ];
 
-fn prepare(rt: &HostRuntime) -> io::Result<()> {
-    fs::write(rt, NAME, "longer than the new bytes")?;
+fn link(rt: &HostRuntime) -> io::Result<()> {
     fs::set_permissions(rt, NAME, Permissions::from_mode(0o640))?;
-    symlink(rt, NAME, LINK)?;
-    fs::write(rt, LEFT, "left")
+    symlink(rt, NAME, LINK)
 }
 
 // Whether the file has the mode that it had, and the link still is one; all is removed.
 fn is_kept(rt: &HostRuntime) -> io::Result<bool> {
     let mode = fs::metadata(rt, NAME)?.permissions().mode() & 0o777;
     let stays = fs::symlink_metadata(rt, LINK)?.is_symlink();
-    for file in [NAME, LINK, LEFT] {
+    for file in [SAVED, NAME, LINK, LEFT] {
         fs::remove_file(rt, file)?;
     }
     Ok(mode == 0o640 && stays)
 }
 
+// Whether files are saved and loaded so, also those that another save is to replace.
+fn are_saved(rt: &HostRuntime, alloc: Global) -> Result<bool, AllocError> {
+    let saved = [
+        Call::Save(SAVED, &WHOLE, true),
+        Call::Load(SAVED, 10000, Some(&WHOLE)),
+        Call::Load(SAVED, 4097, Some(&WHOLE[..4097])),
+        Call::Load(SAVED, 3, Some(&WHOLE[..3])),
+        Call::Load(SAVED, 0, Some(b"")),
+        Call::Save(SAVED, b"short", true),
+        Call::Load(SAVED, 10000, Some(b"short")),
+        Call::Load("absent.bin", 9, None),
+    ];
+    let prepared = [
+        Call::Save(NAME, b"longer than the new bytes", true),
+        Call::Save(LEFT, b"left", true),
+        Call::Save("absent/file.bin", b"x", false),
+    ];
+    are_right(
+        rt,
+        alloc,
+        &[
+            behind(&saved, 1, false, "absent.bin"),
+            behind(&prepared, 2, true, "absent/file.bin"),
+        ],
+    )
+}
+
 #[test]
-fn a_save_replaces_a_file(rt: HostRuntime) -> Result<(), Fail> {
-    let stage = Stage {
-        calls: &REPLACING,
-        faults: 2,
-        saving: true,
-        missed: ".",
-    };
-    prepare(&rt)?;
-    let are_right = are_right(&rt, rt.alloc(), &[stage])?;
+fn files_are_saved_and_replaced(rt: HostRuntime) -> Result<(), Fail> {
+    let alloc = rt.alloc();
+    assert!(rt; are_saved(&rt, alloc)?);
+    link(&rt)?;
+    assert!(rt; are_right(&rt, alloc, &[behind(&REPLACING, 2, true, ".")])?);
     assert!(rt; is_kept(&rt)?);
-    assert!(rt; are_right);
     Ok(())
 }
 

@@ -29,11 +29,15 @@ def main():
     for crate in crates:
         if crate.is_program or wanted and crate.name not in wanted or any(it.name not in kept.rlibs for it in crate.below()):
             continue
-        if not kept.give(crate, False, kept.key(crate)):
-            continue
+        stamp_file = "%s/out/rlib/stamp" % crate.folder
+        if rt.rtlib.text_of(stamp_file) != stamp_once(crate):
+            # (over files that stand there, `give` would fail, and take what is kept for damaged)
+            shutil.rmtree("%s/out/rlib" % crate.folder, ignore_errors=True)
+            if not kept.give(crate, False, kept.key(crate)):
+                continue
+            with open(stamp_file, "w", encoding="utf-8") as file:
+                file.write(stamp_once(crate))
         kept.is_built(crate)
-        with open("%s/out/rlib/stamp" % crate.folder, "w", encoding="utf-8") as file:
-            file.write(stamp_once(crate))
         given += 1
     print("%d libraries of %d crates are there" % (given, len(crates)))
 

@@ -3,6 +3,17 @@ use anyhow::bail;
 use dsr_store::Missed;
 use std::str;
 
+/// The calls that fail, counted from 1; 0 for none.
+#[derive(Clone, Copy)]
+pub struct Failing {
+    /// The call of the shelf.
+    pub call: u64,
+    /// The put.
+    pub put: u64,
+    /// How many bytes a failed save leaves.
+    pub cut: u64,
+}
+
 /// The number that these digits are.
 pub fn number_of(digits: &str) -> anyhow::Result<u64> {
     let Ok(number) = digits.parse::<u64>() else {
@@ -11,20 +22,19 @@ pub fn number_of(digits: &str) -> anyhow::Result<u64> {
     Ok(number)
 }
 
-/// The two numbers of a line.
-pub fn two_numbers(line: &str) -> anyhow::Result<(u64, u64)> {
-    let Some((first, second)) = line.split_once(' ') else {
+/// The calls that fail by the first line; none where it isn't such a line.
+pub fn failing_of(given: &str) -> anyhow::Result<Failing> {
+    let line = given.split('\n').next().unwrap_or(given);
+    let numbers = line.strip_prefix("--- ").unwrap_or("0 0");
+    let Some((call, others)) = numbers.split_once(' ') else {
         bail!("no two numbers: {line}");
     };
-    Ok((number_of(first)?, number_of(second)?))
-}
-
-/// Which call of the shelf and which put fail; 0 for none.
-pub fn failing_of(given: &str) -> anyhow::Result<(u64, u64)> {
-    let Some(behind) = given.strip_prefix("--- ") else {
-        return Ok((0, 0));
-    };
-    two_numbers(behind.split('\n').next().unwrap_or(behind))
+    let (put, cut) = others.split_once(' ').unwrap_or((others, "0"));
+    Ok(Failing {
+        call: number_of(call)?,
+        put: number_of(put)?,
+        cut: number_of(cut)?,
+    })
 }
 
 /// Appends the call of the shelf that failed, if one did.

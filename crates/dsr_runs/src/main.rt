@@ -1,16 +1,18 @@
 //! Reads runs of the program from the standard input, does each over files in memory, and prints how it ended.
 //!
-//! A line `=== NAME WORD WORD ..` begins a run with these words. A line `--- CALL PUT` below it tells which call of the shelf
-//! and which put fail, counted from 1; 0 for none. A line `<<< WORD WORD ..` has these words run first, over a shelf that never
-//! fails, so that the run begins with what they left. A line `*** FIRST LAST` makes a run of each number of these, with the
-//! number in place of each `#`.
-//! Then stand its files: a line `+++ NAME` begins one, which is the text up to the next such line, without the line feed before
-//! that line. Words behind its name go on with it: `HEX` appends these bytes, `HEX*COUNT` so often, `HEX*COUNT+HEX` each time with
-//! so much added to them, as to a number whose least byte is the first; `trial:NUMBER` appends the image of that trial; `<COUNT`
-//! cuts off what is behind so many bytes.
+//! A line `=== NAME WORD WORD ..` begins a run with these words. Below it may stand, in this order:
+//! - `--- CALL PUT`: which call of the shelf and which put fail, counted from 1; 0 for none. A third number is how many bytes a
+//!   failed save leaves, 0 where it isn't told;
+//! - `<<< WORD WORD ..`: these words run first, over a shelf that never fails, and the run begins with what they left;
+//! - `*** FIRST LAST`: a run of each of these numbers, with the number in place of each `#`;
+//! - its files: a line `+++ NAME` begins one, which is the text up to the next such line, without the line feed before that line.
+//!   Words behind its name go on with it: `HEX` appends these bytes, `HEX*COUNT` so often, `HEX*COUNT+HEX` with so much added to
+//!   them each time, as to a number whose least byte is the first; `trial:NUMBER` appends the image of that trial; `<COUNT` cuts
+//!   off what is behind so many bytes.
+//!
 //! Of each run is printed `=== NAME STATUS`, what it put, `--- load NAME` or `--- save NAME` for the call that failed, and
-//! `+++ NAME HEX` for each file that it saved, or `+++ NAME = OTHER` for one of more than 4,096 bytes, all those of the file
-//! OTHER before.
+//! `+++ NAME HEX` for each file that it saved, or `+++ NAME = OTHER` for one of more than 4,096 bytes which are those that the
+//! file OTHER had before.
 #![tactic(auto)]
 
 mod failing;
@@ -20,7 +22,7 @@ mod repeating;
 
 use anyhow::bail;
 use dsr_cli::run;
-use dsr_store::{Held, MemoryShelf, MemorySink};
+use dsr_store::{MemorySink, TornShelf};
 use failing::{add_missed, failing_of};
 use files::add_saved;
 use itoa::Buffer;
@@ -43,16 +45,17 @@ fn add_run(text: &mut String, alloc: Global, given: &str) -> anyhow::Result<()> 
     };
     let name = heading.split(' ').next().unwrap_or("");
     let words = words_of(alloc, heading)?;
-    let (call, put) = failing_of(files)?;
-    let mut shelf = MemoryShelf {
+    let failing = failing_of(files)?;
+    let mut shelf = TornShelf {
         files: begun(alloc, files)?,
-        fail: vec![in alloc; call]?,
+        fail: vec![in alloc; failing.call]?,
+        cut: failing.cut,
         calls: 0,
         last: None,
     };
     let mut out = MemorySink {
         bytes: Vec::new(alloc),
-        fail: vec![in alloc; put]?,
+        fail: vec![in alloc; failing.put]?,
         calls: 0,
     };
     let status = run(alloc, &words, &mut shelf, &mut out);

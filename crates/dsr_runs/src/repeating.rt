@@ -1,5 +1,5 @@
 // Runs that are made of one for each number, and what was run before one.
-use crate::failing::two_numbers;
+use crate::failing::number_of;
 use crate::files::files_of;
 use crate::{add_run, words_of};
 use dsr_cli::run;
@@ -13,7 +13,8 @@ pub fn add_runs(text: &mut String, alloc: Global, given: &str) -> anyhow::Result
         return add_run(text, alloc, given);
     };
     let (numbers, files) = behind.split_once('\n').unwrap_or((behind, ""));
-    let (first, last) = two_numbers(numbers)?;
+    let (first, last) = numbers.split_once(' ').unwrap_or((numbers, numbers));
+    let (first, last) = (number_of(first)?, number_of(last)?);
     let pattern = format!(in alloc; "{heading}\n{files}")?;
     for number in first..=last {
         let given = pattern.replace(alloc, "#", Buffer::new().format(number))?;

@@ -7,7 +7,9 @@ mod memory;
 mod outside;
 mod replacing;
 mod system;
+mod torn;
 
 pub use memory::{MemoryShelf, MemorySink, SureShelf, SureSink};
 pub use outside::{Content, Held, Label, Missed, Shelf, ShelfFault, Sink, SinkFault};
 pub use system::{FileShelf, StdSink, read_front};
+pub use torn::TornShelf;

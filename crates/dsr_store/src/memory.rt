@@ -9,7 +9,7 @@ use crate::outside::{Held, Missed, Shelf, ShelfFault, Sink, SinkFault};
 use std::alloc::Global;
 
 // Counts a call, and says whether it is made to fail.
-fn tick(calls: &mut u64, fail: &[u64]) -> bool
+pub(crate) fn tick(calls: &mut u64, fail: &[u64]) -> bool
     ensures due { result ≡ is_due fail.now calls.old }
     ensures counted { calls.new ≡ one_more calls.old }
     ensures later { failures fail.now calls.old ≤ failures fail.now calls.new }

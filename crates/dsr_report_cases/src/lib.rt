@@ -1,8 +1,6 @@
-//! A log with its text, reports that are read, and the first wrong lines of other texts, apart from the crates themselves, so that
-//! those are proved without tests.
+//! Reports that are read, and the first wrong lines of other texts, apart from the crates themselves, so that those are proved
+//! without tests.
 #![tactic(auto)]
 
-#[cfg(test)]
-mod logged;
 #[cfg(test)]
 mod texts;

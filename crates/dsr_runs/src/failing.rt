@@ -14,7 +14,8 @@ pub struct Failing {
     pub cut: u64,
 }
 
-fn number_of(digits: &str) -> anyhow::Result<u64> {
+/// The number that these digits are.
+pub fn number_of(digits: &str) -> anyhow::Result<u64> {
     let Ok(number) = digits.parse::<u64>() else {
         bail!("no number: {digits}");
     };

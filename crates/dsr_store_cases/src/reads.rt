@@ -1,8 +1,7 @@
 // Reads that the system interrupts.
 use dsr_store::{ShelfFault, read_front};
-use std::alloc::{AllocError, Global};
+use std::alloc::Global;
 use std::io::{self, ErrorKind, Read};
-use std::test::Fail;
 
 /// What a reader does when it is asked.
 #[derive(Clone, Copy)]
@@ -35,32 +34,39 @@ impl Read for Halting<'_> {
     }
 }
 
-// Whether these bytes are read of the turns, or nothing where that is to fail.
-fn front_is(
-    alloc: Global,
-    turns: &[Turn],
-    cap: u64,
-    wanted: Option<&[u8]>,
-) -> Result<bool, AllocError> {
+// What is to come of the turns.
+#[derive(Clone, Copy)]
+enum Wanted<'a> {
+    Bytes(&'a [u8]),
+    Failed,
+    NoMemory,
+}
+
+const AGAIN: Turn = Turn::Fails(ErrorKind::Interrupted);
+
+const TURNS: [Turn; 5] = [AGAIN, Turn::Gives(1), AGAIN, AGAIN, Turn::Gives(2)];
+
+const BROKEN: [Turn; 2] = [Turn::Gives(1), Turn::Fails(ErrorKind::NotFound)];
+
+const FULL: [Turn; 2] = [Turn::Gives(1), Turn::Fails(ErrorKind::OutOfMemory)];
+
+// Whether this is read of the turns, and no more than so many bytes.
+fn front_is(alloc: Global, turns: &[Turn], cap: u64, wanted: Wanted<'_>) -> bool {
     let mut reader = Halting { turns, next: 0 };
-    match read_front(alloc, &mut reader, cap) {
-        Ok(bytes) => Ok(wanted == Some(bytes.as_slice())),
-        Err(ShelfFault::Failed) => Ok(wanted.is_none()),
-        Err(ShelfFault::NoMemory) => Err(AllocError),
+    match (read_front(alloc, &mut reader, cap), wanted) {
+        (Ok(bytes), Wanted::Bytes(all)) => bytes.as_slice() == all,
+        (Err(ShelfFault::Failed), Wanted::Failed) => true,
+        (Err(ShelfFault::NoMemory), Wanted::NoMemory) => true,
+        _ => false,
     }
 }
 
 #[test]
-fn interrupted_reads_are_tried_again(rt: HostRuntime) -> Result<(), Fail> {
+fn interrupted_reads_are_tried_again(rt: HostRuntime) {
     let alloc = rt.alloc();
-    let again = Turn::Fails(ErrorKind::Interrupted);
-    let turns = [again, Turn::Gives(1), again, again, Turn::Gives(2)];
-    let broken = [Turn::Gives(1), Turn::Fails(ErrorKind::NotFound)];
-    let full = [Turn::Gives(1), Turn::Fails(ErrorKind::OutOfMemory)];
-    assert!(rt; front_is(alloc, &turns, 9, Some(b"\x01\x02"))?);
-    assert!(rt; front_is(alloc, &turns, 1, Some(b"\x01"))?);
-    assert!(rt; front_is(alloc, &[again], 9, Some(b""))?);
-    assert!(rt; front_is(alloc, &broken, 9, None)?);
-    assert!(rt; front_is(alloc, &full, 9, None).is_err());
-    Ok(())
+    assert!(rt; front_is(alloc, &TURNS, 9, Wanted::Bytes(b"\x01\x02")));
+    assert!(rt; front_is(alloc, &TURNS, 1, Wanted::Bytes(b"\x01")));
+    assert!(rt; front_is(alloc, &[AGAIN], 9, Wanted::Bytes(b"")));
+    assert!(rt; front_is(alloc, &BROKEN, 9, Wanted::Failed));
+    assert!(rt; front_is(alloc, &FULL, 9, Wanted::NoMemory));
 }

@@ -2,8 +2,9 @@
 ghost use Rattle.std.specs.Prelude.{◌≡◌, IfOk};
 ghost use Rattle.dsr_script.specs.Moves.{shown};
 
+use crate::memory::one_file;
 use dsr_script::{Commands, Move, Stage, Status, Told, Verdict, run};
-use dsr_store::{Content, Held, Label, MemoryShelf, MemorySink};
+use dsr_store::{Held, MemoryShelf, MemorySink};
 use std::alloc::{AllocError, Global};
 use std::test::Fail;
 
@@ -68,32 +69,66 @@ impl<'a> Commands<'a> for Copying<'a> {
     }
 }
 
-// Words over a file under `a`, the calls that are made to fail, and what comes of it.
+// Words over a file under `a`, and what comes of it.
 #[derive(Clone, Copy)]
 struct Case<'a> {
     words: &'a [&'a str],
     file: &'a str,
-    failed_calls: &'a [u64],
-    failed_puts: &'a [u64],
+    // The call of the shelf and the put that are made to fail; 0 for none.
+    failing: (u64, u64),
     status: Status,
     text: &'a str,
     // What is held under `b` afterwards, if anything.
-    copy: Option<&'a str>,
+    copy: Option<&'a [u8]>,
     // How often the shelf is called.
     calls: u64,
 }
 
-// A file within the limit is copied, and no call fails.
-const COPY: Case<'static> = Case {
-    words: &["a", "b"],
-    file: "four",
-    failed_calls: &[],
-    failed_puts: &[],
-    status: Status::Said(Verdict::Ok),
-    text: "copied\n",
-    copy: Some("four"),
-    calls: 2,
-};
+const OK: Status = Status::Said(Verdict::Ok);
+
+const USAGE: Status = Status::Said(Verdict::Usage);
+
+const COPIED: &str = "copied\n";
+
+const LOST: &str = "store failed\n";
+
+// A file within the limit is copied, where a call or a put fails.
+fn copy<'a>(
+    failing: (u64, u64),
+    status: Status,
+    text: &'a str,
+    copy: Option<&'a [u8]>,
+    calls: u64,
+) -> Case<'a> {
+    Case {
+        words: &["a", "b"],
+        file: "four",
+        failing,
+        status,
+        text,
+        copy,
+        calls,
+    }
+}
+
+// No call fails, and no copy is made.
+fn uncopied<'a>(
+    words: &'a [&'a str],
+    file: &'a str,
+    status: Status,
+    text: &'a str,
+    calls: u64,
+) -> Case<'a> {
+    Case {
+        words,
+        file,
+        failing: (0, 0),
+        status,
+        text,
+        copy: None,
+        calls,
+    }
+}
 
 fn words_of(alloc: Global, words: &[&str]) -> Result<Vec<String>, AllocError> {
     let mut all = Vec::new(alloc);
@@ -101,6 +136,16 @@ fn words_of(alloc: Global, words: &[&str]) -> Result<Vec<String>, AllocError> {
         all.push(word.to_string(alloc)?)?;
     }
     Ok(all)
+}
+
+fn shelf_of(alloc: Global, case: &Case<'_>) -> Result<MemoryShelf, AllocError> {
+    let fail = vec![in alloc; case.failing.0]?;
+    Ok(MemoryShelf {
+        files: one_file(alloc, case.file.as_bytes())?,
+        fail,
+        calls: 0,
+        last: None,
+    })
 }
 
 // The bytes that are held under the name, if any.
@@ -114,29 +159,21 @@ fn held_under<'a>(files: &'a [Held], name: &str) -> Option<&'a [u8]> {
 }
 
 fn ends_so(alloc: Global, case: &Case<'_>) -> Result<bool, AllocError> {
-    let name = Label::new(Vec::from_slice(alloc, b"a")?);
-    let bytes = Content::new(Vec::from_slice(alloc, case.file.as_bytes())?);
-    let mut shelf = MemoryShelf {
-        files: vec![in alloc; Held { name, bytes }]?,
-        fail: Vec::from_slice(alloc, case.failed_calls)?,
-        calls: 0,
-        last: None,
-    };
+    let words = words_of(alloc, case.words)?;
+    let mut shelf = shelf_of(alloc, case)?;
     let mut out = MemorySink {
         bytes: Vec::new(alloc),
-        fail: Vec::from_slice(alloc, case.failed_puts)?,
+        fail: vec![in alloc; case.failing.1]?,
         calls: 0,
     };
-    let words = words_of(alloc, case.words)?;
     let status = run::<Copying, MemoryShelf, MemorySink>(alloc, &words, &mut shelf, &mut out);
     if status == Status::NoMemory && out.bytes.is_empty() {
         return Err(AllocError);
     }
-    let copy = held_under(&shelf.files, "b");
     Ok(
         status == case.status
             && out.bytes.as_slice() == case.text.as_bytes()
-            && copy == case.copy.map(|text| text.as_bytes())
+            && held_under(&shelf.files, "b") == case.copy
             && shelf.calls == case.calls,
     )
 }
@@ -153,81 +190,18 @@ fn first_wrong(alloc: Global, cases: &[Case<'_>]) -> Result<Option<usize>, Alloc
 
 #[test]
 fn each_call_fails_in_turn(rt: HostRuntime) -> Result<(), Fail> {
-    let alloc = rt.alloc();
-    let lost = Case {
-        status: Status::StoreFailed,
-        text: "store failed\n",
-        ..COPY
-    };
     let cases = [
-        COPY,
-        Case {
-            failed_calls: &[1],
-            copy: None,
-            calls: 1,
-            ..lost
-        },
-        Case {
-            failed_calls: &[2],
-            copy: Some(""),
-            ..lost
-        },
-        Case {
-            failed_puts: &[1],
-            status: Status::OutputFailed,
-            text: "",
-            ..COPY
-        },
+        copy((0, 0), OK, COPIED, Some(b"four"), 2),
+        copy((1, 0), Status::StoreFailed, LOST, None, 1),
+        copy((2, 0), Status::StoreFailed, LOST, Some(b""), 2),
+        copy((0, 1), Status::OutputFailed, "", Some(b"four"), 2),
         // That the store failed can't be told.
-        Case {
-            failed_calls: &[2],
-            failed_puts: &[1],
-            status: Status::OutputFailed,
-            text: "",
-            copy: Some(""),
-            ..COPY
-        },
-    ];
-    assert_eq!(rt; first_wrong(alloc, &cases)?, None);
-    Ok(())
-}
-
-// Words over a file, with what they get where no copy is made.
-fn uncopied<'a>(
-    words: &'a [&'a str],
-    file: &'a str,
-    status: Status,
-    text: &'a str,
-    calls: u64,
-) -> Case<'a> {
-    Case {
-        words,
-        file,
-        failed_calls: &[],
-        failed_puts: &[],
-        status,
-        text,
-        copy: None,
-        calls,
-    }
-}
-
-#[test]
-fn runs_end_before_a_save(rt: HostRuntime) -> Result<(), Fail> {
-    let alloc = rt.alloc();
-    let usage = Status::Said(Verdict::Usage);
-    let cases = [
-        uncopied(&[], "four", usage, "usage\n", 0),
-        uncopied(&["a"], "four", usage, "usage\n", 0),
+        copy((2, 1), Status::OutputFailed, "", Some(b""), 2),
+        uncopied(&[], "four", USAGE, "usage\n", 0),
+        uncopied(&["a"], "four", USAGE, "usage\n", 0),
         uncopied(&["a", "b"], "fives", Status::TooLong, "too long\n", 1),
-        uncopied(
-            &["x", "b"],
-            "four",
-            Status::StoreFailed,
-            "store failed\n",
-            1,
-        ),
+        uncopied(&["x", "b"], "four", Status::StoreFailed, LOST, 1),
     ];
-    assert_eq!(rt; first_wrong(alloc, &cases)?, None);
+    assert_eq!(rt; first_wrong(rt.alloc(), &cases)?, None);
     Ok(())
 }

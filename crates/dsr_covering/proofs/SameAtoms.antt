@@ -1,5 +1,6 @@
 -- What a derived `==` says of two atoms: that they are the same.
 use Rattle.std.proofs.Common.{◌≡◌, ◌&&◌, ℕ, Bool, true, false, eqb, refl, ap, subst, Decides}
+use Rattle.std.proofs.lemmas.Bool.{false≢true}
 use Rattle.std.proofs.lemmas.Bool.Decides.{Decides-eqb}
 use Rattle.dsr_ir.specs.contracts.constraints.AtomEq.TheImpl.Laws.{laws-law}
 use Rattle.dsr_ir.specs.contracts.constraints.AtomPartialEq.TheImpl as atom
@@ -20,7 +21,7 @@ use Rattle.dsr_ir.specs.declared.rules.Op.TheVariants as ops
 
 both : (p q : Bool) → (p && q) ≡ true → (p ≡ true) × (q ≡ true)
 both true q e = (refl, e)
-both false q e = absurd cc
+both false q e = absurd (false≢true e)
 
 num : (a b : ℕ) → eqb a b ≡ true → a ≡ b
 num a b = (Decides-eqb a b).0
@@ -29,7 +30,7 @@ var_is : (a b : Var) → variable.ghosts.eq a b ≡ true → a ≡ b
 var_is vars.Head vars.Head e = refl
 var_is vars.First vars.First e = refl
 var_is vars.Second vars.Second e = refl
-var_is _ _ e = absurd cc
+var_is _ _ e = absurd (false≢true e)
 
 op_is : (a b : Op) → op.ghosts.eq a b ≡ true → a ≡ b
 op_is ops.Eq ops.Eq e = refl
@@ -38,7 +39,7 @@ op_is ops.Lt ops.Lt e = refl
 op_is ops.Le ops.Le e = refl
 op_is ops.Gt ops.Gt e = refl
 op_is ops.Ge ops.Ge e = refl
-op_is _ _ e = absurd cc
+op_is _ _ e = absurd (false≢true e)
 
 measure_is : (a b : Measure) → measure.ghosts.eq a b ≡ true → a ≡ b
 measure_is (measures.Whole s) (measures.Whole t) e = ap measures.Whole (num s t e)
@@ -48,12 +49,12 @@ measure_is (measures.Out v r) (measures.Out w q) e =
 measure_is (measures.Into r v) (measures.Into q w) e =
     let h = both (eqb r q) (variable.ghosts.eq v w) e in
     λ i. measures.Into (num r q h.0 i) (var_is v w h.1 i)
-measure_is _ _ e = absurd cc
+measure_is _ _ e = absurd (false≢true e)
 
 bound_is : (a b : Bound) → bound.ghosts.eq a b ≡ true → a ≡ b
 bound_is (bounds.Num m) (bounds.Num n) e = ap bounds.Num (num m n e)
 bound_is (bounds.Size m) (bounds.Size n) e = ap bounds.Size (measure_is m n e)
-bound_is _ _ e = absurd cc
+bound_is _ _ e = absurd (false≢true e)
 
 atom_is : (a b : Atom) → atom.ghosts.eq a b ≡ true → a ≡ b
 atom_is (atoms.Member v s) (atoms.Member w t) e =
@@ -72,7 +73,7 @@ atom_is (atoms.Value v r o b) (atoms.Value w q p c) e =
     let k = both (eqb r q) (op.ghosts.eq o p && bound.ghosts.eq b c) h.1 in
     let l = both (op.ghosts.eq o p) (bound.ghosts.eq b c) k.1 in
     λ i. atoms.Value (var_is v w h.0 i) (num r q k.0 i) (op_is o p l.0 i) (bound_is b c l.1 i)
-atom_is _ _ e = absurd cc
+atom_is _ _ e = absurd (false≢true e)
 
 pub atom_decides : (a b : Atom) → Decides (atom.ghosts.eq a b) (a ≡ b)
 atom_decides a b = (atom_is a b, λ e. subst (λ x. atom.ghosts.eq a x ≡ true) e (laws-law.refl a))

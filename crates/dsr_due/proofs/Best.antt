@@ -2,13 +2,12 @@
 use Rattle.std.proofs.Common.{◌≡◌, ◌<◌, ◌≤◌, ◌+◌, ◌⊎◌, ℕ, zero, suc, List, [], ◌∷◌, length, Option, None, Some, IsSomeAnd, MatchOption, inl, inr, refl, sym, ap, subst, ◌∙◌, slice_get, arith}
 use Rattle.std.proofs.lemmas.Bool.{cases_lt}
 use Rattle.std.proofs.lemmas.Option.{slice_get_cases}
-use Rattle.dsr_due.specs.Violations.{IsBest, IsBestBefore, IsNextViolation, NoneBefore, bound_of}
+use Rattle.dsr_due.specs.Violations.{IsBest, IsBestBefore, IsNextViolation}
 use Rattle.dsr_due.specs.declared.bindings.Violation.{Violation}
 use Rattle.dsr_ir.specs.declared.declarations.Spec.{Spec}
 use Rattle.dsr_ir.specs.declared.tuples.Binding.{Binding}
 use Rattle.dsr_ir.specs.declared.tuples.Fact.{Fact}
 use Rattle.dsr_meaning.specs.Consistency.{AreSatisfied, BoundConstraint, IsFirstViolated, IsViolated, NoneIsViolated}
-use Rattle.dsr_meaning.specs.Orders.{BindingPrecedes}
 use Rattle.dsr_planning.specs.declared.choices.Choice.{Choice}
 use Rattle.dsr_planning.specs.declared.choices.Row.{Row}
 

@@ -1,7 +1,6 @@
 -- What is chosen for a literal that is due, by what the model tells.
-use Rattle.std.proofs.Common.{◌≡◌, ◌<◌, ◌≤◌, ◌^◌, ◌⊎◌, ℕ, List, [], ◌∷◌, length, Option, None, Some, IsSomeAnd, inl, inr, refl, sym, ap, subst, ◌∙◌, slice_get, arith}
-use Rattle.std.proofs.lemmas.Option.{slice_get_within}
-use Rattle.dsr_applying.specs.Choices.{Adds, IsChosen, IsFresh, IsToGo, IsUpdateAt}
+use Rattle.std.proofs.Common.{◌≡◌, ◌≤◌, ℕ, List, length, Option, None, Some, IsSomeAnd, inl, inr, sym, subst, ◌∙◌, slice_get}
+use Rattle.dsr_applying.specs.Choices.{Adds, IsToGo, IsUpdateAt}
 use Rattle.dsr_applying.specs.Choices.IsUpdateAt.{adds, takes_away}
 use Rattle.dsr_due.proofs.Laws.{fact_to_go, few_updates, first_update, update_of_rule}
 use Rattle.dsr_feasible.proofs.GreatestFact.{facts_apart}

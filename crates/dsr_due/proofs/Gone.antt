@@ -1,5 +1,5 @@
 -- What holds of each item of a list that was gone over.
-use Rattle.std.proofs.Common.{◌≡◌, ◌<◌, ◌≤◌, ◌+◌, ◌⊎◌, ℕ, List, length, Option, None, Some, inl, inr, refl, sym, ap, subst, ◌∙◌, slice_get, get_or, arith}
+use Rattle.std.proofs.Common.{◌≡◌, ◌<◌, ◌≤◌, ◌+◌, ℕ, List, length, Some, inl, inr, sym, ap, subst, ◌∙◌, slice_get, get_or, arith}
 use Rattle.std.proofs.lemmas.Bool.{cases_lt}
 use Rattle.std.proofs.lemmas.Option.{slice_get-get_or, slice_get_within}
 

@@ -1,5 +1,5 @@
 -- The constraint and the row of a violated binding, as they are looked up.
-use Rattle.std.proofs.Common.{◌≡◌, ◌≤◌, ℕ, List, length, All, Option, None, Some, refl, sym, ap, subst, ◌∙◌, slice_get}
+use Rattle.std.proofs.Common.{◌≡◌, ◌≤◌, ℕ, List, length, All, Some, sym, subst, ◌∙◌, slice_get}
 use Rattle.dsr_ir.specs.declared.constraints.Conj.{Conj}
 use Rattle.dsr_ir.specs.declared.constraints.Constraint.{Constraint}
 use Rattle.dsr_ir.specs.declared.declarations.Spec.{Spec}
@@ -7,7 +7,6 @@ use Rattle.dsr_ir.specs.declared.tuples.Fact.{Fact}
 use Rattle.dsr_meaning.proofs.Firing.{found_fits}
 use Rattle.dsr_meaning.specs.Consistency.{BoundConstraint, ConjHolds, IsViolated}
 use Rattle.dsr_meaning.specs.Typed.{IsTyped, IsTypedConj, IsTypedConstraint}
-use Rattle.dsr_planning.specs.Plans.{IsRowOf}
 use Rattle.dsr_planning.specs.declared.choices.Choice.{Choice}
 use Rattle.dsr_planning.specs.declared.choices.Row.{Row}
 use Rattle.dsr_repairing.specs.Due.{IsDueBinding}

@@ -1,5 +1,5 @@
 -- The step that is made of what was chosen.
-use Rattle.std.proofs.Common.{◌≡◌, ℕ, List, Option, None, Some, refl, sym, ap, subst, ◌∙◌}
+use Rattle.std.proofs.Common.{ℕ, List, Option, sym, subst}
 use Rattle.dsr_applying.specs.Choices.{IsEntryAt, IsFresh, IsNumberFor, IsPlace, IsUpdateAt}
 use Rattle.dsr_due.proofs.Same.{fresh_or_none, number_same}
 use Rattle.dsr_due.specs.Chosen.{IsChosenFor, IsDueOf, IsStepFor}

@@ -1,10 +1,10 @@
 -- By a plan some conjunction's tests are passed, and of a violated constraint some literal there can be repaired.
-use Rattle.std.proofs.Common.{◌≡◌, ◌<◌, ◌⊎◌, ℕ, Bool, true, false, not, IsTrue, List, [], length, All, Option, None, Some, MatchBool, inl, inr, refl, sym, ap, subst, ◌∙◌, slice_get, get_or, arith, if◌then◌else◌}
+use Rattle.std.proofs.Common.{◌≡◌, ◌⊎◌, ℕ, Bool, true, false, not, IsTrue, List, [], All, Option, None, Some, inl, inr, refl, sym, ap, subst, ◌∙◌, slice_get, get_or, arith, if◌then◌else◌}
 use Rattle.std.specs.Option.{option_and_then, option_map_or}
 use Rattle.std.proofs.lemmas.Bool.{false≢true}
 use Rattle.std.proofs.lemmas.Option.{slice_get-get_or, slice_get_within}
 use Rattle.dsr_due.specs.Chosen.{AreDecided}
-use Rattle.dsr_due.specs.Literals.{AreTestsTrue, IsFalseAt, IsFirstFalse, IsFirstPassing, NoneIsFalse, NonePasses, Passes, ways_at}
+use Rattle.dsr_due.specs.Literals.{IsFalseAt, IsFirstFalse, IsFirstPassing, NoneIsFalse, NonePasses, Passes, ways_at}
 use Rattle.dsr_ir.specs.declared.constraints.Atom.{Atom}
 use Rattle.dsr_ir.specs.declared.constraints.Conj.{Conj}
 use Rattle.dsr_ir.specs.declared.constraints.Constraint.{Constraint}
@@ -13,10 +13,10 @@ use Rattle.dsr_ir.specs.declared.declarations.Spec.{Spec}
 use Rattle.dsr_ir.specs.declared.tuples.Binding.{Binding}
 use Rattle.dsr_ir.specs.declared.tuples.Fact.{Fact}
 use Rattle.dsr_ir.specs.declared.updates.Template.{Template}
-use Rattle.dsr_meaning.specs.Consistency.{BoundConstraint, ConjHolds, IsViolated}
-use Rattle.dsr_meaning.specs.Truth.{AtomHolds, LiteralHolds}
+use Rattle.dsr_meaning.specs.Consistency.{BoundConstraint, ConjHolds}
+use Rattle.dsr_meaning.specs.Truth.{LiteralHolds}
 use Rattle.dsr_meaning.proofs.Firing.{found_fits}
-use Rattle.dsr_planning.specs.Plans.{AreWaysFor, HasTemplate, IsPlan, IsRowOf, IsTested, SomeConjPasses, Truth, comes_out, owner_at, way_at}
+use Rattle.dsr_planning.specs.Plans.{IsPlan, IsRowOf, Truth, comes_out, way_at}
 use Rattle.dsr_planning.specs.declared.choices.Choice.{Choice}
 use Rattle.dsr_planning.specs.declared.choices.Row.{Row}
 use Rattle.dsr_planning.specs.declared.choices.Way.{Way}

@@ -1,6 +1,6 @@
 -- Where the same is a fact, the same is due and the same is chosen.
-use Rattle.std.proofs.Common.{◌≡◌, ◌↔◌, ◌<◌, ◌⊎◌, ℕ, List, Option, None, Some, IsSomeAnd, MatchOption, inl, inr, refl, sym, ap, subst, ◌∙◌, slice_get}
-use Rattle.dsr_applying.specs.Choices.{Adds, CountsNothing, IsFresh, IsFreshFrom, IsNumberFor, IsOutside, IsSupplied, IsToGo, written_size}
+use Rattle.std.proofs.Common.{◌≡◌, ℕ, List, Option, None, Some, IsSomeAnd, MatchOption, inl, inr}
+use Rattle.dsr_applying.specs.Choices.{Adds, CountsNothing, IsFresh, IsFreshFrom, IsNumberFor, IsOutside, IsToGo, written_size}
 use Rattle.dsr_due.specs.Chosen.{AreDecided}
 use Rattle.dsr_due.specs.Supplies.{IsTaken}
 use Rattle.dsr_ir.specs.declared.constraints.Atom.{Atom}
@@ -19,19 +19,15 @@ use Rattle.dsr_ir.specs.declared.updates.Goal.{Goal}
 use Rattle.dsr_ir.specs.declared.updates.Goal.TheVariants as goals
 use Rattle.dsr_ir.specs.declared.updates.Template.{Template}
 use Rattle.dsr_ir.specs.declared.updates.Write.{Write}
-use Rattle.dsr_meaning.specs.Consistency.{AreSatisfied, BoundConstraint, IsViolated}
-use Rattle.dsr_meaning.specs.Counting.{IsIn}
-use Rattle.dsr_meaning.specs.Looking.{IsCounted}
-use Rattle.dsr_meaning.specs.Orders.{FactPrecedes, Precedes}
-use Rattle.dsr_meaning.specs.Truth.{HasSize, LiteralHolds}
+use Rattle.dsr_meaning.specs.Consistency.{AreSatisfied, BoundConstraint}
+use Rattle.dsr_meaning.specs.Truth.{HasSize}
 use Rattle.dsr_meaning.specs.Typed.{pool_at}
 use Rattle.dsr_planning.specs.declared.choices.Choice.{Choice}
 use Rattle.dsr_planning.specs.declared.choices.Row.{Row}
 use Rattle.dsr_repairing.specs.Due.{IsDue, IsDueBinding, IsDueConj, IsDueLiteral, IsToRepair, TestsHold}
 use Rattle.dsr_repairing.specs.Turns.{IsUsedUp}
-use Rattle.dsr_seen.proofs.SameFacts.{AreSame, literal_same, size_same, turned, violated_same}
+use Rattle.dsr_seen.proofs.SameFacts.{AreSame, literal_same, size_same, violated_same}
 use Rattle.dsr_stepping.specs.Steps.{IsSlot}
-use Rattle.dsr_updating.specs.Templates.{literal_at}
 
 module _ (P Q : Fact → Type 0) (same : AreSame P Q) where
   abbrev back : AreSame Q P

@@ -1,5 +1,5 @@
 -- Writes that are made one after the other, with what they set.
-use Rattle.std.proofs.Common.{◌≡◌, ◌<◌, ◌+◌, ℕ, List, [], ◌∷◌, ◌++◌, Option, None, Some, MatchOption, length, take, get_or, refl, sym, ap, subst, ◌∙◌, arith}
+use Rattle.std.proofs.Common.{◌≡◌, ◌<◌, ◌+◌, ℕ, List, [], ◌∷◌, ◌++◌, Some, MatchOption, length, take, get_or, refl, sym, subst}
 use Rattle.std.proofs.lemmas.List.{take_more}
 use Rattle.dsr_ir.specs.declared.declarations.Spec.{Spec}
 use Rattle.dsr_ir.specs.declared.layouts.Layout.{Layout}

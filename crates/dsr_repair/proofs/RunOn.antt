@@ -1,11 +1,10 @@
 -- A run that goes on.
-use Rattle.std.proofs.Common.{◌≡◌, ℕ, List, [], ◌∷◌, ◌++◌, Option, None, Some, slice_get, refl, sym, ap, subst, ◌∙◌}
-use Rattle.std.specs.Option.{option_and_then}
+use Rattle.std.proofs.Common.{◌≡◌, ℕ, List, [], ◌∷◌, ◌++◌, sym, subst}
 use Rattle.dsr_ir.specs.declared.declarations.Spec.{Spec}
 use Rattle.dsr_ir.specs.declared.layouts.Layout.{Layout}
 use Rattle.dsr_planning.specs.declared.choices.Choice.{Choice}
 use Rattle.dsr_repairing.specs.Runs.{IsDueEntry, IsPartRun}
-use Rattle.dsr_repairing.specs.Runs.IsPartRun.{begins, goes_on}
+use Rattle.dsr_repairing.specs.Runs.IsPartRun.{goes_on}
 use Rattle.dsr_repairing.specs.declared.entries.Entry.{Entry}
 
 module _ (spec : Spec) (choice : Choice) (layout : Layout) where

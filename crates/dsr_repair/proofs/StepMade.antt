@@ -1,5 +1,5 @@
 -- A step that is due, made: which update the plan has for it, and what it leaves.
-use Rattle.std.proofs.Common.{◌≡◌, ◌∙◌, ◌<◌, ◌≤◌, ℕ, List, [], ◌∷◌, ◌++◌, length, All, Option, None, Some, slice_get, get_or, refl, arith, sym, ap, subst}
+use Rattle.std.proofs.Common.{◌≡◌, ◌∙◌, ℕ, List, length, Option, None, Some, slice_get, get_or, refl, arith, sym, ap, subst}
 use Rattle.std.proofs.lemmas.Option.{same_Some}
 use Rattle.std.specs.Option.{option_and_then}
 use Rattle.dsr_applying.specs.Choices.{IsUpdateAt}
@@ -21,11 +21,7 @@ use Rattle.dsr_made.specs.Made.{IsMade}
 use Rattle.dsr_made.proofs.Changed.{all_within}
 use Rattle.dsr_planning.specs.Plans.{IsPlan, way_at}
 use Rattle.dsr_planning.specs.declared.choices.Choice.{Choice}
-use Rattle.dsr_planning.specs.declared.choices.Row.{Row}
-use Rattle.dsr_planning.specs.declared.choices.Way.{Way}
-use Rattle.dsr_planning.specs.declared.choices.Way.TheVariants.{By}
 use Rattle.dsr_repair.specs.Planned.{chosen_update, update_in}
-use Rattle.dsr_repair.specs.Stepping.{IsLogged}
 use Rattle.dsr_repairing.specs.Entries.{AreSet, IsEntryOf, changes}
 use Rattle.dsr_repairing.specs.Entries.AreSet.{done as nothing_set, made as set, skipped as left}
 use Rattle.dsr_repairing.specs.Images.{IsImageOf}
@@ -34,7 +30,7 @@ use Rattle.dsr_repairing.specs.declared.entries.ByteChange.{ByteChange}
 use Rattle.dsr_repairing.specs.declared.entries.CellSet.{CellSet}
 use Rattle.dsr_repairing.specs.declared.entries.Entry.{Entry}
 use Rattle.dsr_resolved.proofs.AcceptedLayouts.{legal_of}
-use Rattle.dsr_stepping.specs.Steps.{AreWritten, CanStep, IsStepped}
+use Rattle.dsr_stepping.specs.Steps.{AreWritten, CanStep}
 use Rattle.dsr_stepping.specs.Steps.AreWritten.{done, made, skipped}
 use Rattle.dsr_stepping.specs.declared.steps.Step.{Step}
 

@@ -10,7 +10,6 @@ use Rattle.dsr_repairing.specs.Runs.{IsDueEntry}
 use Rattle.dsr_repairing.specs.declared.entries.Entry.{Entry}
 use Rattle.dsr_repairing.specs.declared.turns.Turn.{Turn}
 use Rattle.dsr_repairing.specs.declared.turns.Turn.TheVariants as turns
-use Rattle.dsr_stepping.specs.declared.steps.Step.{Step}
 
 -- the layout is that of the image, and the model too
 pub record IsModelled (spec : Spec) (layout : Layout) (bytes : List ℕ) (view : ModelView) : Type 0 where

@@ -1,5 +1,4 @@
 -- No update before this one takes away what the rule gives.
-use Rattle.std.proofs.Common.{◌≡◌}
 use Rattle.dsr_due.proofs.Gone.{EachBefore}
 use Rattle.dsr_due.specs.Chosen.{IsUpdateBy}
 use Rattle.dsr_due.proofs.choosing.update_by.Given as goal

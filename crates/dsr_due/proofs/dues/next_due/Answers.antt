@@ -1,5 +1,4 @@
 -- The literal that is due on an image, by its model.
-use Rattle.std.proofs.Common.{inl, inr}
 use Rattle.dsr_decided.proofs.Models.{facts_listed}
 use Rattle.dsr_decided.proofs.Truths.{literal_decided}
 use Rattle.dsr_due.proofs.Same.{decided_same, due_same, satisfied}

@@ -1,5 +1,4 @@
 -- The record is a member of no set before this one.
-use Rattle.std.proofs.Common.{ℕ}
 use Rattle.dsr_due.proofs.Gone.{EachBefore}
 use Rattle.dsr_ir.specs.declared.tuples.Fact.TheVariants.{Member}
 use Rattle.dsr_model.specs.Facts.{IsInModel}

@@ -1,5 +1,4 @@
 -- The first literal that has a template and is false.
-use Rattle.std.proofs.Common.{◌≡◌, Some, sym, ap, ◌∙◌, subst, slice_get, get_or}
 use Rattle.dsr_due.proofs.Gone.{each_done, each_more, got_of, within_of}
 use Rattle.dsr_due.specs.Literals.{IsFalseAt}
 use Rattle.dsr_ir.specs.declared.updates.Template.{Template}

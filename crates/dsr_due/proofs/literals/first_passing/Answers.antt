@@ -1,5 +1,5 @@
 -- The first conjunction that passes its tests.
-use Rattle.std.proofs.Common.{◌≡◌, Some, sym, ap, ◌∙◌, subst, slice_get, get_or}
+use Rattle.std.proofs.Common.{sym, ap, ◌∙◌, subst, slice_get}
 use Rattle.std.proofs.lemmas.Bool.{false≢true}
 use Rattle.dsr_due.proofs.Gone.{each_done, each_more, got, within_of}
 use Rattle.dsr_due.specs.Literals.{AreTestsTrue, Passes}

@@ -1,5 +1,5 @@
 -- Whether all tested literals are true.
-use Rattle.std.proofs.Common.{◌≡◌, Some, refl, slice_get, get_or}
+use Rattle.std.proofs.Common.{◌≡◌, Some, refl, slice_get}
 use Rattle.std.proofs.lemmas.Bool.{false≢true}
 use Rattle.dsr_due.proofs.Gone.{each_done, each_more, got_of, within_of}
 use Rattle.dsr_meaning.specs.Truth.{LiteralHolds}

@@ -1,5 +1,5 @@
 -- The entry of a step.
-use Rattle.std.proofs.Common.{◌∙◌, refl, sym, ap, subst, length}
+use Rattle.std.proofs.Common.{◌∙◌, ap, length}
 use Rattle.dsr_made.proofs.Sets.{entry_made}
 use Rattle.dsr_repairing.specs.Entries.{changes}
 use Rattle.dsr_update.proofs.StepLayouts.{all_there, step_legal}

@@ -1,7 +1,6 @@
 -- The writes, one after the other.
 use Rattle.std.proofs.Common.{◌∙◌, ◌+◌, [], refl, sym, subst, take}
 use Rattle.dsr_made.proofs.Sets.{sets_next}
-use Rattle.dsr_made.specs.Made.{set_of}
 use Rattle.dsr_repairing.specs.Entries.{AreSet}
 use Rattle.dsr_repairing.specs.Entries.AreSet.{done}
 use Rattle.dsr_made.proofs.entries.set_all.Goals as goal

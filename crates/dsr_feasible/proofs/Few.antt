@@ -1,9 +1,9 @@
 -- A template that is due has few updates: one, or one for each rule of a symbol, or both.
-use Rattle.std.proofs.Common.{◌≡◌, ◌≤◌, ◌+◌, ◌⊎◌, ℕ, suc, Bool, true, false, List, [], ◌∷◌, ◌++◌, length, map, Option, None, Some, option_map, inl, inr, refl, sym, ap, subst, ◌∙◌, arith, if◌then◌else◌}
+use Rattle.std.proofs.Common.{◌≡◌, ◌≤◌, ℕ, suc, Bool, true, false, List, [], ◌∷◌, length, map, Option, None, Some, option_map, inl, inr, ap, arith, if◌then◌else◌}
 use Rattle.std.proofs.lemmas.List.{length-append, length-map}
 use Rattle.std.specs.List.{cons_option, filter_map}
 use Rattle.dsr_feasible.proofs.DueForms.{IsDueForm}
-use Rattle.dsr_feasible.proofs.RawForms.{AddsOne, IsRemoval, RawForm, Removes, SuppliesOrTrims}
+use Rattle.dsr_feasible.proofs.RawForms.{IsRemoval, RawForm}
 use Rattle.dsr_ir.specs.Rules.{gives}
 use Rattle.dsr_ir.specs.declared.constraints.Atom.{Atom}
 use Rattle.dsr_ir.specs.declared.constraints.Literal.{Literal}
@@ -15,12 +15,12 @@ use Rattle.dsr_ir.specs.declared.constraints.Var.{Var}
 use Rattle.dsr_ir.specs.declared.updates.Symbol.{Symbol}
 use Rattle.dsr_ir.specs.declared.updates.Template.{Template}
 use Rattle.dsr_ir.specs.declared.updates.Update.{Update}
-use Rattle.dsr_listing.specs.Lists.{compensated_by, with_writes}
+use Rattle.dsr_listing.specs.Lists.{with_writes}
 use Rattle.dsr_meaning.specs.Lists.{each_at}
 use Rattle.dsr_meaning.specs.Typed.{IsTyped}
 use Rattle.dsr_updating.specs.Givers.{givers}
 use Rattle.dsr_updating.specs.Options.{options}
-use Rattle.dsr_updating.specs.Templates.{item_or_last, removal_updates, removing}
+use Rattle.dsr_updating.specs.Templates.{item_or_last, removing}
 
 one_more : {Y : Type 0} (o : Option Y) (ys : List Y) (n : ℕ) → length ys ≤ n → length (cons_option o ys) ≤ suc n
 one_more None ys n few = omega (arith, few)

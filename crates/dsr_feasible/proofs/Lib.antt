@@ -4,7 +4,6 @@ pub mod MakingRaws
 pub mod MakingWrites
 pub mod MakingEntries
 pub mod MakingRecords
-pub mod MakingKnown
 pub mod MakingHead
 pub mod MakingCan
 pub mod MakingRemovals

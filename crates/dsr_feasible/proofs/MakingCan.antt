@@ -30,7 +30,8 @@ use Rattle.dsr_updating.specs.Options.{options, reference_write, target_option}
 use Rattle.dsr_updating.specs.Templates.{all_true, others, target_writes, value_write}
 use Rattle.dsr_feasible.proofs.MakingEntries.{FitsField, SameEntry, can_write, none_fits_field}
 use Rattle.dsr_feasible.proofs.MakingHead.{of_head}
-use Rattle.dsr_feasible.proofs.MakingItems.{chained_from, from_filter, in_parts}
+use Rattle.dsr_feasible.proofs.FormItems.{in_either, in_filter}
+use Rattle.dsr_feasible.proofs.MakingItems.{chained_from}
 use Rattle.dsr_feasible.proofs.MakingWrites.{IsFitPick, IsOpenWrite, fit_pick, is_free, of_guard, of_reference, of_value}
 
 -- the write can be made, is of no fixed field, and of one of the head's where it writes the head
@@ -95,10 +96,10 @@ module _ (spec : Spec) (bytes : List ℕ) (layout : Layout) (is : IsLayoutOf spe
 
     -- one option by which the instance can be made to give nothing
     pub option_made : (write : Write) → IsIn write (options spec.base rule) → IsMade spec layout step write
-    option_made write is_in = elim (in_parts write (filter_map (guard_write spec.base false) rule.guards) (target_option spec.base rule) is_in) as (λ _. IsMade spec layout step write) [
+    option_made write is_in = elim (in_either write (filter_map (guard_write spec.base false) rule.guards) (target_option spec.base rule) is_in) as (λ _. IsMade spec layout step write) [
       | inl of_guards ↦
-          let found = from_filter (guard_write spec.base false) rule.guards write of_guards in
-          guard_made false found.item write found.among found.gives
+          let found = in_filter (guard_write spec.base false) rule.guards write of_guards in
+          guard_made false found.from write found.among found.is
       | inr of_target ↦ elim (option_and_then (reference_write spec.base picks.NoneCode) (target_of rule.inc)) as (λ o. option_and_then (reference_write spec.base picks.NoneCode) (target_of rule.inc) ≡ o → IsIn write (option_map_or (λ w. w ∷ []) o []) → IsMade spec layout step write) [
         | None ↦ λ _ no. absurd no
         | Some w ↦ λ e found. elim found as (λ _. IsMade spec layout step write) [

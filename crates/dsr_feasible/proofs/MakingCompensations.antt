@@ -35,7 +35,8 @@ use Rattle.dsr_updating.specs.Guards.{guard_write}
 use Rattle.dsr_updating.specs.Touching.{is_removal}
 use Rattle.dsr_feasible.proofs.MakingCan.{IsMade, guard_made}
 use Rattle.dsr_feasible.proofs.MakingEntries.{SameEntry}
-use Rattle.dsr_feasible.proofs.MakingItems.{from_filter, in_take, mapped_from, only_item, without}
+use Rattle.dsr_feasible.proofs.FormItems.{in_filter}
+use Rattle.dsr_feasible.proofs.MakingItems.{in_take, mapped_from, only_item, without}
 use Rattle.dsr_feasible.proofs.MakingRecords.{head_record, of_rule, var_record}
 use Rattle.dsr_feasible.proofs.MakingRemovals.{derived_by}
 
@@ -56,14 +57,14 @@ pub record IsPrevention (c : Change) (rules : List Rule) (write : Write) : Type 
 
 of_preventing : (c : Change) (rule : Rule) (rules : List Rule) (write : Write) → IsIn rule rules → MayGive c rule → preventing c rule ≡ Some write → IsPrevention c rules write
 of_preventing c rule rules write among may e =
-    let found = from_filter (preventing_write c) rule.guards write (first_in (filter_map (preventing_write c) rule.guards) write e) in
+    let found = in_filter (preventing_write c) rule.guards write (first_in (filter_map (preventing_write c) rule.guards) write e) in
     record {
       rule = rule;
       among = among;
       may = may;
-      guard = found.item;
+      guard = found.from;
       guard_in = found.among;
-      write_is = (without (is_written c found.item.path.field || reads_itself c found.item.path.field) (guard_write c.spec.base false found.item) write found.gives).1;
+      write_is = (without (is_written c found.from.path.field || reads_itself c found.from.path.field) (guard_write c.spec.base false found.from) write found.is).1;
     }
 
 later_rule : (c : Change) (rule : Rule) (rules : List Rule) (write : Write) → IsPrevention c rules write → IsPrevention c (rule ∷ rules) write

@@ -45,7 +45,8 @@ use Rattle.dsr_meaning.specs.Truth.{element_of}
 use Rattle.dsr_updating.specs.Givers.{IsGiver, givers, is_own, is_single}
 use Rattle.dsr_updating.specs.Options.{options}
 use Rattle.dsr_updating.specs.Templates.{AreOnce, AreRaw, AreSized, AreTemplates, AreTrims, AreValued, KnownSets, adding, all_removals, all_true, counted_of, counted_symbol, is_target, item_or_last, joins_by, lacks_option, listed, most_options, pick_of, place_of, referred, relates_by, removal_at, removal_place, removal_updates, removing, serves, setting, settings, supplies, supplies_by, target_writes, value_write, variables, with_trims}
-use Rattle.dsr_feasible.proofs.MakingItems.{both_true, chained_from, failed_in, from_filter, from_flat, from_givers, from_map, is_giver, item_at, mapped_from, of_listed, only_item, passed_from, passed_in, without}
+use Rattle.dsr_feasible.proofs.FormItems.{in_filter, in_flat, in_giver, in_givers, in_map}
+use Rattle.dsr_feasible.proofs.MakingItems.{both_true, chained_from, failed_in, item_at, mapped_from, of_listed, only_item, passed_from, passed_in, without}
 
 -- ---- kinds of updates
 
@@ -212,14 +213,14 @@ module _ (spec : Spec) (known : KnownSets) where
 
   supply : (quant : Quant) (measure : Measure) (template : Template) → IsIn template (supplies spec known quant measure) → IsSupply template
   supply quant (Whole set) template is_in =
-      let by = from_givers spec (symbols.Set set) (λ k rule. if is_target rule.inc then flat_map (λ v. supplies_by spec.base known v k rule) (variables quant) else []) template is_in in
-      let test = passed_in (is_target by.rule.inc) (flat_map (λ v. supplies_by spec.base known v by.k by.rule) (variables quant)) template by.there in
-      let found = from_flat (λ v. supplies_by spec.base known v by.k by.rule) (variables quant) template test.1 in
-      supply_by found.item by.k by.rule template by.giver.rule_is found.there
+      let by = in_giver spec (symbols.Set set) (λ k rule. if is_target rule.inc then flat_map (λ v. supplies_by spec.base known v k rule) (variables quant) else []) template is_in in
+      let test = passed_in (is_target by.rule.inc) (flat_map (λ v. supplies_by spec.base known v by.number by.rule) (variables quant)) template by.is_in in
+      let found = in_flat (λ v. supplies_by spec.base known v by.number by.rule) (variables quant) template test.1 in
+      supply_by found.from by.number by.rule template by.giver.rule_is found.is_in
   supply quant (Out v rel) template is_in =
-      let by = from_givers spec (symbols.Rel rel) (λ k rule. if is_own rule.inc && is_some (option_and_then (λ r. r.target) (slice_get spec.base.rels rel)) then supplies_by spec.base known v k rule else []) template is_in in
-      let test = passed_in (is_own by.rule.inc && is_some (option_and_then (λ r. r.target) (slice_get spec.base.rels rel))) (supplies_by spec.base known v by.k by.rule) template by.there in
-      supply_by v by.k by.rule template by.giver.rule_is test.1
+      let by = in_giver spec (symbols.Rel rel) (λ k rule. if is_own rule.inc && is_some (option_and_then (λ r. r.target) (slice_get spec.base.rels rel)) then supplies_by spec.base known v k rule else []) template is_in in
+      let test = passed_in (is_own by.rule.inc && is_some (option_and_then (λ r. r.target) (slice_get spec.base.rels rel))) (supplies_by spec.base known v by.number by.rule) template by.is_in in
+      supply_by v by.number by.rule template by.giver.rule_is test.1
   supply quant (Into rel v) template is_in = absurd is_in
 
 -- ---- updates that remove
@@ -277,14 +278,14 @@ module _ (is_fact : Fact → Type 0) where
         let rules = givers spec symbol in
         let each : ℕ → Template = λ j. record { goal = by; updates = removal_updates spec.base v j rules } in
         let among = failed_in (lacks_option spec.base rules) (map each (range_with_len 0 (most_options spec.base rules))) template is_in in
-        let one = from_map each (range_with_len 0 (most_options spec.base rules)) template among in
-        let there = item_at (removal_updates spec.base v one.item rules) n u (sym (ap (λ (t : Template). slice_get t.updates n) one.is) ∙ at) in
-        let of = from_filter (λ (r : ℕ × Rule). option_map (removing v r.0 r.1) (item_or_last (options spec.base r.1) one.item)) rules u there in
-        let r = of.item in
-        let write = mapped_from (removing v r.0 r.1) (item_or_last (options spec.base r.1) one.item) u of.gives in
-        let giver = is_giver spec symbol r of.among in
+        let one = in_map each (range_with_len 0 (most_options spec.base rules)) template among in
+        let there = item_at (removal_updates spec.base v one.from rules) n u (sym (ap (λ (t : Template). slice_get t.updates n) one.is) ∙ at) in
+        let of = in_filter (λ (r : ℕ × Rule). option_map (removing v r.0 r.1) (item_or_last (options spec.base r.1) one.from)) rules u there in
+        let r = of.from in
+        let write = mapped_from (removing v r.0 r.1) (item_or_last (options spec.base r.1) one.from) u of.is in
+        let giver = in_givers spec symbol r of.among in
         option_written v r.0 r.1 write.0 goal m u write.1.1 giver.rule_is
-        (item_at (options spec.base r.1) (min one.item (length (options spec.base r.1) - 1)) write.0 write.1.0) source never
+        (item_at (options spec.base r.1) (min one.from (length (options spec.base r.1) - 1)) write.0 write.1.0) source never
 
 -- the goal of a removal
 removal_goal : (spec : Spec) (symbol : Symbol) (by : Goal) (v : Option Var) (template : Template) → IsIn template (all_removals spec symbol by v) → template.goal ≡ by
@@ -292,7 +293,7 @@ removal_goal spec symbol by v template is_in =
     let rules = givers spec symbol in
     let each : ℕ → Template = λ j. record { goal = by; updates = removal_updates spec.base v j rules } in
     let among = failed_in (lacks_option spec.base rules) (map each (range_with_len 0 (most_options spec.base rules))) template is_in in
-    ap (λ (t : Template). t.goal) (from_map each (range_with_len 0 (most_options spec.base rules)) template among).is
+    ap (λ (t : Template). t.goal) (in_map each (range_with_len 0 (most_options spec.base rules)) template among).is
 
 -- ---- updates that set a value
 
@@ -358,7 +359,7 @@ module _ (spec : Spec) (known : KnownSets) where
   set_among : (v : Var) (rel : ℕ) (op : Op) (bound : Bound) (rules : List (ℕ × Rule)) (template : Template) (n : ℕ) (u : Update) → givers spec (symbols.Rel rel) ≡ rules → reaches_bound op ≡ true → IsIn template (settings spec.base v (pick_of bound) rules) → slice_get template.updates n ≡ Some u → IsSetting spec (atoms.Value v rel op bound) u
   set_among v rel op bound [] template n u are reaches is_in at = absurd is_in
   set_among v rel op bound (r ∷ []) template n u are reaches is_in at =
-      let giver = is_giver spec (symbols.Rel rel) r (subst (IsIn r) (sym are) (inl refl)) in
+      let giver = in_givers spec (symbols.Rel rel) r (subst (IsIn r) (sym are) (inl refl)) in
       set_by v rel op bound r.0 r.1 r.1.inc template n u refl reaches giver (of_listed (setting spec.base v (pick_of bound) r.0 r.1 r.1.inc) template is_in) at
   set_among v rel op bound (r ∷ q ∷ rest) template n u are reaches is_in at = absurd is_in
 
@@ -392,15 +393,15 @@ module _ (is_fact : Fact → Type 0) (spec : Spec) (known : KnownSets) (quant : 
   raw_both : (measure : Measure) (op : Op) (k : ℕ) (trims : List Template) (template : Template) (n : ℕ) (u : Update) → AreTrims spec measure trims → IsIn template (with_trims (supplies spec known quant measure) trims) → slice_get template.updates n ≡ Some u → IsRaw (atoms.Count measure op k) template n u
   raw_both measure op k trims template n u are is_in at =
       let both : Template → Template → Template = λ s t. record { goal = goals.ExactlyOne; updates = s.updates ++ t.updates } in
-      let first = from_flat (λ s. map (both s) trims) (supplies spec known quant measure) template is_in in
-      let second = from_map (both first.item) trims template first.there in
-      let by = supply spec known quant measure first.item first.among in
+      let first = in_flat (λ s. map (both s) trims) (supplies spec known quant measure) template is_in in
+      let second = in_map (both first.from) trims template first.is_in in
+      let by = supply spec known quant measure first.from first.among in
       let one = added by.k by.v by.fresh by.writes in
-      let there : slice_get (one ∷ second.item.updates) n ≡ Some u =
-      sym (ap (λ (s : Template). slice_get (s.updates ++ second.item.updates) n) by.template_is) ∙ (sym (ap (λ (t : Template). slice_get t.updates n) second.is) ∙ at) in
-      at_place n one second.item.updates there
+      let there : slice_get (one ∷ second.from.updates) n ≡ Some u =
+      sym (ap (λ (s : Template). slice_get (s.updates ++ second.from.updates) n) by.template_is) ∙ (sym (ap (λ (t : Template). slice_get t.updates n) second.is) ∙ at) in
+      at_place n one second.from.updates there
       (λ same. IsRawUpdate.supplied (subst (IsSupplying spec known) (sym same) by.supplying))
-      (λ m is later. IsRawUpdate.removes (trimmed measure op k trims second.item m u template.goal n are second.among later (λ b adds none. absurd (let no : suc m ≡ 0 = sym is ∙ none in cc)))) where
+      (λ m is later. IsRawUpdate.removes (trimmed measure op k trims second.from m u template.goal n are second.among later (λ b adds none. absurd (let no : suc m ≡ 0 = sym is ∙ none in cc)))) where
         at_place : {P : Type 0} (place : ℕ) (x : Update) (xs : List Update) → slice_get (x ∷ xs) place ≡ Some u → (u ≡ x → P) → ((m : ℕ) → place ≡ suc m → slice_get xs m ≡ Some u → P) → P
         at_place zero x xs e here later = here (sym (same_Some x u e))
         at_place (suc m) x xs e here later = later m refl e
@@ -427,15 +428,15 @@ module _ (is_fact : Fact → Type 0) (spec : Spec) (known : KnownSets) (quant : 
 
   raw_atom : (atom : Atom) (negated : Bool) (ts : List Template) → AreTemplates spec known quant atom negated ts → (template : Template) → IsIn template ts → (n : ℕ) (u : Update) → slice_get template.updates n ≡ Some u → IsRaw atom template n u
   raw_atom (atoms.Member v set) false ts are template is_in n u at =
-      let by = from_givers spec (symbols.Set set) (joins_by spec.base known v) template (subst (IsIn template) are is_in) in
-      IsRawUpdate.joins (joined spec known v by.k by.rule template n u by.giver.rule_is by.there at)
+      let by = in_giver spec (symbols.Set set) (joins_by spec.base known v) template (subst (IsIn template) are is_in) in
+      IsRawUpdate.joins (joined spec known v by.number by.rule template n u by.giver.rule_is by.is_in at)
   raw_atom (atoms.Member v set) true ts are template is_in n u at =
       let all = once_from are template is_in in
       IsRawUpdate.removes (removed is_fact spec (atoms.Member v set) (symbols.Set set) goals.RemoveSet (Some v) template n u template.goal n all at (member_source is_fact v set)
       (λ b adds none. subst (λ g. Adds is_fact b (atoms.Member v set) g) (removal_goal spec (symbols.Set set) goals.RemoveSet (Some v) template all) adds))
   raw_atom (atoms.Pair v w rel) false ts are template is_in n u at =
-      let by = from_givers spec (symbols.Rel rel) (relates_by spec.base known v w) template (subst (IsIn template) are is_in) in
-      IsRawUpdate.relates (related spec known v w rel by.k by.rule template n u by.giver by.there at)
+      let by = in_giver spec (symbols.Rel rel) (relates_by spec.base known v w) template (subst (IsIn template) are is_in) in
+      IsRawUpdate.relates (related spec known v w rel by.number by.rule template n u by.giver by.is_in at)
   raw_atom (atoms.Pair v w rel) true ts are template is_in n u at =
       let all = once_from are template is_in in
       IsRawUpdate.removes (removed is_fact spec (atoms.Pair v w rel) (symbols.Rel rel) goals.RemoveTuple (Some v) template n u template.goal n all at (pair_source is_fact v w rel)

@@ -1,5 +1,5 @@
 -- A step that is due can be made, writes no fixed field, and in the head none but fields of its structure.
-use Rattle.std.proofs.Common.{◌≡◌, ◌∙◌, ℕ, List, ◌++◌, All, length, Option, None, Some, IfSome, inl, inr, refl, sym, subst, slice_get}
+use Rattle.std.proofs.Common.{◌≡◌, ◌∙◌, ℕ, List, ◌++◌, All, length, Option, None, Some, IfSome, inl, inr, refl, sym, ap, subst, slice_get}
 use Rattle.std.proofs.lemmas.Option.{same_Some}
 use Rattle.dsr_applying.specs.Choices.{IsEntryAt, IsFresh, IsFreshFrom, IsNumberFor, IsPlace, IsUpdateAt}
 use Rattle.dsr_ir.specs.declared.constraints.Atom.{Atom}
@@ -14,7 +14,6 @@ use Rattle.dsr_ir.specs.declared.updates.Template.{Template}
 use Rattle.dsr_ir.specs.declared.updates.Update.{Update}
 use Rattle.dsr_ir.specs.declared.updates.Write.{Write}
 use Rattle.dsr_layout.proofs.Meanings.{found_holds}
-use Rattle.dsr_listing.specs.Candidates.{AreCompensations}
 use Rattle.dsr_meaning.specs.Consistency.{IsBinding}
 use Rattle.dsr_meaning.specs.Counting.{IsIn}
 use Rattle.dsr_meaning.specs.Models.{IsFact}
@@ -27,13 +26,14 @@ use Rattle.dsr_repairing.specs.Turns.{IsDueStep}
 use Rattle.dsr_stepped.proofs.Items.{all_of}
 use Rattle.dsr_stepping.specs.Steps.{CanStep, CanWrite, IsSlot}
 use Rattle.dsr_stepping.specs.declared.steps.Step.{Step}
-use Rattle.dsr_updating.specs.Templates.{AreRaw, KnownSets, TellsKnown, literal_at}
+use Rattle.dsr_updating.specs.Templates.{KnownSets, TellsKnown, literal_at}
 use Rattle.dsr_feasible.proofs.MakingAdditions.{joining_made, relating_made, supplying_made}
 use Rattle.dsr_feasible.proofs.MakingCan.{IsMade}
 use Rattle.dsr_feasible.proofs.MakingCompensations.{compensation_made}
-use Rattle.dsr_feasible.proofs.MakingForms.{IsFormed, IsWithSome, of_plan}
-use Rattle.dsr_feasible.proofs.MakingItems.{chained_from, in_parts, item_at, some_and}
-use Rattle.dsr_feasible.proofs.MakingKnown.{by_any_table}
+use Rattle.dsr_feasible.proofs.FormItems.{in_either}
+use Rattle.dsr_feasible.proofs.Forms.{IsFormOf, row_form}
+use Rattle.dsr_feasible.proofs.MakingForms.{IsWithSome, of_form}
+use Rattle.dsr_feasible.proofs.MakingItems.{chained_from, item_at, some_and}
 use Rattle.dsr_feasible.proofs.MakingRaws.{IsRawUpdate, IsRemoving, raw_updates}
 use Rattle.dsr_feasible.proofs.MakingRemovals.{removal_made}
 use Rattle.dsr_feasible.proofs.MakingValues.{IsLiteralOf, setting_made}
@@ -85,7 +85,7 @@ module _ (spec : Spec) (choice : Choice) (layout : Layout) (bytes : List ℕ) (s
       subst (λ (x : Constraint). IsBinding (IsFact spec layout bytes) x.quant step.binding) same violated.is_binding
 
   -- of the update of a raw template, behind which some writes more stand
-  module _ (tried : List Template) (are_raw : (known : KnownSets) → TellsKnown spec c.quant known → AreRaw spec known c.quant its tried) (raw : Template) (raw_in : IsIn raw tried) (goal_same : due.template.goal ≡ raw.goal) (compensations : List Write) (u : Update) (at : slice_get raw.updates step.update ≡ Some u) (with_some : IsWithSome compensations u update) where
+  module _ (form : IsFormOf (owner_at spec step.constraint c) its due.template) (u : Update) (at : slice_get form.raw.updates step.update ≡ Some u) (with_some : IsWithSome form.compensations u update) where
     place : IsPlace step.binding due.chosen.stopped u.place step.elem
     place = subst (λ p. IsPlace step.binding due.chosen.stopped p step.elem) with_some.place_same due.chosen.place
 
@@ -99,34 +99,33 @@ module _ (spec : Spec) (choice : Choice) (layout : Layout) (bytes : List ℕ) (s
     number = subst (λ ws. IsNumberFor (IsFact spec layout bytes) step.binding ws step.number) with_some.writes_are due.chosen.number
 
     -- by its kind
-    kind_made : (known : KnownSets) → TellsKnown spec c.quant known → IsRawUpdate (IsFact spec layout bytes) spec known its.atom raw.goal step.update u → (write : Write) → IsIn write u.writes → IsMade spec layout step write
+    kind_made : (known : KnownSets) → TellsKnown spec c.quant known → IsRawUpdate (IsFact spec layout bytes) spec known its.atom form.raw.goal step.update u → (write : Write) → IsIn write u.writes → IsMade spec layout step write
     kind_made known tells (IsRawUpdate.joins joining) = joining_made spec bytes layout is image.typed step c.quant there.quant_typed bound known tells u due.chosen.stopped place entry joining
     kind_made known tells (IsRawUpdate.relates relating) = relating_made spec bytes layout is image.typed step c.quant there.quant_typed bound known tells u due.chosen.stopped place entry its.atom there.atom_typed relating
     kind_made known tells (IsRawUpdate.supplied supplying) = supplying_made spec bytes layout is image.typed step c.quant there.quant_typed bound known tells u due.chosen.stopped place entry fresh supplying
     kind_made known tells (IsRawUpdate.removes removing) =
         removal_made spec bytes layout is image.typed step its.atom due.template step.update update u due.chosen.stopped
-        (subst (λ g. IsRemoving (IsFact spec layout bytes) spec its.atom g step.update u) (sym goal_same) removing) due.chosen.update_is with_some.rule_same place entry
+        (subst (λ g. IsRemoving (IsFact spec layout bytes) spec its.atom g step.update u) (sym (ap (λ (t : Template). t.goal) form.is)) removing) due.chosen.update_is with_some.rule_same place entry
     kind_made known tells (IsRawUpdate.sets setting) = setting_made spec bytes layout is image.typed step c its there.literal there.atom_typed bound u setting due.chosen.stopped place entry with_some.more number
 
     own_made : (write : Write) → IsIn write u.writes → IsMade spec layout step write
     own_made write own =
-        by_any_table spec image.typed c.quant there.quant_typed layout step write (λ known tells.
-        kind_made known tells (raw_updates (IsFact spec layout bytes) spec known c.quant its tried (are_raw known tells) raw raw_in step.update u at) write own)
+        kind_made form.known form.tells (raw_updates (IsFact spec layout bytes) spec form.known c.quant its form.tried form.are_tried form.raw form.is_tried step.update u at) write own
 
-    with_some_made : AreCompensations (owner_at spec step.constraint c) raw compensations → (write : Write) → IsIn write update.writes → IsMade spec layout step write
-    with_some_made are write is_in = elim (in_parts write u.writes with_some.more (subst (IsIn write) with_some.writes_are is_in)) as (λ _. IsMade spec layout step write) [
+    with_some_made : (write : Write) → IsIn write update.writes → IsMade spec layout step write
+    with_some_made write is_in = elim (in_either write u.writes with_some.more (subst (IsIn write) with_some.writes_are is_in)) as (λ _. IsMade spec layout step write) [
       | inl own ↦ own_made write own
-      | inr compensating ↦ compensation_made spec bytes layout is image.typed step step.constraint c bound its.atom raw due.template step.update update u due.chosen.stopped are at due.chosen.update_is with_some.rule_same place write (with_some.among write compensating)
+      | inr compensating ↦ compensation_made spec bytes layout is image.typed step step.constraint c bound its.atom form.raw due.template step.update update u due.chosen.stopped form.are_compensations at due.chosen.update_is with_some.rule_same place write (with_some.among write compensating)
     ]
 
-  form : IsFormed (owner_at spec step.constraint c) its due.template
-  form = of_plan spec choice step.constraint c due.due.row step.conj step.literal its due.template plan due.due.binding_is.row_of due.due.literal_is.repaired.literal_is due.due.literal_is.repaired.template_is
+  form : IsFormOf (owner_at spec step.constraint c) its due.template
+  form = row_form spec choice step.constraint c due.due.row step.conj step.literal its due.template plan due.due.binding_is.row_of due.due.literal_is.repaired.literal_is due.due.literal_is.repaired.template_is
 
   made : (write : Write) → IsIn write update.writes → IsMade spec layout step write
   made =
       let at = at_place spec layout bytes step.binding its.atom due.template step.update update due.chosen.stopped due.chosen.update_is in
-      let found = form.of_raw.updates_are step.update update at in
-      with_some_made form.tried form.are_raw form.of_raw.raw form.of_raw.raw_in form.of_raw.goal_same form.of_raw.compensations found.0 found.1 found.2 form.of_raw.are
+      let found = of_form (owner_at spec step.constraint c) its due.template form step.update update at in
+      with_some_made form found.0 found.1 found.2
 
   slot_of : (takes : Option ℕ) → IsFresh (IsFact spec layout bytes) spec layout takes step.fresh → IfSome step.fresh (IsSlot layout)
   slot_of None none = subst (λ o. IfSome o (IsSlot layout)) (sym none) tt

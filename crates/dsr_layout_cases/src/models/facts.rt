@@ -35,7 +35,7 @@ fn add_instance(lines: &mut Lines, found: &Found, instance: Instance) {
 fn add_members(lines: &mut Lines, members: &Members, set: u32)
     requires { IsSome (slice_get members.now.sets set) }
 {
-    lines.part("\n  S", u64::from(set));
+    lines.part("\n  set ", u64::from(set));
     lines.part(" has ", members.count(set));
     let mut from = 0;
     for _ in 0..members.count(set) {

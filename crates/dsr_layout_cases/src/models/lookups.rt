@@ -127,7 +127,7 @@ fn add_walk(lines: &mut Lines, model: &Model, symbol: Symbol)
 fn add_set(lines: &mut Lines, model: &Model, set: u32)
     requires { model.now.ordered ≡ true }
 {
-    lines.part("\n  S", u64::from(set));
+    lines.part("\n  set ", u64::from(set));
     add_size(lines, model, Measure::Whole(set), Binding::Once);
     lines.word(":");
     add_walk(lines, model, Symbol::Set(set));
@@ -136,7 +136,7 @@ fn add_set(lines: &mut Lines, model: &Model, set: u32)
 fn add_relation(lines: &mut Lines, model: &Model, rel: u32)
     requires { model.now.ordered ≡ true }
 {
-    lines.part("\n  R", u64::from(rel));
+    lines.part("\n  relation ", u64::from(rel));
     lines.word(" head");
     add_size(lines, model, Measure::Out(Var::Head, rel), Binding::Once);
     lines.word(" of");

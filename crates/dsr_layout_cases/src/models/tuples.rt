@@ -17,11 +17,11 @@ pub fn add_target(lines: &mut Lines, target: Target) {
 pub fn add_fact(lines: &mut Lines, fact: Fact) {
     match fact {
         Fact::Member(set, elem) => {
-            lines.part(" S", u64::from(set));
+            lines.part(" set ", u64::from(set));
             add_element(lines, elem);
         }
         Fact::Pair(rel, elem, target) => {
-            lines.part(" R", u64::from(rel));
+            lines.part(" relation ", u64::from(rel));
             add_element(lines, elem);
             add_target(lines, target);
         }

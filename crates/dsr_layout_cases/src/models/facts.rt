@@ -89,7 +89,7 @@ fn add_deriver(lines: &mut Lines, spec: &Spec, found: &Found)
 {
     let fact = Fact::Member(0, Element { pool: 1, slot: 0 });
     if let Some(first) = deriver(&found.model, spec, &found.layout, &found.image, &fact) {
-        add_name(lines, "\n  S0 1.0 by ", first);
+        add_name(lines, "\n  set 0 1.0 by ", first);
     }
 }
 

@@ -7,11 +7,7 @@ use Rattle.dsr_listing.specs.Lists.{AreTaken, again, enough, left_out, no_more, 
 use Rattle.dsr_listing.specs.Owners.{Owner}
 use Rattle.dsr_listing.specs.Sides.{IsKept}
 use Rattle.dsr_meaning.specs.Counting.{IsDistinct, IsIn}
-
-in_front : {T : Type 0} (x : T) (xs ys : List T) → IsIn x xs → IsIn x (xs ++ ys)
-in_front x [] ys found = absurd found
-in_front x (y ∷ xs) ys (inl same) = inl same
-in_front x (y ∷ xs) ys (inr later) = inr (in_front x xs ys later)
+use Rattle.dsr_meaning.proofs.Items.{in_left}
 
 in_behind : {T : Type 0} (x : T) (xs ys : List T) → IsIn x ys → IsIn x (xs ++ ys)
 in_behind x [] ys found = found
@@ -40,7 +36,7 @@ module _ (owner : Owner) (atom : Atom) where
   are_new (again x is d) t found there = are_new d t found there
   are_new (left_out x none d) t found there = are_new d t found there
   are_new {n} {before} (taken x new kept d) t (inl same) there = new (subst (λ y. IsIn y before) same there)
-  are_new {n} {before} (taken x new kept d) t (inr later) there = are_new d t later (in_front t before (x ∷ []) there)
+  are_new {n} {before} (taken x new kept d) t (inr later) there = are_new d t later (in_left t before (x ∷ []) there)
 
   pub are_once : {n : ℕ} {before all listed : List Template} → AreTaken owner atom n before all listed → IsDistinct listed
   are_once no_more = tt
@@ -59,7 +55,7 @@ module _ (owner : Owner) (atom : Atom) where
   pub are_whole : {n : ℕ} {before all listed : List Template} → AreTaken owner atom n before all listed → length listed < n → (t : Template) → IsIn t all → IsKept owner atom t → IsIn t (before ++ listed)
   are_whole no_more less t found its = absurd found
   are_whole enough less t found its = absurd (omega (arith, less))
-  are_whole {n} {before} {all} {listed} (again x is d) less t (inl same) its = in_front t before listed (subst (λ y. IsIn y before) (sym same) is)
+  are_whole {n} {before} {all} {listed} (again x is d) less t (inl same) its = in_left t before listed (subst (λ y. IsIn y before) (sym same) is)
   are_whole (again x is d) less t (inr later) its = are_whole d less t later its
   are_whole (left_out x none d) less t (inl same) its = absurd (none (subst (IsKept owner atom) same its))
   are_whole (left_out x none d) less t (inr later) its = are_whole d less t later its

@@ -25,7 +25,7 @@ use Rattle.dsr_meaning.specs.Lists.{each_at}
 use Rattle.dsr_meaning.specs.Models.{Chain, IsPair}
 use Rattle.dsr_meaning.specs.Models.Chain.{begin, follow}
 use Rattle.dsr_updating.specs.Givers.{givers, gives_once, is_functional, is_single}
-use Rattle.dsr_decided.proofs.Listed.{in_left, in_right}
+use Rattle.dsr_meaning.proofs.Items.{in_left, in_right}
 
 -- ---- the one rule
 

@@ -11,7 +11,8 @@ use Rattle.dsr_ir.specs.declared.declarations.Spec.{Spec}
 use Rattle.dsr_updating.specs.Known.{IsKnown}
 use Rattle.dsr_updating.specs.Known.IsKnown.{quantified, source, target, base}
 use Rattle.dsr_meaning.specs.Counting.{IsIn}
-use Rattle.dsr_meaning.proofs.Lists.{in_front, in_front_or_last, last_in}
+use Rattle.dsr_meaning.proofs.Lists.{in_front_or_last, last_in}
+use Rattle.dsr_meaning.proofs.Items.{in_left}
 
 -- a pair of the set with a known one stands in the list
 abbrev pub IsPaired : (ℕ → Bool) → List (ℕ × ℕ) → ℕ → Type 0
@@ -30,7 +31,7 @@ apart_begins known = record {
 
 module _ (known : ℕ → Bool) (pairs more : List (ℕ × ℕ)) (pair : ℕ × ℕ) (are : more ≡ pairs ++ pair ∷ []) (marks : List Bool) (apart : AreApart known pairs marks) where
   still_paired : (n : ℕ) → IsPaired known pairs n → IsPaired known more n
-  still_paired n w = (w.0, w.1, subst (IsIn (n, w.0)) (sym are) (in_front (n, w.0) pairs (pair ∷ []) w.2))
+  still_paired n w = (w.0, w.1, subst (IsIn (n, w.0)) (sym are) (in_left (n, w.0) pairs (pair ∷ []) w.2))
 
   -- a pair with a known set
   pub apart_more : pair.0 < 64 → IsTrue (known pair.1) → AreApart known more (set marks pair.0 true)

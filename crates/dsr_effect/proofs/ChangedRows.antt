@@ -8,7 +8,7 @@ use Rattle.dsr_effect.specs.Told.{IsTouchOf}
 use Rattle.dsr_effect.specs.declared.touching.Touch.{Touch}
 use Rattle.dsr_ir.specs.Rules.{symbol_of}
 use Rattle.dsr_ir.specs.declared.rules.Rule.{Rule}
-use Rattle.dsr_meaning.proofs.Lists.{in_front, in_front_or_last}
+use Rattle.dsr_meaning.proofs.Lists.{in_front_or_last}
 use Rattle.dsr_updating.specs.Changes.{Change}
 use Rattle.dsr_updating.specs.Effects.{MayChange, has_tag}
 use Rattle.dsr_updating.specs.Effects.MayChange.{gain_at_f, gain_at_w, loss_at_f, loss_at_w}
@@ -18,7 +18,7 @@ use Rattle.dsr_updating.specs.declared.effects.Tag.TheVariants.{Written, Entry, 
 use Rattle.dsr_updating.specs.declared.effects.Tags.{Tags}
 use Rattle.dsr_updating.specs.declared.effects.Direction.{Direction}
 use Rattle.dsr_updating.specs.declared.effects.Direction.TheVariants.{Gain, Loss}
-use Rattle.dsr_effect.proofs.ListItems.{in_back}
+use Rattle.dsr_meaning.proofs.Items.{in_left, in_right}
 
 joined_has : (a b : Tags) (tag : Tag) → has_tag tag (joined a b) ≡ has_tag tag a || has_tag tag b
 joined_has a b Written = refl
@@ -138,8 +138,8 @@ module _ (c : Change) (rule : Rule) (touch : Touch) (is : IsTouchOf c rule touch
 pub changed_more : (c : Change) (rules more : List Rule) (rule : Rule) (before after : List Tags) → more ≡ rules ++ rule ∷ [] → AreChanged c rules before → AreAdded c rule before after → AreChanged c more after
 changed_more c rules more rule before after is are added = rw is (λ row tag. (
   λ h. elim ((added row tag).0 h) as (λ _. IsChangedBy c (rules ++ rule ∷ []) row tag) [
-    | inl b ↦ let f = (are row tag).0 b in record { rule = f.rule; direction = f.direction; among = in_front f.rule rules (rule ∷ []) f.among; row_is = f.row_is; changes = f.changes }
-    | inr f ↦ record { rule = f.rule; direction = f.direction; among = in_back f.rule rules (rule ∷ []) f.among; row_is = f.row_is; changes = f.changes }
+    | inl b ↦ let f = (are row tag).0 b in record { rule = f.rule; direction = f.direction; among = in_left f.rule rules (rule ∷ []) f.among; row_is = f.row_is; changes = f.changes }
+    | inr f ↦ record { rule = f.rule; direction = f.direction; among = in_right f.rule rules (rule ∷ []) f.among; row_is = f.row_is; changes = f.changes }
   ],
   λ f. elim (in_front_or_last rule f.rule rules f.among) as (λ _. IsTrue (has_row_tag after row tag)) [
     | inl front ↦ (added row tag).1 (inl ((are row tag).1 (record { rule = f.rule; direction = f.direction; among = front; row_is = f.row_is; changes = f.changes })))

@@ -13,7 +13,7 @@ use Rattle.dsr_ir.specs.declared.updates.Symbol.TheVariants.{Set}
 use Rattle.dsr_meaning.specs.Counting.{IsIn}
 use Rattle.dsr_meaning.specs.Lists.{each_at}
 use Rattle.dsr_meaning.specs.Models.{base_of}
-use Rattle.dsr_meaning.proofs.Lists.{in_front, in_front_or_last, last_in}
+use Rattle.dsr_meaning.proofs.Lists.{in_front_or_last, last_in}
 use Rattle.dsr_facts.proofs.Taking.{each_more}
 use Rattle.dsr_updating.specs.Changes.{Change}
 use Rattle.dsr_updating.specs.Effects.{IsLeftOut, other_direction}
@@ -23,7 +23,7 @@ use Rattle.dsr_updating.specs.declared.effects.Tag.{Tag}
 use Rattle.dsr_updating.specs.declared.effects.Tag.TheVariants.{Written, Entry, Fresh, Any}
 use Rattle.dsr_updating.specs.declared.effects.Direction.{Direction}
 use Rattle.dsr_updating.specs.declared.effects.Direction.TheVariants.{Gain, Loss}
-use Rattle.dsr_effect.proofs.ListItems.{in_back, in_either}
+use Rattle.dsr_meaning.proofs.Items.{in_either, in_left, in_right}
 
 -- ---- what the premise of one rule hands on
 
@@ -61,7 +61,7 @@ no_flows c = record { sound = λ flow is_in. absurd is_in; all = λ rule premise
 
 module _ (c : Change) (rules : List Rule) (rule : Rule) (flows : List Flow) (are : AreRuleFlows c rules flows) where
   earlier : (flow : Flow) → IsIn flow flows → IsRuleFlow c (rules ++ rule ∷ []) flow
-  earlier flow is_in = let f = are.sound flow is_in in (f.0, f.1, f.2, in_front f.0 rules (rule ∷ []) f.3, f.4)
+  earlier flow is_in = let f = are.sound flow is_in in (f.0, f.1, f.2, in_left f.0 rules (rule ∷ []) f.3, f.4)
 
   same_flows : rule.premise ≡ None → AreRuleFlows c (rules ++ rule ∷ []) flows
   same_flows without = record {
@@ -90,12 +90,12 @@ module _ (c : Change) (rules : List Rule) (rule : Rule) (flows : List Flow) (are
         ]
       ];
       all = λ r premise direction among is. elim (in_front_or_last rule r rules among) as (λ _. (flow : Flow) × IsIn flow (flows ++ gain ∷ loss ∷ []) × IsPassing c r premise direction flow) [
-        | inl front ↦ let f = are.all r premise direction front is in (f.0, in_front f.0 flows (gain ∷ loss ∷ []) f.1, f.2)
+        | inl front ↦ let f = are.all r premise direction front is in (f.0, in_left f.0 flows (gain ∷ loss ∷ []) f.1, f.2)
         | inr same ↦
             let f = last_flow direction in
             let it : Some under ≡ Some premise = sym passes_gain.premise_is ∙ sym (ap (λ x. x.premise) same) ∙ is in
             let number : under ≡ premise = cc in
-            (f.0, in_back f.0 flows (gain ∷ loss ∷ []) f.1, subst (λ x. IsPassing c x premise direction f.0) (sym same) (subst (λ n. IsPassing c rule n direction f.0) number f.2))
+            (f.0, in_right f.0 flows (gain ∷ loss ∷ []) f.1, subst (λ x. IsPassing c x premise direction f.0) (sym same) (subst (λ n. IsPassing c rule n direction f.0) number f.2))
       ];
     }
 
@@ -119,8 +119,8 @@ in_each f n m k [] x y is at is_in = absurd cc
 in_each f n m zero (z ∷ xs) x y is at is_in =
     let same : z ≡ x = cc in
     let here : m ≡ n = omega (arith, at) in
-    in_front y (f n z) (each_at f (suc n) xs) (subst (λ w. IsIn y (f n w)) (sym same) (subst (λ j. IsIn y (f j x)) here is_in))
-in_each f n m (suc k) (z ∷ xs) x y is at is_in = in_back y (f n z) (each_at f (suc n) xs) (in_each f (suc n) m k xs x y is (omega (arith, at)) is_in)
+    in_left y (f n z) (each_at f (suc n) xs) (subst (λ w. IsIn y (f n w)) (sym same) (subst (λ j. IsIn y (f j x)) here is_in))
+in_each f n m (suc k) (z ∷ xs) x y is at is_in = in_right y (f n z) (each_at f (suc n) xs) (in_each f (suc n) m k xs x y is (omega (arith, at)) is_in)
 
 record IsOfItem {S T : Type 0} (f : ℕ → S → List T) (n : ℕ) (xs : List S) (y : T) : Type 0 where
   pub place : ℕ
@@ -189,8 +189,8 @@ module _ (c : Change) where
               let same : o.number ≡ o.place = omega (arith, o.at) in
               inr (of_complement flow o.number o.item (subst (λ k. slice_get c.spec.base.sets k ≡ Some o.item) (sym same) o.is) o.is_in)
         ];
-        rules = λ rule premise direction among is. let f = are.all rule premise direction among is in (f.0, in_front f.0 flows swaps f.1, f.2);
-        complements = λ set base direction is. (swapped_flow c.spec.base set base direction (other_direction direction), in_back _ flows swaps (is_listed set base direction is), swapping set base direction is);
+        rules = λ rule premise direction among is. let f = are.all rule premise direction among is in (f.0, in_left f.0 flows swaps f.1, f.2);
+        complements = λ set base direction is. (swapped_flow c.spec.base set base direction (other_direction direction), in_right _ flows swaps (is_listed set base direction is), swapping set base direction is);
       }
 
 -- one set more

@@ -13,6 +13,7 @@ use Rattle.dsr_updating.specs.Effects.{has_tag}
 use Rattle.dsr_updating.specs.declared.effects.Tag.{Tag}
 use Rattle.dsr_updating.specs.declared.effects.Tag.TheVariants.{Written, Entry, Fresh, Any}
 use Rattle.dsr_updating.specs.declared.effects.Tags.{Tags}
+use Rattle.dsr_meaning.proofs.Items.{of_all}
 
 -- ---- truth
 
@@ -277,11 +278,6 @@ at_in : {A : Type 0} (xs : List A) (i : ℕ) (d : A) → i < length xs → IsIn 
 at_in [] i d lt = absurd (omega (arith, lt))
 at_in (x ∷ xs) zero d lt = inl refl
 at_in (x ∷ xs) (suc i) d lt = inr (at_in xs i d (omega (arith, lt)))
-
-of_all : {A : Type 0} (P : A → Type 0) (xs : List A) (x : A) → All P xs → IsIn x xs → P x
-of_all P [] x all i = absurd i
-of_all P (y ∷ xs) x all (inl e) = subst P (sym e) (All-head P y xs all)
-of_all P (y ∷ xs) x all (inr i) = of_all P xs x (All-tail P y xs all) i
 
 pub handing_begins : (flows : List Flow) (start : List Tags) → IsHanding flows start start false 0
 handing_begins flows start = record {

@@ -12,12 +12,13 @@ use Rattle.dsr_ir.specs.declared.rules.Path.{Path}
 use Rattle.dsr_ir.specs.declared.rules.Rule.{Rule}
 use Rattle.dsr_ir.specs.declared.updates.Write.{Write}
 use Rattle.dsr_meaning.specs.Lists.{any_of}
-use Rattle.dsr_meaning.proofs.Lists.{in_front, in_front_or_last, last_in}
+use Rattle.dsr_meaning.proofs.Lists.{in_front_or_last, last_in}
 use Rattle.dsr_updating.specs.Changes.{Change, is_at_entry, is_foreign, is_touched, reads_touched, target_paths, write_to}
 use Rattle.dsr_updating.specs.Touching.{IsBlockedAtW, IsSure, IsSureAtW, IsUnmovedAtW, LeavesNone, write_read}
 use Rattle.dsr_effect.specs.Told.{AreRead, IsPathReading, IsReading, both}
 use Rattle.dsr_effect.specs.declared.readings.Reading.{Reading}
 use Rattle.dsr_effect.proofs.Guards.{EachIn, SomeIn}
+use Rattle.dsr_meaning.proofs.Items.{in_left}
 
 -- ---- one path
 
@@ -48,7 +49,7 @@ looked_touched c rule joins path P h =
 some_more : {A : Type 0} (P : A → Type 0) (xs : List A) (x : A) (a b : Bool) → Decides a (SomeIn P xs) → Decides b (P x) → Decides (a || b) (SomeIn P (xs ++ x ∷ []))
 some_more P xs x a b earlier last = Decides-like (a || b) to from (Decides-or a b earlier last) where
   to : SomeIn P xs ⊎ P x → SomeIn P (xs ++ x ∷ [])
-  to (inl s) = (s.0, in_front s.0 xs (x ∷ []) s.1, s.2)
+  to (inl s) = (s.0, in_left s.0 xs (x ∷ []) s.1, s.2)
   to (inr p) = (x, last_in x xs, p)
 
   from : SomeIn P (xs ++ x ∷ []) → SomeIn P xs ⊎ P x
@@ -58,7 +59,7 @@ some_more P xs x a b earlier last = Decides-like (a || b) to from (Decides-or a 
 some_same : {A : Type 0} (P : A → Type 0) (xs : List A) (x : A) (a : Bool) → Decides a (SomeIn P xs) → (P x → ⊥) → Decides a (SomeIn P (xs ++ x ∷ []))
 some_same P xs x a earlier last = Decides-like a to from earlier where
   to : SomeIn P xs → SomeIn P (xs ++ x ∷ [])
-  to s = (s.0, in_front s.0 xs (x ∷ []) s.1, s.2)
+  to s = (s.0, in_left s.0 xs (x ∷ []) s.1, s.2)
 
   from : SomeIn P (xs ++ x ∷ []) → SomeIn P xs
   from s = elim (in_front_or_last x s.0 xs s.1) [ inl front ↦ (s.0, front, s.2) | inr same ↦ absurd (last (subst P same s.2)) ]
@@ -70,11 +71,11 @@ each_last P xs x a b earlier last = Decides-like (a && b) to from (Decides-and a
   to each y is_in = elim (in_front_or_last x y xs is_in) [ inl front ↦ each.0 y front | inr same ↦ subst P (sym same) each.1 ]
 
   from : EachIn P (xs ++ x ∷ []) → EachIn P xs × P x
-  from each = (λ y front. each y (in_front y xs (x ∷ []) front), each x (last_in x xs))
+  from each = (λ y front. each y (in_left y xs (x ∷ []) front), each x (last_in x xs))
 
 -- the last one is for certain
 each_same : {A : Type 0} (P : A → Type 0) (xs : List A) (x : A) (a : Bool) → Decides a (EachIn P xs) → P x → Decides a (EachIn P (xs ++ x ∷ []))
-each_same P xs x a earlier last = Decides-like a to (λ each y front. each y (in_front y xs (x ∷ []) front)) earlier where
+each_same P xs x a earlier last = Decides-like a to (λ each y front. each y (in_left y xs (x ∷ []) front)) earlier where
   to : EachIn P xs → EachIn P (xs ++ x ∷ [])
   to each y is_in = elim (in_front_or_last x y xs is_in) [ inl front ↦ each y front | inr same ↦ subst P (sym same) last ]
 

@@ -17,7 +17,8 @@ use Rattle.dsr_meaning.proofs.Firing.{found_fits}
 use Rattle.dsr_updating.specs.Effects.{IsDeclared}
 use Rattle.dsr_updating.specs.declared.effects.Direction.{Direction}
 use Rattle.dsr_updating.specs.declared.effects.Direction.TheVariants.{Gain, Loss}
-use Rattle.dsr_effect.proofs.ListItems.{of_all, within}
+use Rattle.dsr_effect.proofs.ListItems.{within}
+use Rattle.dsr_meaning.proofs.Items.{of_all}
 
 pub row_below : (base : Structures) (direction : Direction) (symbol : Symbol) → IsDeclared base symbol → row_number base direction symbol < symbol_count base + symbol_count base
 row_below base Gain (Set set) lt = omega (arith, lt)

@@ -18,12 +18,12 @@ use Rattle.dsr_updating.specs.declared.effects.Tags.{Tags}
 use Rattle.dsr_updating.specs.declared.effects.Direction.{Direction}
 use Rattle.dsr_updating.specs.declared.effects.Direction.TheVariants.{Gain, Loss}
 use Rattle.dsr_effect.proofs.RowNumbers.{complement_declared, given_declared, premise_declared, row_below, row_once}
-use Rattle.dsr_effect.proofs.ListItems.{all_in}
+use Rattle.dsr_meaning.proofs.Items.{all_of}
 
 module _ (c : Change) (typed : IsTyped c.spec) (flows : List Flow) (are : AreFlows c flows) where
   -- each flow is between rows
   pub are_between : (count : ℕ) → count ≡ symbol_count c.spec.base + symbol_count c.spec.base → All (IsBetween count) flows
-  are_between count many = all_in (IsBetween count) flows (λ flow among. rw many (elim (are.sound flow among) as (λ _. IsBetween (symbol_count c.spec.base + symbol_count c.spec.base) flow) [
+  are_between count many = all_of (IsBetween count) flows (λ flow among. rw many (elim (are.sound flow among) as (λ _. IsBetween (symbol_count c.spec.base + symbol_count c.spec.base) flow) [
     | inl f ↦ let p : IsPassing c f.0 f.1 f.2 flow = f.4 in record {
       from = rw p.from (row_below c.spec.base f.2 (Set f.1) (premise_declared c.spec typed f.0 f.1 f.3 p.premise_is));
       to = rw p.to (row_below c.spec.base f.2 (symbol_of f.0.inc) (given_declared c.spec typed f.0 f.3));

@@ -5,9 +5,10 @@ use Rattle.std.proofs.Math.ListN.{length-append}
 use Rattle.std.proofs.Math.Seq.{get_or-append_seam}
 use Rattle.std.proofs.lemmas.Bool.{cases_lt, false≢true}
 use Rattle.std.proofs.lemmas.List.{get_or_append_left}
-use Rattle.dsr_meaning.proofs.Lists.{in_front, in_front_or_last, last_in}
+use Rattle.dsr_meaning.proofs.Lists.{in_front_or_last, last_in}
 use Rattle.dsr_meaning.specs.Counting.{IsIn}
 use Rattle.dsr_facts.specs.Marks.{IsMarked}
+use Rattle.dsr_meaning.proofs.Items.{in_left}
 
 pub record IsListed (marks : List Bool) (sets : List ℕ) (count : ℕ) : Type 0 where
   pub sound : (set : ℕ) → IsIn set sets → (set < count) × IsMarked marks set
@@ -48,7 +49,7 @@ listed_more marks sets count marked far = record {
     | inr last ↦ (omega (arith, last), subst (IsMarked marks) (sym last) marked)
   ];
   complete = λ set less h. elim (cases_lt set count) [
-    | inl before ↦ in_front set sets (count ∷ []) (far.complete set before h)
+    | inl before ↦ in_left set sets (count ∷ []) (far.complete set before h)
     | inr past ↦
         let same : count ≡ set = omega (arith, less, past) in
         subst (λ n. IsIn n (sets ++ count ∷ [])) same (last_in count sets)

@@ -41,7 +41,7 @@ use Rattle.dsr_updating.specs.Guards.{guard_write, pick_wanted}
 use Rattle.dsr_updating.specs.Options.{options, reference_write, target_option}
 use Rattle.dsr_updating.specs.Templates.{all_true, others, place_of, removal_at, removal_place, removing, target_writes}
 use Rattle.dsr_feasible.proofs.BoundVars.{IsBound}
-use Rattle.dsr_feasible.proofs.FormItems.{in_either, in_filter}
+use Rattle.dsr_meaning.proofs.Items.{in_either, in_filter}
 
 -- ---- what is asked of an update
 

@@ -33,7 +33,6 @@ use Rattle.dsr_meaning.specs.Models.{IsFact}
 use Rattle.dsr_meaning.specs.Truth.{HasVariable, element_of, head}
 use Rattle.dsr_meaning.specs.Typed.{pool_at}
 use Rattle.dsr_planning.specs.Plans.{owner_at}
-use Rattle.dsr_stepped.proofs.Items.{item_at}
 use Rattle.dsr_updating.specs.Changes.{Change}
 use Rattle.dsr_updating.specs.Givers.{givers}
 use Rattle.dsr_updating.specs.Options.{options}
@@ -41,9 +40,9 @@ use Rattle.dsr_updating.specs.Templates.{item_or_last, removing}
 use Rattle.dsr_feasible.proofs.BoundVars.{IsBound}
 use Rattle.dsr_feasible.proofs.Choosable.{HasEntry, HasPicked, HasPlace, HavePicked, IsChoosable, removing_choosable, still_choosable}
 use Rattle.dsr_feasible.proofs.DueForms.{IsDueForm, goal_same, of_compensated}
-use Rattle.dsr_feasible.proofs.FormItems.{in_filter}
 use Rattle.dsr_feasible.proofs.RawForms.{GoalAdds, IsRemoval, IsTakenBy, mapped, taken_bound, taken_var}
 use Rattle.dsr_feasible.proofs.TakenGoals.{adding_takes_none, taking_adds_none}
+use Rattle.dsr_meaning.proofs.Items.{in_filter, item_at}
 
 -- ---- a choosable update is complete
 

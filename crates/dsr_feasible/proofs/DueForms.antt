@@ -19,11 +19,11 @@ use Rattle.dsr_meaning.specs.Typed.{IsTyped, IsTypedConj, IsTypedConstraint, IsT
 use Rattle.dsr_planning.specs.Plans.{IsPlan, owner_at}
 use Rattle.dsr_planning.specs.declared.choices.Choice.{Choice}
 use Rattle.dsr_repairing.specs.Due.{IsDue}
-use Rattle.dsr_stepped.proofs.Items.{item_at, of_all}
 use Rattle.dsr_updating.specs.Templates.{literal_at}
 use Rattle.dsr_feasible.proofs.Choosable.{HavePicked, compensations_picked}
 use Rattle.dsr_feasible.proofs.Forms.{due_form}
 use Rattle.dsr_feasible.proofs.RawForms.{RawForm, chained, raw_form}
+use Rattle.dsr_meaning.proofs.Items.{item_at, of_all}
 
 -- the literal of a typed specification's constraint is typed
 pub literal_typed : (spec : Spec) (n : ℕ) (constraint : Constraint) (conj literal : ℕ) (its : Literal) → IsTyped spec → slice_get spec.constraints n ≡ Some constraint → literal_at constraint conj literal ≡ Some its → IsTypedLiteral spec constraint.quant its

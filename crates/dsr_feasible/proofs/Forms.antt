@@ -24,10 +24,9 @@ use Rattle.dsr_planning.specs.declared.choices.Row.{Row}
 use Rattle.dsr_planning.specs.declared.choices.Way.{Way}
 use Rattle.dsr_planning.specs.declared.choices.Way.TheVariants.{By}
 use Rattle.dsr_repairing.specs.Due.{IsDue}
-use Rattle.dsr_stepped.proofs.Items.{item_at}
 use Rattle.dsr_updating.specs.Templates.{AreRaw, KnownSets, TellsKnown, literal_at}
-use Rattle.dsr_feasible.proofs.FormItems.{in_either, in_flat, in_map}
 use Rattle.dsr_feasible.proofs.KnownSets.{told}
+use Rattle.dsr_meaning.proofs.Items.{in_either, in_flat, in_map, item_at}
 
 -- ---- what is listed
 

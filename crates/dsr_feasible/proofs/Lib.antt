@@ -1,4 +1,3 @@
-pub mod MakingItems
 pub mod MakingForms
 pub mod MakingRaws
 pub mod MakingWrites

@@ -37,9 +37,10 @@ use Rattle.dsr_updating.specs.Givers.{is_single}
 use Rattle.dsr_updating.specs.Templates.{KnownSets, TellsKnown, referred, starts_at}
 use Rattle.dsr_feasible.proofs.MakingCan.{IsMade, all_true_made, target_writes_made}
 use Rattle.dsr_feasible.proofs.MakingEntries.{FitsField, code_fits_field, slot_record}
-use Rattle.dsr_feasible.proofs.MakingItems.{both_true, some_and}
 use Rattle.dsr_feasible.proofs.MakingRaws.{IsAdding, IsJoining, IsRelating, IsSupplying, single_span}
 use Rattle.dsr_feasible.proofs.MakingRecords.{of_rule, place_named, start_record, target_read, var_record}
+use Rattle.std.proofs.lemmas.Bool.{and_parts}
+use Rattle.dsr_meaning.proofs.Options.{some_and}
 
 -- a variable of the quantifier is bound
 pub var_bound : (spec : Spec) (is_fact : Fact → Type 0) (quant : Quant) (b : Binding) → IsBinding is_fact quant b → (v : Var) (pool : ℕ) → pool_of_var spec.base quant v ≡ Some pool → (e : Element) × (element_of b v ≡ Some e)
@@ -74,7 +75,7 @@ module _ (spec : Spec) (bytes : List ℕ) (layout : Layout) (is : IsLayoutOf spe
 
   adding_instance : (v : Var) (rule : Rule) → IsAdding spec known v rule u → IsInstance spec layout written rule
   adding_instance v rule adding =
-      let serves = both_true (is_single rule.span) (starts_at known v rule) adding.serves_it in
+      let serves = and_parts (is_single rule.span) (starts_at known v rule) adding.serves_it in
       let at = place_named v step.binding stopped step.elem (subst (λ p. IsPlace step.binding stopped p step.elem) adding.place_is place) in
       let start = start_record spec bytes layout is.numbers typed quant quant_typed step.binding bound known tells v rule step.elem serves.1 at in
       let first : step.index ≡ 0 = subst (λ a. IsEntryAt step.binding stopped a step.index) adding.at_is entry in

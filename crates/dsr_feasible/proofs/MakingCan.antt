@@ -21,7 +21,6 @@ use Rattle.dsr_meaning.specs.Refusals.{IsLayoutOf}
 use Rattle.dsr_meaning.specs.Typed.{IsTyped, IsTypedGuard, IsTypedPath, IsTypedRule}
 use Rattle.dsr_repairing.specs.Images.{IsFree, IsOfHead}
 use Rattle.dsr_stepped.proofs.AllTrue.{first_true, in_others, target_written}
-use Rattle.dsr_stepped.proofs.Items.{of_all}
 use Rattle.dsr_stepped.proofs.Together.{target_typed}
 use Rattle.dsr_stepping.specs.Steps.{CanWrite}
 use Rattle.dsr_stepping.specs.declared.steps.Step.{Step}
@@ -30,9 +29,9 @@ use Rattle.dsr_updating.specs.Options.{options, reference_write, target_option}
 use Rattle.dsr_updating.specs.Templates.{all_true, others, target_writes, value_write}
 use Rattle.dsr_feasible.proofs.MakingEntries.{FitsField, SameEntry, can_write, none_fits_field}
 use Rattle.dsr_feasible.proofs.MakingHead.{of_head}
-use Rattle.dsr_feasible.proofs.FormItems.{in_either, in_filter}
-use Rattle.dsr_feasible.proofs.MakingItems.{chained_from}
 use Rattle.dsr_feasible.proofs.MakingWrites.{IsFitPick, IsOpenWrite, fit_pick, is_free, of_guard, of_reference, of_value}
+use Rattle.dsr_meaning.proofs.Items.{in_either, in_filter, of_all}
+use Rattle.dsr_meaning.proofs.Options.{chained_from}
 
 -- the write can be made, is of no fixed field, and of one of the head's where it writes the head
 abbrev pub IsMade : Spec → Layout → Step → Write → Type 0

@@ -28,17 +28,16 @@ use Rattle.dsr_meaning.specs.Instances.{IsInstance, index_count, premise_pool}
 use Rattle.dsr_meaning.specs.Models.{IsFact}
 use Rattle.dsr_meaning.specs.Refusals.{IsLayoutOf, first_of}
 use Rattle.dsr_meaning.specs.Typed.{IsTyped, IsTypedPath, RunsOver}
-use Rattle.dsr_stepped.proofs.Items.{place_of}
 use Rattle.dsr_stepping.specs.declared.steps.Step.{Step}
 use Rattle.dsr_updating.specs.Changes.{Change, is_written, place_pool}
 use Rattle.dsr_updating.specs.Guards.{guard_write}
 use Rattle.dsr_updating.specs.Touching.{is_removal}
 use Rattle.dsr_feasible.proofs.MakingCan.{IsMade, guard_made}
 use Rattle.dsr_feasible.proofs.MakingEntries.{SameEntry}
-use Rattle.dsr_feasible.proofs.FormItems.{in_filter}
-use Rattle.dsr_feasible.proofs.MakingItems.{in_take, mapped_from, only_item, without}
 use Rattle.dsr_feasible.proofs.MakingRecords.{head_record, of_rule, var_record}
 use Rattle.dsr_feasible.proofs.MakingRemovals.{derived_by}
+use Rattle.dsr_meaning.proofs.Items.{in_filter, in_take, only_item, place_of}
+use Rattle.dsr_meaning.proofs.Options.{failed_from, mapped_from}
 
 -- ---- of which rules they are
 
@@ -64,7 +63,7 @@ of_preventing c rule rules write among may e =
       may = may;
       guard = found.from;
       guard_in = found.among;
-      write_is = (without (is_written c found.from.path.field || reads_itself c found.from.path.field) (guard_write c.spec.base false found.from) write found.is).1;
+      write_is = (failed_from (is_written c found.from.path.field || reads_itself c found.from.path.field) (guard_write c.spec.base false found.from) write found.is).1;
     }
 
 later_rule : (c : Change) (rule : Rule) (rules : List Rule) (write : Write) → IsPrevention c rules write → IsPrevention c (rule ∷ rules) write
@@ -80,10 +79,10 @@ prevention c (ArePreventing.quiet {rules = rest} rule nothing later) write is_in
 only_one : (goal : Goal) (updates : List Update) (u v : Update) (n : ℕ) → compensated (record { goal = goal; updates = updates }) ≡ Some u → slice_get updates n ≡ Some v → v ≡ u
 only_one goal [] u v n e at = absurd cc
 only_one goal (x ∷ []) u v n e at =
-    let one : Some x ≡ Some u = (without (is_removal goal) (Some x) u e).1 in
+    let one : Some x ≡ Some u = (failed_from (is_removal goal) (Some x) u e).1 in
     (only_item x n v at).1 ∙ same_Some x u one
 only_one goal (x ∷ y ∷ rest) u v n e at =
-    let no : None ≡ Some u = (without (is_removal goal) None u e).1 in
+    let no : None ≡ Some u = (failed_from (is_removal goal) None u e).1 in
     absurd cc
 
 -- ---- the written record
@@ -107,7 +106,7 @@ module _ (spec : Spec) (bytes : List ℕ) (layout : Layout) (is : IsLayoutOf spe
   place_record atom template n update stopped (places.Of v) k pool chosen same of at = var_record spec bytes layout is.numbers typed c.quant step.binding bound v pool step.elem of at
   place_record atom template n update stopped places.Deriver k pool chosen same of at = stopped_record atom template n update stopped k pool chosen same of at
 
-  -- a path of a rule without index has none
+  -- a path of a rule failed_from index has none
   single_entry : (rule : Rule) (k : ℕ) → rule.span ≡ Single → (path : Path) → IsTypedPath spec.base rule path → SameEntry step (record { rule = k; elem = step.elem; index = 0 }) path
   single_entry rule k single path its =
       elim path.indexed as (λ b. MatchBool b (RunsOver spec.base rule.span its.field.len) (its.field.len ≡ None) → (if b then 0 else 0) ≡ (if b then step.index else 0)) [

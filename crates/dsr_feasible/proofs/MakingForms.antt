@@ -9,7 +9,7 @@ use Rattle.dsr_listing.specs.Lists.{compensated_by, with_writes}
 use Rattle.dsr_listing.specs.Owners.{Owner}
 use Rattle.dsr_meaning.specs.Counting.{IsIn}
 use Rattle.dsr_feasible.proofs.Forms.{IsFormOf}
-use Rattle.dsr_feasible.proofs.MakingItems.{mapped_at}
+use Rattle.dsr_meaning.proofs.Items.{mapped_at}
 
 -- ---- the update of a raw one, and writes behind its own
 

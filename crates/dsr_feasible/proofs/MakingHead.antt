@@ -11,7 +11,7 @@ use Rattle.dsr_layout.proofs.Meanings.{found_holds}
 use Rattle.dsr_meaning.specs.Instances.{pool_of_premise, premise_pool}
 use Rattle.dsr_meaning.specs.Typed.{Descends, IsTyped, IsTypedPath, IsTypedRule, IsTypedSet, premise_structure}
 use Rattle.dsr_repairing.specs.Images.{IsOfHead}
-use Rattle.dsr_feasible.proofs.MakingItems.{some_and}
+use Rattle.dsr_meaning.proofs.Options.{some_and}
 
 module _ (spec : Spec) (typed : IsTyped spec) where
   -- pools of sets are counted from 1, so a premise of pool 0 names no set

@@ -45,8 +45,10 @@ use Rattle.dsr_meaning.specs.Truth.{element_of}
 use Rattle.dsr_updating.specs.Givers.{IsGiver, givers, is_own, is_single}
 use Rattle.dsr_updating.specs.Options.{options}
 use Rattle.dsr_updating.specs.Templates.{AreOnce, AreRaw, AreSized, AreTemplates, AreTrims, AreValued, KnownSets, adding, all_removals, all_true, counted_of, counted_symbol, is_target, item_or_last, joins_by, lacks_option, listed, most_options, pick_of, place_of, referred, relates_by, removal_at, removal_place, removal_updates, removing, serves, setting, settings, supplies, supplies_by, target_writes, value_write, variables, with_trims}
-use Rattle.dsr_feasible.proofs.FormItems.{in_filter, in_flat, in_giver, in_givers, in_map}
-use Rattle.dsr_feasible.proofs.MakingItems.{both_true, chained_from, failed_in, item_at, mapped_from, of_listed, only_item, passed_from, passed_in, without}
+use Rattle.dsr_feasible.proofs.FormItems.{in_giver, in_givers, of_listed}
+use Rattle.dsr_meaning.proofs.Items.{failed_in, in_filter, in_flat, in_map, item_at, only_item, passed_in}
+use Rattle.std.proofs.lemmas.Bool.{and_parts}
+use Rattle.dsr_meaning.proofs.Options.{chained_from, failed_from, mapped_from, passed_from}
 
 -- ---- kinds of updates
 
@@ -55,7 +57,7 @@ abbrev pub source_of : Fact → Element
 source_of (Member set e) = e
 source_of (Pair rel e target) = e
 
--- an update by a rule without index that starts at the variable's record
+-- an update by a rule failed_from index that starts at the variable's record
 pub record IsAdding (spec : Spec) (known : KnownSets) (v : Var) (rule : Rule) (u : Update) : Type 0 where
   pub rule_is : slice_get spec.rules u.rule ≡ Some rule
   pub serves_it : serves known v rule ≡ true
@@ -156,7 +158,7 @@ module _ (spec : Spec) (known : KnownSets) where
       subst (IsJoining spec known) (sym one.1) (record {
         v = v;
         rule = rule;
-        adding_is = record { rule_is = rule_is; serves_it = (both_true (is_own rule.inc) (serves known v rule) test.0).1; place_is = refl; at_is = refl };
+        adding_is = record { rule_is = rule_is; serves_it = (and_parts (is_own rule.inc) (serves known v rule) test.0).1; place_is = refl; at_is = refl };
         made = made.1.0;
       })
 
@@ -174,7 +176,7 @@ module _ (spec : Spec) (known : KnownSets) where
         atom_is = refl;
         rule = rule;
         gives_it = giver.gives;
-        adding_is = record { rule_is = giver.rule_is; serves_it = (both_true (is_own rule.inc) (serves known v rule) test.0).1; place_is = refl; at_is = refl };
+        adding_is = record { rule_is = giver.rule_is; serves_it = (and_parts (is_own rule.inc) (serves known v rule) test.0).1; place_is = refl; at_is = refl };
         path = from.0;
         target_is = from.1.0;
         made = from.1.1;
@@ -335,7 +337,7 @@ module _ (spec : Spec) (known : KnownSets) where
   set_by v rel op bound k rule (SlotPair r pool path) template n u is reaches giver made at =
       let u_of : Write → Update = λ w. record { rule = k; place = places.Head; at = ats.SlotOf v; writes = w ∷ []; fresh = None } in
       let t_of : Write → Template = λ w. record { goal = goals.SetValue; updates = u_of w ∷ [] } in
-      let test = without (is_some rule.premise) (option_map t_of (value_write spec.base (pick_of bound) path)) template made in
+      let test = failed_from (is_some rule.premise) (option_map t_of (value_write spec.base (pick_of bound) path)) template made in
       let write = mapped_from t_of (value_write spec.base (pick_of bound) path) template test.1 in
       let one = only_item (u_of write.0) n u (sym (ap (λ (t : Template). slice_get t.updates n) write.1.1) ∙ at) in
       subst (IsSetting spec (atoms.Value v rel op bound)) (sym one.1) (record {

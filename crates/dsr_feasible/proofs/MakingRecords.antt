@@ -39,7 +39,7 @@ use Rattle.dsr_resolved.proofs.Entries.{item_below}
 use Rattle.dsr_updating.specs.Givers.{is_own}
 use Rattle.dsr_updating.specs.Known.{IsKnown}
 use Rattle.dsr_updating.specs.Templates.{KnownSets, TellsKnown, place_of, starts_at}
-use Rattle.dsr_feasible.proofs.MakingItems.{chained_from, mapped_from, some_and}
+use Rattle.dsr_meaning.proofs.Options.{chained_from, mapped_from, some_and}
 
 -- ---- records of variables
 

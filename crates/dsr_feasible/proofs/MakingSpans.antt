@@ -25,7 +25,7 @@ use Rattle.dsr_meaning.specs.Places.{size_of}
 use Rattle.dsr_meaning.specs.Typed.{CountsSlots, IsPoolNumber, IsTypedSpan, pool_at}
 use Rattle.dsr_resolved.proofs.Entries.{item_below}
 use Rattle.dsr_resolved.proofs.PlacesOfFields.{place_of}
-use Rattle.dsr_feasible.proofs.MakingItems.{chained_from}
+use Rattle.dsr_meaning.proofs.Options.{chained_from}
 
 -- the count of a pool's numbers is the one that was computed
 numbers_count : (count slot start code step none : Option ℕ) (n : PoolNumbers) → option_and_then (λ count. option_and_then (λ slot. option_and_then (λ start. option_and_then (λ code. option_and_then (λ step. option_map (λ none. record { start = start; slot = slot; count = count; code = code; step = step; none = none }) none) step) code) start) slot) count ≡ Some n → count ≡ Some n.count

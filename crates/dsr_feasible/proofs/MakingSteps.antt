@@ -23,20 +23,19 @@ use Rattle.dsr_planning.specs.Plans.{IsPlan, owner_at}
 use Rattle.dsr_planning.specs.declared.choices.Choice.{Choice}
 use Rattle.dsr_repairing.specs.Images.{IsFree, IsImageOf, IsOfHead}
 use Rattle.dsr_repairing.specs.Turns.{IsDueStep}
-use Rattle.dsr_stepped.proofs.Items.{all_of}
 use Rattle.dsr_stepping.specs.Steps.{CanStep, CanWrite, IsSlot}
 use Rattle.dsr_stepping.specs.declared.steps.Step.{Step}
 use Rattle.dsr_updating.specs.Templates.{KnownSets, TellsKnown, literal_at}
 use Rattle.dsr_feasible.proofs.MakingAdditions.{joining_made, relating_made, supplying_made}
 use Rattle.dsr_feasible.proofs.MakingCan.{IsMade}
 use Rattle.dsr_feasible.proofs.MakingCompensations.{compensation_made}
-use Rattle.dsr_feasible.proofs.FormItems.{in_either}
 use Rattle.dsr_feasible.proofs.Forms.{IsFormOf, row_form}
 use Rattle.dsr_feasible.proofs.MakingForms.{IsWithSome, of_form}
-use Rattle.dsr_feasible.proofs.MakingItems.{chained_from, item_at, some_and}
 use Rattle.dsr_feasible.proofs.MakingRaws.{IsRawUpdate, IsRemoving, raw_updates}
 use Rattle.dsr_feasible.proofs.MakingRemovals.{removal_made}
 use Rattle.dsr_feasible.proofs.MakingValues.{IsLiteralOf, setting_made}
+use Rattle.dsr_meaning.proofs.Items.{all_of, in_either, item_at}
+use Rattle.dsr_meaning.proofs.Options.{chained_from, some_and}
 
 -- a literal of a typed constraint, as it stands in the specification
 record IsTypedIn (spec : Spec) (c : Constraint) (its : Literal) : Type 0 where

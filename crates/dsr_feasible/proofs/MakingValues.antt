@@ -37,11 +37,12 @@ use Rattle.dsr_updating.specs.Givers.{is_own}
 use Rattle.dsr_updating.specs.Templates.{pick_of}
 use Rattle.dsr_feasible.proofs.MakingCan.{IsMade, value_made}
 use Rattle.dsr_feasible.proofs.MakingEntries.{FitsField, same_width}
-use Rattle.dsr_feasible.proofs.MakingItems.{item_at, some_and}
 use Rattle.dsr_feasible.proofs.MakingRaws.{IsSetAt, IsSetting}
 use Rattle.dsr_feasible.proofs.MakingRecords.{head_record, of_rule, own_source, place_named, rel_same, related_source, var_record}
 use Rattle.dsr_feasible.proofs.MakingSpans.{counts_index}
 use Rattle.dsr_feasible.proofs.MakingWrites.{of_value}
+use Rattle.dsr_meaning.proofs.Items.{item_at}
+use Rattle.dsr_meaning.proofs.Options.{some_and}
 
 -- a literal of the specification, of a constraint with this quantifier
 pub record IsLiteralOf (spec : Spec) (c : Constraint) (its : Literal) : Type 0 where

@@ -21,7 +21,7 @@ use Rattle.dsr_repairing.specs.Images.{IsFree}
 use Rattle.dsr_updating.specs.Guards.{fitting, guard_write, number_false, number_true, pick_wanted}
 use Rattle.dsr_updating.specs.Options.{open_pool, reference_write}
 use Rattle.dsr_updating.specs.Templates.{value_write}
-use Rattle.dsr_feasible.proofs.MakingItems.{chained_from, mapped_from, without}
+use Rattle.dsr_meaning.proofs.Options.{chained_from, failed_from, mapped_from}
 
 -- the write is of this pick to this path, whose field is declared and not fixed
 pub record IsOpenWrite (base : Structures) (path : Path) (pick : Pick) (write : Write) : Type 0 where
@@ -47,7 +47,7 @@ pub of_guard : (base : Structures) (wanted : Bool) (guard : Guard) (write : Writ
 of_guard base wanted guard write e =
     let made : Pick → Write = λ pick. record { path = guard.path; pick = pick; wants = Some (guard.test, wanted) } in
     let found = chained_from (λ (f : Field). if f.fixed then None else option_map made (pick_wanted wanted f guard.test)) (declared_field base guard.path.field) write e in
-    let test = without found.0.fixed (option_map made (pick_wanted wanted found.0 guard.test)) write found.1.1 in
+    let test = failed_from found.0.fixed (option_map made (pick_wanted wanted found.0 guard.test)) write found.1.1 in
     let pick = mapped_from made (pick_wanted wanted found.0 guard.test) write test.1 in
     record {
       pick = pick.0;
@@ -110,7 +110,7 @@ of_reference base pick path write e =
     let made : Write = record { path = path; pick = pick; wants = None } in
     let found = chained_from (λ (f : Field). option_map (λ (pool : ℕ). made) (open_pool f)) (declared_field base path.field) write e in
     let pool = mapped_from (λ (pool : ℕ). made) (open_pool found.0) write found.1.1 in
-    let test = without found.0.fixed (kind_pool found.0.kind) pool.0 pool.1.0 in
+    let test = failed_from found.0.fixed (kind_pool found.0.kind) pool.0 pool.1.0 in
     record {
       open_write = record {
         field = found.0;
@@ -127,7 +127,7 @@ pub of_value : (base : Structures) (pick : Pick) (path : Path) (write : Write) �
 of_value base pick path write e =
     let made : Write = record { path = path; pick = pick; wants = None } in
     let found = chained_from (λ (f : Field). if f.fixed then None else Some made) (declared_field base path.field) write e in
-    let test = without found.0.fixed (Some made) write found.1.1 in
+    let test = failed_from found.0.fixed (Some made) write found.1.1 in
     let same = same_Some made write test.1 in
     record {
       field = found.0;

@@ -43,7 +43,8 @@ use Rattle.dsr_updating.specs.Givers.{HasGiver, IsGiver, givers, is_own, is_sing
 use Rattle.dsr_updating.specs.Templates.{AreOnce, AreSized, AreTemplates, AreTrims, AreValued, KnownSets, adding, all_removals, all_true, counted_of, counted_symbol, is_target, joins_by, lacks_option, listed, most_options, pick_of, referred, relates_by, removal_updates, serves, set_supplies, setting, settings, supplies, supplies_by, target_supplies, target_writes, value_write, variables, with_trims}
 use Rattle.dsr_feasible.proofs.BoundVars.{IsBound, in_quant, measured, with_pool, with_target}
 use Rattle.dsr_feasible.proofs.Choosable.{HasPicked, HavePicked, IsChoosable, guards_picked, target_picked, var_place}
-use Rattle.dsr_feasible.proofs.FormItems.{in_flat, in_giver, in_givers, in_map}
+use Rattle.dsr_feasible.proofs.FormItems.{in_giver, in_givers}
+use Rattle.dsr_meaning.proofs.Items.{in_flat, in_map}
 
 -- ---- three forms
 

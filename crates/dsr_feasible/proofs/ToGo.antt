@@ -40,7 +40,6 @@ use Rattle.dsr_meaning.specs.Looking.{IsCounted}
 use Rattle.dsr_meaning.specs.Models.{IsDerived, IsFact, IsMemberBy, base_of}
 use Rattle.dsr_meaning.specs.Truth.{AtomHolds, HasSize, HasVariable, element_of}
 use Rattle.dsr_meaning.specs.Typed.{IsPlainSetOf, IsTyped, IsTypedAtom, IsTypedInc, IsTypedRule, MayBeNegated}
-use Rattle.dsr_stepped.proofs.Items.{item_at, of_all}
 use Rattle.dsr_updating.specs.Givers.{HasGiver}
 use Rattle.dsr_updating.specs.Templates.{counted_symbol}
 use Rattle.dsr_feasible.proofs.BoundVars.{measured}
@@ -48,6 +47,7 @@ use Rattle.dsr_feasible.proofs.DueForms.{IsDueForm, goal_same}
 use Rattle.dsr_feasible.proofs.GreatestFact.{counted_listed, greatest}
 use Rattle.dsr_feasible.proofs.RawForms.{GoalAdds, IsForOne, IsTakenBy, IsTrimmed}
 use Rattle.dsr_feasible.proofs.TakenGoals.{adding_adds}
+use Rattle.dsr_meaning.proofs.Items.{item_at, of_all}
 
 -- ---- sets that are no complements
 

@@ -33,14 +33,14 @@ use Rattle.dsr_meaning.specs.Instances.{Gives, Includes}
 use Rattle.dsr_meaning.specs.Looking.{IsCounted, symbol_of}
 use Rattle.dsr_meaning.specs.Models.{Chain, begin, follow, IsDerivedBy, IsFact}
 use Rattle.dsr_meaning.specs.Truth.{element_of}
-use Rattle.dsr_stepped.proofs.Items.{none_of, place_of}
 use Rattle.dsr_updating.specs.Givers.{IsGiver, givers}
 use Rattle.dsr_updating.specs.Options.{options}
 use Rattle.dsr_updating.specs.Templates.{counted_symbol, item_or_last, removal_updates, removing}
 use Rattle.dsr_feasible.proofs.DueForms.{IsDueForm, at_compensated, goal_same}
-use Rattle.dsr_feasible.proofs.FormItems.{giver_in, made_in}
+use Rattle.dsr_feasible.proofs.FormItems.{giver_in}
 use Rattle.dsr_feasible.proofs.RawForms.{GoalAdds, IsRemoval, IsTakenBy, taken_var}
 use Rattle.dsr_feasible.proofs.TakenGoals.{adding_adds, taking_adds_none, taking_takes}
+use Rattle.dsr_meaning.proofs.Items.{filter_in, none_of, place_of}
 
 -- ---- the first update of one that adds
 
@@ -127,7 +127,7 @@ update_of spec symbol v updates k rule removal giver =
     let able : nat_eq (length (options spec.base rule)) 0 ≡ false = none_of (λ (r : ℕ × Rule). nat_eq (length (options spec.base r.1)) 0) rules removal.able (k, rule) among in
     let write = last_there (options spec.base rule) removal.number able in
     let made : option_map (removing v k rule) (item_or_last (options spec.base rule) removal.number) ≡ Some (removing v k rule write.0) = ap (option_map (removing v k rule)) write.1 in
-    let is_in = made_in (λ (r : ℕ × Rule). option_map (removing v r.0 r.1) (item_or_last (options spec.base r.1) removal.number)) rules (k, rule) (removing v k rule write.0) among made in
+    let is_in = filter_in (λ (r : ℕ × Rule). option_map (removing v r.0 r.1) (item_or_last (options spec.base r.1) removal.number)) rules (k, rule) (removing v k rule write.0) among made in
     let at = place_of (removal_updates spec.base v removal.number rules) (removing v k rule write.0) is_in in
     record { place = at.0; update = removing v k rule write.0; there = ap (λ us. slice_get us at.0) removal.are ∙ at.1; rule_is = refl }
 

@@ -19,7 +19,6 @@ use Rattle.dsr_meaning.specs.Refusals.{refusals_by}
 use Rattle.dsr_meaning.specs.Writes.{AreCellsApart}
 use Rattle.dsr_repairing.specs.Images.{IsFree, IsImageOf, IsOfHead}
 use Rattle.dsr_resolved.proofs.AcceptedLayouts.{legal_of}
-use Rattle.dsr_stepped.proofs.Items.{of_all}
 use Rattle.dsr_stepping.specs.Puts.{ArePut}
 use Rattle.dsr_stepping.specs.Resets.{reset_puts}
 use Rattle.dsr_stepping.specs.Steps.{CanStep, CanWrite, IsSlot, IsStepped, written_cell, written_index}
@@ -29,6 +28,7 @@ use Rattle.dsr_kept.proofs.Clear.{puts_as_long, puts_leave, writes_as_long, writ
 use Rattle.dsr_kept.proofs.FixedEntries.{IsFixedEntry, fixed_entry, fixed_field}
 use Rattle.dsr_kept.proofs.HeadApart.{LiesInSlot, entry_in_slot, slot_apart}
 use Rattle.dsr_kept.proofs.ResetPuts.{reset_clear}
+use Rattle.dsr_meaning.proofs.Items.{of_all}
 
 -- the layout of an image is that of one which is as long, and has the same values of fixed fields
 same_layout : (spec : Spec) (layout : Layout) (old new : List ℕ) → IsImageOf spec layout old → length new ≡ length old → ((k : ℕ) → fixed_value spec.base new k ≡ fixed_value spec.base old k) → IsImageOf spec layout new

@@ -23,7 +23,7 @@ without x (z ∷ xs) (inr h) =
     }
 
 -- different things that all stand in a list are no more than its places
-no_more : {A : Type 0} (xs ys : List A) → IsDistinct xs → ((x : A) → IsIn x xs → IsIn x ys) → length xs ≤ length ys
+pub no_more : {A : Type 0} (xs ys : List A) → IsDistinct xs → ((x : A) → IsIn x xs → IsIn x ys) → length xs ≤ length ys
 no_more [] ys d h = omega arith
 no_more (x ∷ xs) ys d h =
     let w = without x ys (h x (inl refl)) in

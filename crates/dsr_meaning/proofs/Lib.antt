@@ -3,7 +3,9 @@ pub mod Counts
 pub mod Derived
 pub mod Empty
 pub mod Firing
+pub mod Items
 pub mod Lists
+pub mod Options
 pub mod Ordered
 pub mod Placing
 pub mod Powers

@@ -2,11 +2,6 @@
 use Rattle.std.proofs.Common.{◌≡◌, ◌⊎◌, ◌++◌, List, [], ◌∷◌, refl, inl, inr}
 use Rattle.dsr_meaning.specs.Counting.{IsIn}
 
-pub in_front : {A : Type 0} (x : A) (xs ys : List A) → IsIn x xs → IsIn x (xs ++ ys)
-in_front x [] ys here = absurd here
-in_front x (y ∷ xs) ys (inl same) = inl same
-in_front x (y ∷ xs) ys (inr later) = inr (in_front x xs ys later)
-
 pub last_in : {A : Type 0} (x : A) (xs : List A) → IsIn x (xs ++ x ∷ [])
 last_in x [] = inl refl
 last_in x (y ∷ xs) = inr (last_in x xs)

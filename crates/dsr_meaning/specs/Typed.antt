@@ -1,6 +1,6 @@
 -- When a specification is typed: each number in it names an entry of the table for which it is used, and no condition
 -- under which a specification is refused holds, as far as tables tell it.
-use Rattle.std.specs.Prelude.{◌≡◌, ◌≢◌, ◌≤◌, ◌<◌, ◌+◌, ◌-◌, ◌^◌, ◌++◌, ℕ, suc, false, nat_eq, IsTrue, IsSome, List, [], ◌∷◌, map, reverse, length, take, codes, All, Option, None, Some, IfSome, IsSomeAnd, option_map, option_and_then, MatchBool, if◌then◌else◌, slice_get}
+use Rattle.std.specs.Prelude.{◌≡◌, ◌≢◌, ◌≤◌, ◌<◌, ◌+◌, ◌-◌, ◌^◌, ◌++◌, ℕ, suc, true, false, nat_eq, IsTrue, IsSome, List, [], ◌∷◌, map, reverse, length, take, codes, All, Option, None, Some, IfSome, IsSomeAnd, option_map, option_and_then, MatchBool, if◌then◌else◌, slice_get}
 use Rattle.std.specs.Option.{option_map_or}
 use Rattle.dsr_ir.specs.Exprs.{ExprShape, NumOf, FixedOf, SumOf, LessOf, TimesOf, OverOf}
 use Rattle.dsr_ir.specs.Rules.{gives, target_of}
@@ -266,7 +266,8 @@ pub record GivesTarget (base : Structures) (rule : Rule) (rel source : ℕ) (pat
   pub relates : Relates base rel source target
   pub reads : Reads base rule path target
 
--- what a rule gives: a member of a plain set of its pool, or a pair of a relation of its pools
+-- what a rule gives: a member of a plain set of its pool, or a pair of a relation of its pools; the target of a pair
+-- whose source is the index's slot is read at that index
 abbrev pub IsTypedInc : Structures → Rule → Inc → Type 0
 IsTypedInc base rule (Own set) = IsPlainSetOf base (pool_of_premise base rule.premise) set
 IsTypedInc base rule (Target set path) =
@@ -275,7 +276,7 @@ IsTypedInc base rule (Slot set pool) = IsPlainSetOf base pool set × CountsSlots
 IsTypedInc base rule (OwnPair rel path) =
     GivesTarget base rule rel (pool_of_premise base rule.premise) path
 IsTypedInc base rule (SlotPair rel pool path) =
-    CountsSlots base rule.span pool × GivesTarget base rule rel pool path
+    CountsSlots base rule.span pool × GivesTarget base rule rel pool path × (path.indexed ≡ true)
 
 pub record IsTypedRule (base : Structures) (rule : Rule) : Type 0 where
   pub premise : IfSome rule.premise (λ n. IsSomeAnd (slice_get base.sets n) (λ s. s.except ≡ None))

@@ -14,9 +14,10 @@ use Rattle.dsr_ir.specs.declared.constraints.Var.{Var}
 use Rattle.dsr_ir.specs.declared.constraints.Var.TheVariants as vars
 use Rattle.dsr_ir.specs.declared.rules.Op.{Op}
 use Rattle.dsr_ir.specs.declared.rules.Op.TheVariants as ops
-use Rattle.dsr_meaning.proofs.Lists.{in_front, in_front_or_last, last_in}
+use Rattle.dsr_meaning.proofs.Lists.{in_front_or_last, last_in}
 use Rattle.dsr_meaning.specs.Counting.{IsIn, IsDistinct, Enumerates}
 use Rattle.dsr_typing.specs.NormalForms.{is_same_var, is_same_op, is_same_measure, is_same_bound, is_same_atom, has_atom, different, has_many_atoms}
+use Rattle.dsr_meaning.proofs.Items.{in_left}
 
 -- ---- what is told to be the same is the same
 
@@ -165,7 +166,7 @@ seen_kept : (seen atoms : List Atom) (x : Atom) → IsIn x seen → IsIn x (diff
 seen_kept seen [] x h = h
 seen_kept seen (a ∷ rest) x h = elim (has_atom seen a) as (λ t. IsIn x (different (if t then seen else seen ++ (a ∷ [])) rest)) [
   | true ↦ seen_kept seen rest x h
-  | false ↦ seen_kept (seen ++ (a ∷ [])) rest x (in_front x seen (a ∷ []) h)
+  | false ↦ seen_kept (seen ++ (a ∷ [])) rest x (in_left x seen (a ∷ []) h)
 ]
 
 all_kept : (seen atoms : List Atom) (x : Atom) → IsIn x atoms → IsIn x (different seen atoms)

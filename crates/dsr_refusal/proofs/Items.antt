@@ -45,15 +45,3 @@ number_in (m ∷ members) member (inr later) = inr (number_in members member lat
 pub first_in : (numbers : List ℕ) (n : ℕ) → slice_get numbers 0 ≡ Some n → IsIn n numbers
 first_in [] n here = absurd cc
 first_in (m ∷ numbers) n here = inl cc
-
--- ---- places
-
-pub is_in : {T : Type 0} (xs : List T) (n : ℕ) (x : T) → slice_get xs n ≡ Some x → IsIn x xs
-is_in [] n x here = absurd cc
-is_in (y ∷ xs) zero x here = inl cc
-is_in (y ∷ xs) (suc n) x here = inr (is_in xs n x here)
-
-pub place_of : {T : Type 0} (xs : List T) (x : T) → IsIn x xs → (n : ℕ) × (slice_get xs n ≡ Some x)
-place_of [] x among = absurd among
-place_of (y ∷ xs) x (inl same) = (0, ap Some (sym same))
-place_of (y ∷ xs) x (inr later) = let its = place_of xs x later in (suc its.0, its.1)

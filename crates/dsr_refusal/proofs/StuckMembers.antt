@@ -6,7 +6,7 @@ use Rattle.dsr_ir.specs.declared.constraints.Constraint.{Constraint}
 use Rattle.dsr_ir.specs.declared.declarations.Spec.{Spec}
 use Rattle.dsr_ir.specs.declared.updates.Template.{Template}
 use Rattle.dsr_listing.specs.Owners.{Owner}
-use Rattle.dsr_meaning.proofs.Lists.{in_front, in_front_or_last, last_in}
+use Rattle.dsr_meaning.proofs.Lists.{in_front_or_last, last_in}
 use Rattle.dsr_meaning.specs.Counting.{IsIn}
 use Rattle.dsr_planning.proofs.Grown.{covers_fewer}
 use Rattle.dsr_planning.specs.Plans.{Covers, IsListedAt, owner_at}
@@ -17,6 +17,7 @@ use Rattle.dsr_planning.specs.declared.refusals.StuckWay.{StuckWay}
 use Rattle.dsr_refusal.proofs.Firsts.{none_at_all}
 use Rattle.dsr_refusal.proofs.Items.{in_order_more, number_in, numbers_more}
 use Rattle.dsr_refusal.specs.Members.{AreMembers, AreMembersBelow, EachWaits, IsMemberAt}
+use Rattle.dsr_meaning.proofs.Items.{in_left}
 
 below_or_at : (m n : ℕ) → m < n + 1 → (m < n) ⊎ (m ≡ n)
 below_or_at m n less =
@@ -60,7 +61,7 @@ module _ (spec : Spec) (Member : ℕ → Type 0) where
     one_more = record {
       in_order = subst (AreInOrder ◌<◌) (sym numbers) (in_order_more ◌<◌ (numbers_of members) n its.in_order its.below);
       all = λ m less is. subst (IsIn m) (sym numbers) (elim (below_or_at m n less) as (λ _. IsIn m (numbers_of members ++ n ∷ [])) [
-        | inl lower ↦ in_front m (numbers_of members) (n ∷ []) (its.all m lower is)
+        | inl lower ↦ in_left m (numbers_of members) (n ∷ []) (its.all m lower is)
         | inr same ↦ subst (λ k. IsIn k (numbers_of members ++ n ∷ [])) (sym same) (last_in n (numbers_of members))
       ]);
       only = λ m among. elim (either m among) as (λ _. Member m) [

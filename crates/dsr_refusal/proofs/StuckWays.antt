@@ -6,7 +6,7 @@ use Rattle.dsr_breaking.specs.declared.causes.Reason.{Reason}
 use Rattle.dsr_ir.specs.declared.updates.Template.{Template}
 use Rattle.dsr_listing.specs.Lists.{AreListed, AreListedOf}
 use Rattle.dsr_listing.specs.Owners.{Owner}
-use Rattle.dsr_meaning.proofs.Lists.{in_front, in_front_or_last, last_in}
+use Rattle.dsr_meaning.proofs.Lists.{in_front_or_last, last_in}
 use Rattle.dsr_meaning.specs.Counting.{IsIn}
 use Rattle.dsr_planning.specs.Refusals.{AreStuckWays, BreaksFor, BreaksMember, IsFirst, IsStuckWay, WayComes}
 use Rattle.dsr_planning.specs.Stuck.{SparesMembers}
@@ -16,6 +16,7 @@ use Rattle.dsr_refusal.proofs.Items.{in_order_more}
 use Rattle.dsr_refusal.specs.Ways.{AreWaysBefore, ComesBefore, IsAt, IsFirstBroken, IsNoWay, IsWayAt}
 use Rattle.dsr_sides.proofs.Standing.{place_below}
 use Rattle.dsr_updating.specs.Templates.{literal_at}
+use Rattle.dsr_meaning.proofs.Items.{in_left}
 
 some_is : {T : Type 0} (x y : T) → Some x ≡ Some y → x ≡ y
 some_is x y e = cc
@@ -166,7 +167,7 @@ module _ (owner : Owner) (Member : ℕ → Type 0) (templates : ℕ → ℕ → 
   one_more conj literal count ways w its before = record {
     in_order = in_order_more WayComes ways w before.in_order (λ v among. comes_then v w conj literal count (before.only v among).1 its.is_at);
     all = λ v stuck comes. elim (earlier_or_at v conj literal count comes) as (λ _. IsIn v (ways ++ w ∷ [])) [
-      | inl earlier ↦ in_front v ways (w ∷ []) (before.all v stuck earlier)
+      | inl earlier ↦ in_left v ways (w ∷ []) (before.all v stuck earlier)
       | inr here ↦
           let same = same_way v w stuck its.stuck (here.conj_is ∙ sym its.is_at.conj_is) (here.literal_is ∙ sym its.is_at.literal_is) (here.number_is ∙ sym its.is_at.number_is) in
           subst (λ x. IsIn x (ways ++ w ∷ [])) (sym same) (last_in w ways)

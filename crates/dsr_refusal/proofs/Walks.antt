@@ -8,34 +8,9 @@ use Rattle.dsr_planning.specs.Refusals.{AreWaiting, AwaitsMember, IsAmong, IsCyc
 use Rattle.dsr_planning.specs.declared.refusals.StuckMember.{StuckMember}
 use Rattle.dsr_refusal.proofs.Items.{distinct_more, first_in}
 use Rattle.dsr_refusal.specs.Members.{IsWalk, WaitsAmong}
+use Rattle.dsr_meaning.proofs.Counts.{no_more}
 
 -- ---- different things that all stand in a list are no more than its places
-
-record Without {A : Type 0} (x : A) (xs : List A) : Type 0 where
-  rest : List A
-  shorter : length xs ≡ suc (length rest)
-  others : (y : A) → IsIn y xs → (y ≡ x) ⊎ IsIn y rest
-
-without : {A : Type 0} (x : A) (xs : List A) → IsIn x xs → Without x xs
-without x [] h = absurd h
-without x (z ∷ xs) (inl e) = record { rest = xs; shorter = refl; others = λ y h. elim h as (λ _. (y ≡ x) ⊎ IsIn y xs) [ inl f ↦ inl (f ∙ sym e) | inr i ↦ inr i ] }
-without x (z ∷ xs) (inr h) =
-    let w = without x xs h in
-    record {
-      rest = z ∷ w.rest;
-      shorter = ap suc w.shorter;
-      others = λ y i. elim i as (λ _. (y ≡ x) ⊎ IsIn y (z ∷ w.rest)) [
-        | inl f ↦ inr (inl f)
-        | inr j ↦ elim (w.others y j) as (λ _. (y ≡ x) ⊎ IsIn y (z ∷ w.rest)) [ inl f ↦ inl f | inr k ↦ inr (inr k) ]
-      ];
-    }
-
-no_more : {A : Type 0} (xs ys : List A) → IsDistinct xs → ((x : A) → IsIn x xs → IsIn x ys) → length xs ≤ length ys
-no_more [] ys d h = omega arith
-no_more (x ∷ xs) ys d h =
-    let w = without x ys (h x (inl refl)) in
-    let rest = no_more xs w.rest d.1 (λ y i. elim (w.others y (h y (inr i))) as (λ _. IsIn y w.rest) [ inl e ↦ absurd (d.0 (subst (λ z. IsIn z xs) e i)) | inr k ↦ k ]) in
-    omega (arith, rest, w.shorter)
 
 -- ---- paths
 

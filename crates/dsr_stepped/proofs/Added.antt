@@ -37,7 +37,6 @@ use Rattle.dsr_meaning.specs.Truth.{element_of}
 use Rattle.dsr_meaning.specs.Typed.{IsTypedGuard, IsTypedPath, IsTypedRule, RunsOver}
 use Rattle.dsr_stepped.proofs.AllTrue.{accepted, other_in, same_field, target_written, write_of}
 use Rattle.dsr_stepped.proofs.GuardWrites.{IsGuardWrite}
-use Rattle.dsr_stepped.proofs.Items.{all_of, of_all}
 use Rattle.dsr_stepped.proofs.Passed.{picked_meets}
 use Rattle.dsr_stepped.proofs.ReferenceWrites.{IsReferenceWrite, reference_written}
 use Rattle.dsr_stepped.proofs.Removed.{none_is_none}
@@ -47,6 +46,7 @@ use Rattle.dsr_stepped.specs.Additions.{IsAddition, written_instance}
 use Rattle.dsr_stepping.specs.Steps.{IsSlot, IsStepped, code_of, picked_number}
 use Rattle.dsr_stepping.specs.declared.steps.Step.{Step}
 use Rattle.dsr_updating.specs.Templates.{all_true, is_on, others, passes_slot, target_writes}
+use Rattle.dsr_meaning.proofs.Items.{all_of, of_all}
 
 -- a typed path of a rule without index has none either
 unindexed : (base : Structures) (rule : Rule) (path : Path) → rule.span ≡ Single → IsTypedPath base rule path → path.indexed ≡ false

@@ -14,10 +14,10 @@ use Rattle.dsr_ir.specs.declared.updates.Write.{Write}
 use Rattle.dsr_meaning.specs.Counting.{IsIn}
 use Rattle.dsr_meaning.specs.Lists.{any_of}
 use Rattle.dsr_stepped.proofs.GuardWrites.{IsGuardWrite, guard_written}
-use Rattle.dsr_stepped.proofs.Items.{none_of}
 use Rattle.dsr_updating.specs.Guards.{guard_write}
 use Rattle.dsr_updating.specs.Options.{reference_write}
 use Rattle.dsr_updating.specs.Templates.{accept_slot, all_true, is_on, is_same_field, others, passes_slot, target_writes}
+use Rattle.dsr_meaning.proofs.Items.{none_of}
 
 -- ---- fields that are the same
 

@@ -5,9 +5,9 @@ use Rattle.std.proofs.lemmas.Option.{same_Some}
 use Rattle.dsr_ir.specs.declared.declarations.Structures.{Structures}
 use Rattle.dsr_ir.specs.declared.updates.Write.{Write}
 use Rattle.dsr_meaning.specs.Counting.{IsIn}
-use Rattle.dsr_stepped.proofs.Items.{item_at, place_of}
 use Rattle.dsr_stepped.proofs.Related.{lines_related, related_lines}
 use Rattle.dsr_updating.specs.Together.{MayStandBeside, MayStandTogether}
+use Rattle.dsr_meaning.proofs.Items.{item_at, place_of}
 
 turned_sum : {A B : Type 0} → A ⊎ B → B ⊎ A
 turned_sum (inl x) = inr x

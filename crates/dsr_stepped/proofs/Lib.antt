@@ -1,4 +1,3 @@
-pub mod Items
 pub mod GuardWrites
 pub mod ReferenceWrites
 pub mod Set

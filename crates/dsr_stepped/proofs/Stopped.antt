@@ -20,10 +20,10 @@ use Rattle.dsr_stepping.specs.Steps.{AreWritten, IsStepped}
 use Rattle.dsr_stepping.specs.Steps.AreWritten.{made, skipped}
 use Rattle.dsr_stepping.specs.declared.steps.Step.{Step}
 use Rattle.dsr_stepped.proofs.GuardWrites.{guard_written, wanted_write}
-use Rattle.dsr_stepped.proofs.Items.{of_all}
 use Rattle.dsr_stepped.proofs.Removed.{picked_fails}
 use Rattle.dsr_stepped.proofs.Set.{nothing_written}
 use Rattle.dsr_updating.specs.Guards.{guard_write, pick_false}
+use Rattle.dsr_meaning.proofs.Items.{of_all}
 
 module _ (spec : Spec) (layout : Layout) (legal : IsLegalLayout layout) (step : Step) (guard : Guard) (f : Field) (pick : Pick) (picks : pick_false f guard.test ≡ Some pick) where
   -- the test doesn't hold of what the write leaves

@@ -16,11 +16,11 @@ use Rattle.dsr_meaning.specs.Typed.{AreTyped, Descends, IsTyped, IsTypedGuard, I
 use Rattle.dsr_stepped.proofs.AllTrue.{first_true, guard_of, in_others, other_field, target_written}
 use Rattle.dsr_stepped.proofs.Beside.{nothing_together, together_more}
 use Rattle.dsr_stepped.proofs.GuardWrites.{guard_written}
-use Rattle.dsr_stepped.proofs.Items.{none_of, of_all}
 use Rattle.dsr_stepped.proofs.ReferenceWrites.{reference_written}
 use Rattle.dsr_stepped.proofs.Related.{in_line, lines_related}
 use Rattle.dsr_updating.specs.Templates.{all_true, is_on, others, target_writes}
 use Rattle.dsr_updating.specs.Together.{MayStandBeside, MayStandTogether}
+use Rattle.dsr_meaning.proofs.Items.{none_of, of_all}
 
 -- the path of what a typed rule gives is a typed one
 pub target_typed : (base : Structures) (rule : Rule) (inc : Inc) (path : Path) → target_of inc ≡ Some path → IsTypedInc base rule inc → IsTypedPath base rule path

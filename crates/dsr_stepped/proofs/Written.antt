@@ -16,12 +16,12 @@ use Rattle.dsr_meaning.specs.Legal.{IsLegalLayout}
 use Rattle.dsr_meaning.specs.Writes.{AreCellsApart}
 use Rattle.dsr_resolved.proofs.AcceptedLayouts.{legal_of}
 use Rattle.dsr_stepped.proofs.Beside.{first_beside, rest_together}
-use Rattle.dsr_stepped.proofs.Items.{of_all}
 use Rattle.dsr_stepped.proofs.Related.{related_lines}
 use Rattle.dsr_stepping.specs.Steps.{AreWritten, CanStep, CanWrite, IsWanted, written_cell, written_index, written_number}
 use Rattle.dsr_stepping.specs.Steps.AreWritten.{done, made, skipped}
 use Rattle.dsr_stepping.specs.declared.steps.Step.{Step}
 use Rattle.dsr_updating.specs.Together.{MayStandBeside, MayStandTogether}
+use Rattle.dsr_meaning.proofs.Items.{of_all}
 
 -- the cell of a write has the picked number, or a value of which holds what the write wants
 pub record IsLeft (spec : Spec) (layout : Layout) (step : Step) (write : Write) (bytes : List ℕ) : Type 0 where

@@ -71,12 +71,6 @@ none_found test n (y ∷ ys) e x (inr later) =
       | false ↦ λ h. none_found test (n + 1) ys h x later
     ] e
 
--- where not any passes, none does
-pub none_of : {T : Type 0} (test : T → Bool) (xs : List T) → any_of test xs ≡ false → (x : T) → IsIn x xs → test x ≡ false
-none_of test [] e x is_in = absurd is_in
-none_of test (y ∷ ys) e x (inl same) = ap test same ∙ (neither (test y) (any_of test ys) e).0
-none_of test (y ∷ ys) e x (inr later) = none_of test ys (neither (test y) (any_of test ys) e).1 x later
-
 -- where some number passes as equal, it is in the list
 pub some_is : (n : ℕ) (ns : List ℕ) → any_of (nat_eq n) ns ≡ true → IsIn n ns
 some_is n [] e = absurd cc

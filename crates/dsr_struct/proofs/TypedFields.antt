@@ -34,7 +34,8 @@ use Rattle.dsr_struct.proofs.NamesInExprs.{number_has, expr_is_typed, maybe_is_t
 use Rattle.dsr_struct.proofs.Numbered.{structure_at, structure_named}
 use Rattle.dsr_struct.proofs.Parts.{known_name, SoundField, sound_field}
 use Rattle.dsr_struct.proofs.PlaceableTables.{is_placeable}
-use Rattle.dsr_struct.proofs.Sound.{neither, not_false, not_true, at_is, made_at, made_of, made_in, none_found, none_of, all_made}
+use Rattle.dsr_struct.proofs.Sound.{neither, not_false, not_true, at_is, made_at, made_of, made_in, none_found, all_made}
+use Rattle.dsr_meaning.proofs.Items.{none_of}
 
 -- a number that isn't found at another one or behind it is before
 is_before : (i : ℕ) (o : Option ℕ) → is_none o ≡ false → is_not_before i o ≡ false → unwrap_or o 0 < i

@@ -6,13 +6,14 @@ use Rattle.dsr_ir.specs.declared.constraints.Constraint.{Constraint}
 use Rattle.dsr_ir.specs.declared.declarations.Spec.{Spec}
 use Rattle.dsr_ir.specs.declared.tuples.Binding.{Binding}
 use Rattle.dsr_ir.specs.declared.tuples.Fact.{Fact}
-use Rattle.dsr_meaning.proofs.Lists.{in_front, last_in}
+use Rattle.dsr_meaning.proofs.Lists.{last_in}
 use Rattle.dsr_meaning.proofs.Ordered.{bindings_apart, bindings_one_way}
 use Rattle.dsr_meaning.specs.Consistency.{AreInOrder, AreViolations, BoundConstraint, bound_constraint, Comes, IsBinding, IsViolated}
 use Rattle.dsr_meaning.specs.Counting.{IsIn}
 use Rattle.dsr_meaning.specs.Orders.{BindingPrecedes}
 use Rattle.dsr_truth.proofs.Ordering.{bindings_follow}
 use Rattle.dsr_truth.specs.Walks.{AreFound, FindsLeastBinding, IsLaterBinding, IsLeastBinding, IsPassed, IsUnsatisfied, IsViolatedAt}
+use Rattle.dsr_meaning.proofs.Items.{in_left}
 
 in_either : {A : Type 0} (x z : A) (xs : List A) → IsIn x (xs ++ z ∷ []) → IsIn x xs ⊎ (x ≡ z)
 in_either x z [] (inl same) = inr same
@@ -130,7 +131,7 @@ module _ (is_fact : Fact → Type 0) (spec : Spec) (k : ℕ) (c : Constraint)
       in_order = order_more vs (bound_constraint (k, b)) found.in_order (λ w here. comes_before w (found.passed w here));
       all = λ v violated passed. elim (passed_before v violated passed) [
         | inl here ↦ subst (λ x. IsIn x (vs ++ bound_constraint (k, b) ∷ [])) (sym here) (last_in (bound_constraint (k, b)) vs)
-        | inr before ↦ in_front v vs (bound_constraint (k, b) ∷ []) (found.all v violated before)
+        | inr before ↦ in_left v vs (bound_constraint (k, b) ∷ []) (found.all v violated before)
       ];
       only = λ v here. elim (in_either v (bound_constraint (k, b)) vs here) [
         | inl front ↦ found.only v front

@@ -32,10 +32,11 @@ use Rattle.dsr_typing.specs.RuleFaults.{is_other_head, path_names, term_names, i
 use Rattle.dsr_typing.specs.TypedRules.{number_of, path_in, typed_pair, typed_member, typed_inclusion, typed_rule}
 use Rattle.dsr_typed.specs.Meant.{meant}
 use Rattle.dsr_typed.proofs.FoundNames.{FoundItem, found_relation}
-use Rattle.dsr_typed.proofs.Items.{made_in, none_of, each_in}
+use Rattle.dsr_typed.proofs.Items.{each_in}
 use Rattle.dsr_typed.proofs.RulePaths.{second_fails, path_here}
 use Rattle.dsr_typed.proofs.RuleScopes.{FieldHere, tested, place_here, Grounded, scope_in, premise_in}
 use Rattle.dsr_typed.proofs.TypedRules.{sound_rule}
+use Rattle.dsr_meaning.proofs.Items.{in_map, none_of}
 
 -- a pair gives facts of its relation, with the target that its path reads
 pair_gives : (scope : Scope) (term : Term) (n rel : ℕ) (p : TypedPath) → gives (symbols.Rel rel) (typed_pair scope term n p) ≡ nat_eq n rel
@@ -95,11 +96,11 @@ module _ (base : Structures) (rel k : ℕ) (path : TypedPath) (f : Field) (r : R
 pub fits_values : (base : Structures) (rs : List Rule) (constraints : List ConstraintTree) → rules_faults (known_in base) rs ≡ [] → (rel k : ℕ) → is_too_great (known_in base) rs k (Some rel) ≡ false → FitsValues (meant base rs constraints) rel k
 fits_values base rs constraints empty rel k e rule path f is gives_it target declared =
     let known = known_in base in
-    let m = made_in (typed_rule known) rs rule is in
-    let small = none_of (λ r. field_is base (is_too_narrow k) (value_field known rel r)) rs e m.item m.is in
-    let none = each_in (rule_faults known) 0 rs empty m.item m.is in
-    let sound = sound_rule base none.at m.item none.empty in
-    fits_inclusion base rel k path f m.item sound.ground m.item.inclusion sound.inclusion small
-    (subst (λ x. gives (symbols.Rel rel) x.inc ≡ true) m.made gives_it)
-    (subst (λ x. target_of x.inc ≡ Some path) m.made target)
+    let m = in_map (typed_rule known) rs rule is in
+    let small = none_of (λ r. field_is base (is_too_narrow k) (value_field known rel r)) rs e m.from m.among in
+    let none = each_in (rule_faults known) 0 rs empty m.from m.among in
+    let sound = sound_rule base none.at m.from none.empty in
+    fits_inclusion base rel k path f m.from sound.ground m.from.inclusion sound.inclusion small
+    (subst (λ x. gives (symbols.Rel rel) x.inc ≡ true) m.is gives_it)
+    (subst (λ x. target_of x.inc ≡ Some path) m.is target)
     declared

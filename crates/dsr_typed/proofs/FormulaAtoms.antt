@@ -13,7 +13,7 @@ use Rattle.dsr_text.proofs.Absent.{when_absent}
 use Rattle.dsr_typing.specs.Constraints.{atom_faults, formula_faults, joins_faults, join_faults, units_faults, unit_faults, is_value, has_value, joins_have_value, join_has_value, units_have_value, unit_has_value, negations, joins_negations, join_negations, units_negations, unit_negations}
 use Rattle.dsr_typing.specs.NormalForms.{atoms_of, row_atoms, is_membership, negates, row_negates}
 use Rattle.dsr_typing.specs.TypedConstraints.{Scope, typed_atom, typed_formula, typed_joins, typed_join, typed_units, typed_unit}
-use Rattle.dsr_typed.proofs.Items.{in_append}
+use Rattle.dsr_meaning.proofs.Items.{in_either}
 
 -- an atom that is made of one without faults
 pub record IsSound (scope : Scope) (rs : List Rule) (a : Atom) : Type 0 where
@@ -21,32 +21,32 @@ pub record IsSound (scope : Scope) (rs : List Rule) (a : Atom) : Type 0 where
   pub no_fault : atom_faults scope rs tree ≡ []
   pub made : a ≡ typed_atom scope tree
 
-in_either : (scope : Scope) (rs : List Rule) (xs ys : List Atom) → ((a : Atom) → IsIn a xs → IsSound scope rs a) → ((a : Atom) → IsIn a ys → IsSound scope rs a) → (a : Atom) → IsIn a (xs ++ ys) → IsSound scope rs a
-in_either scope rs xs ys one other a is = elim (in_append a xs ys is) as (λ _. IsSound scope rs a) [ inl l ↦ one a l | inr r ↦ other a r ]
+sound_either : (scope : Scope) (rs : List Rule) (xs ys : List Atom) → ((a : Atom) → IsIn a xs → IsSound scope rs a) → ((a : Atom) → IsIn a ys → IsSound scope rs a) → (a : Atom) → IsIn a (xs ++ ys) → IsSound scope rs a
+sound_either scope rs xs ys one other a is = elim (in_either a xs ys is) as (λ _. IsSound scope rs a) [ inl l ↦ one a l | inr r ↦ other a r ]
 
 module _ (scope : Scope) (rs : List Rule) where
   mutual
     pub sound_formula : (f : FormulaTree) → formula_faults scope rs f ≡ [] → (a : Atom) → IsIn a (atoms_of (typed_formula scope f)) → IsSound scope rs a
     sound_formula (formula_tree first rest) e =
         let both = both_empty (join_faults scope rs first) (joins_faults scope rs rest) e in
-        in_either scope rs (atoms_of (typed_join scope first)) (row_atoms (typed_joins scope rest)) (sound_join first both.0) (sound_joins rest both.1)
+        sound_either scope rs (atoms_of (typed_join scope first)) (row_atoms (typed_joins scope rest)) (sound_join first both.0) (sound_joins rest both.1)
 
     sound_joins : (js : JoinTrees) → joins_faults scope rs js ≡ [] → (a : Atom) → IsIn a (row_atoms (typed_joins scope js)) → IsSound scope rs a
     sound_joins no_joins e = λ a is. absurd is
     sound_joins (more_joins join rest) e =
         let both = both_empty (join_faults scope rs join) (joins_faults scope rs rest) e in
-        in_either scope rs (atoms_of (typed_join scope join)) (row_atoms (typed_joins scope rest)) (sound_join join both.0) (sound_joins rest both.1)
+        sound_either scope rs (atoms_of (typed_join scope join)) (row_atoms (typed_joins scope rest)) (sound_join join both.0) (sound_joins rest both.1)
 
     sound_join : (j : JoinTree) → join_faults scope rs j ≡ [] → (a : Atom) → IsIn a (atoms_of (typed_join scope j)) → IsSound scope rs a
     sound_join (join_tree first rest) e =
         let both = both_empty (unit_faults scope rs first) (units_faults scope rs rest) e in
-        in_either scope rs (atoms_of (typed_unit scope first)) (row_atoms (typed_units scope rest)) (sound_unit first both.0) (sound_units rest both.1)
+        sound_either scope rs (atoms_of (typed_unit scope first)) (row_atoms (typed_units scope rest)) (sound_unit first both.0) (sound_units rest both.1)
 
     sound_units : (us : UnitTrees) → units_faults scope rs us ≡ [] → (a : Atom) → IsIn a (row_atoms (typed_units scope us)) → IsSound scope rs a
     sound_units no_units e = λ a is. absurd is
     sound_units (more_units unit rest) e =
         let both = both_empty (unit_faults scope rs unit) (units_faults scope rs rest) e in
-        in_either scope rs (atoms_of (typed_unit scope unit)) (row_atoms (typed_units scope rest)) (sound_unit unit both.0) (sound_units rest both.1)
+        sound_either scope rs (atoms_of (typed_unit scope unit)) (row_atoms (typed_units scope rest)) (sound_unit unit both.0) (sound_units rest both.1)
 
     sound_unit : (u : UnitTree) → unit_faults scope rs u ≡ [] → (a : Atom) → IsIn a (atoms_of (typed_unit scope u)) → IsSound scope rs a
     sound_unit (not_tree place unit) e = sound_unit unit e

@@ -6,8 +6,8 @@ use Rattle.dsr_ir.specs.declared.constraints.Atom.{Atom}
 use Rattle.dsr_ir.specs.declared.constraints.Literal.{Literal}
 use Rattle.dsr_meaning.specs.Counting.{IsIn}
 use Rattle.dsr_typing.specs.NormalForms.{joined, distributed, any_row, every_row, atoms_of, row_atoms, is_membership, negates, row_negates, longest}
-use Rattle.dsr_typed.proofs.Items.{in_append, in_left, in_right, made_in}
 use Rattle.dsr_typed.proofs.RulePaths.{second_fails}
+use Rattle.dsr_meaning.proofs.Items.{in_either, in_left, in_map, in_right}
 
 -- a literal with an atom of these, negated only where that is a membership
 pub record IsFrom (xs : List Atom) (l : Literal) : Type 0 where
@@ -34,15 +34,15 @@ record JoinedOf (left right : List (List Literal)) (conj : List Literal) : Type 
 joined_of : (left right : List (List Literal)) (conj : List Literal) → IsIn conj (joined left right) → JoinedOf left right conj
 joined_of [] right conj is = absurd is
 joined_of (first ∷ left) right conj is =
-    elim (in_append conj (map (λ d. first ++ d) right) (joined left right) is) as (λ _. JoinedOf (first ∷ left) right conj) [
-      | inl here ↦ let m = made_in (λ d. first ++ d) right conj here in record { one = first; other = m.item; on_left = inl refl; on_right = m.is; is = m.made }
+    elim (in_either conj (map (λ d. first ++ d) right) (joined left right) is) as (λ _. JoinedOf (first ∷ left) right conj) [
+      | inl here ↦ let m = in_map (λ d. first ++ d) right conj here in record { one = first; other = m.from; on_left = inl refl; on_right = m.among; is = m.is }
       | inr later ↦ let j = joined_of left right conj later in record { one = j.one; other = j.other; on_left = inr j.on_left; on_right = j.on_right; is = j.is }
     ]
 
 -- lists behind one another, and joined ones
 from_both : (xs ys : List Atom) (left right : List (List Literal)) → AreFrom xs left → AreFrom ys right → AreFrom (xs ++ ys) (left ++ right)
 from_both xs ys left right one other conj l is_conj is_literal =
-    elim (in_append conj left right is_conj) as (λ _. IsFrom (xs ++ ys) l) [
+    elim (in_either conj left right is_conj) as (λ _. IsFrom (xs ++ ys) l) [
       | inl here ↦ from_left xs ys l (one conj l here is_literal)
       | inr there ↦ from_right xs ys l (other conj l there is_literal)
     ]
@@ -50,7 +50,7 @@ from_both xs ys left right one other conj l is_conj is_literal =
 from_joined : (xs ys : List Atom) (left right : List (List Literal)) → AreFrom xs left → AreFrom ys right → AreFrom (xs ++ ys) (joined left right)
 from_joined xs ys left right one other conj l is_conj is_literal =
     let j = joined_of left right conj is_conj in
-    elim (in_append l j.one j.other (subst (IsIn l) j.is is_literal)) as (λ _. IsFrom (xs ++ ys) l) [
+    elim (in_either l j.one j.other (subst (IsIn l) j.is is_literal)) as (λ _. IsFrom (xs ++ ys) l) [
       | inl here ↦ from_left xs ys l (one j.one l j.on_left here)
       | inr there ↦ from_right xs ys l (other j.other l j.on_right there)
     ]

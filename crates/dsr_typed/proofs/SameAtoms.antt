@@ -14,7 +14,8 @@ use Rattle.dsr_ir.specs.declared.rules.Op.{Op}
 use Rattle.dsr_ir.specs.declared.rules.Op.TheVariants as ops
 use Rattle.dsr_meaning.specs.Counting.{IsIn, AreMany}
 use Rattle.dsr_typing.specs.NormalForms.{is_same_var, is_same_op, is_same_measure, is_same_bound, is_same_atom, has_atom, different, has_many_atoms}
-use Rattle.dsr_typed.proofs.Items.{in_left, in_right, image_in, no_more}
+use Rattle.dsr_meaning.proofs.Items.{in_left, in_right, map_in}
+use Rattle.dsr_meaning.proofs.Counts.{no_more}
 
 same_var : (v w : Var) → is_same_var v w ≡ true → v ≡ w
 same_var vars.Head vars.Head e = refl
@@ -116,7 +117,7 @@ few_images xs g e P of n many =
     let all = different [] xs in
     let within = no_more many.things (map g all) many.enumerated.distinct (λ y is.
     let made = of y (many.enumerated.only y is) in
-    subst (λ z. IsIn z (map g all)) (sym made.2) (image_in g made.0 all (different_has [] xs made.0 (inr made.1)))) in
+    subst (λ z. IsIn z (map g all)) (sym made.2) (map_in g made.0 all (different_has [] xs made.0 (inr made.1)))) in
     let same = length-map all g in
     let below = ltb-false 8 (length all) e in
     omega (arith, within, same, below, many.counted)

@@ -23,9 +23,10 @@ use Rattle.dsr_typed.specs.Meant.{meant}
 use Rattle.dsr_typed.proofs.BoundVariables.{bound, binding_in}
 use Rattle.dsr_typed.proofs.FormulaAtoms.{sound_formula, not_negated}
 use Rattle.dsr_typed.proofs.FormulaLiterals.{each_from, below_longest}
-use Rattle.dsr_typed.proofs.Items.{all_in, made_in, mapped_is, each_is, different_names}
+use Rattle.dsr_typed.proofs.Items.{mapped_is, each_is, different_names}
 use Rattle.dsr_typed.proofs.SameAtoms.{few_images}
 use Rattle.dsr_typed.proofs.TypedAtoms.{base_atom, rewritten, atom_is_typed, literal_is_typed}
+use Rattle.dsr_meaning.proofs.Items.{all_of, in_map}
 
 -- ---- normal forms
 
@@ -109,19 +110,19 @@ module _ (base : Structures) (typed : AreTyped base) (rs : List Rule) (constrain
       let below = below_longest conjs d is_conj in
       record {
         few_literals = omega (arith, same, below, few_literals);
-        literals = All-map (IsTypedLiteral (meant base rs constraints) (typed_quant scope)) (without_complement base) d (all_in (λ l. IsTypedLiteral (meant base rs constraints) (typed_quant scope) (without_complement base l)) d (literal d is_conj));
+        literals = All-map (IsTypedLiteral (meant base rs constraints) (typed_quant scope)) (without_complement base) d (all_of (λ l. IsTypedLiteral (meant base rs constraints) (typed_quant scope) (without_complement base l)) d (literal d is_conj));
       } in
       let outer = length-map (map conj_of conjs) (without_complements base) in
       let inner = length-map conjs conj_of in
       record {
         quant = b.typed;
         few_conjs = omega (arith, outer, inner, few_conjs);
-        conjs = All-map (IsTypedConj (meant base rs constraints) (typed_quant scope)) (without_complements base) (map conj_of conjs) (All-map (λ x. IsTypedConj (meant base rs constraints) (typed_quant scope) (without_complements base x)) conj_of conjs (all_in (λ d. IsTypedConj (meant base rs constraints) (typed_quant scope) (without_complements base (conj_of d))) conjs conj));
+        conjs = All-map (IsTypedConj (meant base rs constraints) (typed_quant scope)) (without_complements base) (map conj_of conjs) (All-map (λ x. IsTypedConj (meant base rs constraints) (typed_quant scope) (without_complements base x)) conj_of conjs (all_of (λ d. IsTypedConj (meant base rs constraints) (typed_quant scope) (without_complements base (conj_of d))) conjs conj));
         few_atoms = few_images (atoms_of f) (base_atom base) sound.form.many (HasAtom (typed_constraint (known_in base) c)) (λ y has.
-            let x = made_in (without_complements base) (map conj_of conjs) has.0 has.2 in
-            let d = made_in conj_of conjs x.item x.is in
-            let l = made_in (without_complement base) d.item has.1 (subst (λ z. IsIn has.1 z.literals) (x.made ∙ ap (without_complements base) d.made) has.3) in
-            (l.item.atom, (from d.item l.item d.is l.is).stands, sym has.4 ∙ (ap (λ z. z.atom) l.made ∙ rewritten base l.item)));
+            let x = in_map (without_complements base) (map conj_of conjs) has.0 has.2 in
+            let d = in_map conj_of conjs x.from x.among in
+            let l = in_map (without_complement base) d.from has.1 (subst (λ z. IsIn has.1 z.literals) (x.is ∙ ap (without_complements base) d.is) has.3) in
+            (l.from.atom, (from d.from l.from d.among l.among).stands, sym has.4 ∙ (ap (λ z. z.atom) l.is ∙ rewritten base l.from)));
       }
 
   pub constraints_are_typed : constraints_faults (known_in base) rs constraints ≡ [] → All (IsTypedConstraint (meant base rs constraints)) (meant base rs constraints).constraints

@@ -1,6 +1,7 @@
 -- The inclusion of a rule without fault is typed.
 use Rattle.std.proofs.Common.{◌≡◌, ℕ, true, false, not, ◌&&◌, ◌||◌, nat_eq, [], Option, None, Some, is_some, is_none, cond, slice_get, option_map, refl, sym, ap, ◌∙◌, subst, true≢false}
 use Rattle.std.proofs.lemmas.Bool.{not-false, or_parts, eqb-true}
+use Rattle.dsr_ir.specs.declared.declarations.FieldRef.{FieldRef}
 use Rattle.dsr_ir.specs.declared.declarations.Structures.{Structures}
 use Rattle.dsr_tree.specs.declared.faults.Condition.TheVariants as conditions
 use Rattle.dsr_tree.specs.declared.tree.Inclusion.{Inclusion}
@@ -21,11 +22,11 @@ use Rattle.dsr_text.specs.Declarations.{disagree}
 use Rattle.dsr_text.proofs.Absent.{when_absent}
 use Rattle.dsr_typing.specs.Known.{known_in, is_nil, pool_named, plain_set, plain_named, is_this, differ}
 use Rattle.dsr_typing.specs.Rules.{path_field}
-use Rattle.dsr_typing.specs.RuleFaults.{refers_elsewhere, is_other_target, is_other_head, path_names, is_foreign, index_faults, counts_others, slot_faults, term_names, term_faults, term_pool, is_no_pair, relates_others, pair_mismatches, member_names, member_faults, member_mismatches, inclusion_place, inclusion_names, inclusion_indexes, inclusion_mismatches, inclusion_faults}
+use Rattle.dsr_typing.specs.RuleFaults.{refers_elsewhere, is_other_target, is_other_head, is_scalar, path_names, is_foreign, index_faults, counts_others, slot_faults, term_names, term_faults, term_pool, is_no_pair, relates_others, pair_mismatches, member_names, member_faults, member_mismatches, inclusion_place, inclusion_names, inclusion_indexes, inclusion_mismatches, inclusion_faults}
 use Rattle.dsr_typing.specs.TypedRules.{number_of, pool_in, path_in, rule_in, typed_pair, typed_member, typed_inclusion, typed_span}
 use Rattle.dsr_typed.proofs.FoundNames.{FoundItem, found_relation, relation_is, found_pool, pool_is, FoundPlain, found_plain, plain_is}
-use Rattle.dsr_typed.proofs.RulePaths.{second_fails, name_there, same_length, path_here, reads_here}
-use Rattle.dsr_typed.proofs.RuleScopes.{is_some_and, tested, Grounded, scope_in, premise_in}
+use Rattle.dsr_typed.proofs.RulePaths.{second_fails, name_there, same_length, path_here, index_here, reads_here}
+use Rattle.dsr_typed.proofs.RuleScopes.{FieldHere, is_some_and, tested, Grounded, scope_in, premise_in}
 
 -- ---- tests
 
@@ -76,6 +77,13 @@ module _ (base : Structures) (r : Rule) (g : Grounded base r) where
 
   -- ---- pairs
 
+  -- a path that stands beside a slot has an index
+  indexed_here : (o : Option FieldRef) (a : FieldHere base (premise_in base r) o) (index : Option PlacedName) → index_faults (scope_in base r) o index ≡ [] → (is_none index && field_is base is_scalar o) ≡ false → is_some index ≡ true
+  indexed_here o a (Some k) faultless paired = refl
+  indexed_here o a None faultless paired =
+      let scalar = ap is_none (index_here base r g o a None faultless) in
+      absurd (true≢false (sym scalar ∙ (sym (tested base (premise_in base r) o a is_scalar) ∙ paired)))
+
   module _ (path : Path) (relation : PlacedName) (f : FoundItem base.rels ((known_in base).relation relation.name)) where
     -- the path gives a target of the relation, whose source is the term's pool
     gives_target : (term : Term) (source : ℕ) → term_pool (scope_in base r) term ≡ Some source → path_names (scope_in base r) path.var path.field ≡ [] → index_faults (scope_in base r) (path_field (scope_in base r) path.var path.field) path.index ≡ [] → is_other_head (scope_in base r) path.var ≡ false → relates_others (scope_in base r) term path (Some f.item) ≡ false → GivesTarget base (rule_in (scope_in base r) r) (number_of ((known_in base).relation relation.name)) source (path_in (scope_in base r) path)
@@ -116,7 +124,11 @@ module _ (base : Structures) (r : Rule) (g : Grounded base r) where
         let rest = or_parts (is_other_head scope path.var) (relates_others scope term path (Some f.item)) kinds.1 in
         let known = when_absent (is_none ((known_in base).pool q.name)) conditions.UnknownName q.place names in
         let p = found_pool base q.name known in
-        (counts q k known indexes, gives_target term (pool_in (known_in base) q) (p.found ∙ ap Some (sym (ap number_of p.found))) path_known index rest.0 rest.1)
+        (
+          counts q k known indexes,
+          gives_target term (pool_in (known_in base) q) (p.found ∙ ap Some (sym (ap number_of p.found))) path_known index rest.0 rest.1,
+          indexed_here (path_field scope path.var path.field) (path_here base r g path.var path.field path_known rest.0) path.index index kinds.0,
+        )
 
   -- ---- members
 

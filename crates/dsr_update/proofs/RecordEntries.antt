@@ -31,6 +31,7 @@ use Rattle.dsr_resolved.proofs.PlacesOfFields.{collected_has, mapped_before}
 use Rattle.dsr_stepping.specs.Resets.{reset_number}
 use Rattle.dsr_update.specs.Claims.{CanReset, IsRecordField}
 use Rattle.dsr_update.proofs.RecordSlots.{in_pool}
+use Rattle.dsr_meaning.proofs.Options.{some_and}
 
 -- ---- the place of a declared field is as wide as the field
 
@@ -64,10 +65,6 @@ same_width base bytes layout is field f place declared found =
 some_of : {X : Type 0} (o : Option X) → IsSome o → (x : X) × (o ≡ Some x)
 some_of None is = absurd cc
 some_of (Some x) is = (x, refl)
-
-some_and : {X : Type 0} (o : Option X) (P : X → Type 0) → IsSomeAnd o P → (x : X) × ((o ≡ Some x) × P x)
-some_and None P is = absurd is
-some_and (Some x) P is = (x, (refl, is))
 
 -- the bits of a slot are those of a record there
 in_slot : (layout : Layout) (e : Element) (n : PoolNumbers) (bits : ℕ) → pool_numbers layout e.pool ≡ Some n → e.slot < n.count → bits ≤ 8 * n.slot → HasBits layout e bits

@@ -10,7 +10,6 @@ use Rattle.dsr_planning.specs.declared.choices.Row.{Row}
 use Rattle.dsr_text.specs.Tables.{tables}
 use Rattle.dsr_tree.specs.Trees.{TreeShape}
 use Rattle.dsr_tree.specs.declared.faults.Fault.{Fault}
-use Rattle.dsr_typed.proofs.Items.{no_more}
 use Rattle.dsr_typed.proofs.TypedConstraints.{few_constraints}
 use Rattle.dsr_typing.specs.Constraints.{constraints_faults}
 use Rattle.dsr_typing.specs.Known.{known_in}
@@ -19,6 +18,7 @@ use Rattle.dsr_typing.specs.Specifications.{IsSpecificationOf, faults_over, firs
 use Rattle.dsr_text.specs.Declarations.{declaration_faults}
 use Rattle.dsr_cert.specs.Certificates.{level_bound}
 use Rattle.dsr_valid.specs.LowLevels.{HasLowLevels}
+use Rattle.dsr_meaning.proofs.Counts.{no_more}
 
 -- ---- as many levels as rows
 

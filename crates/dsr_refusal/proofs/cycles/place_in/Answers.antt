@@ -1,8 +1,8 @@
 use Rattle.std.proofs.Common.{◌≡◌, Some, refl, ap, ◌∙◌}
 use Rattle.dsr_compensate.proofs.Each.{each_ends, each_more}
-use Rattle.dsr_refusal.proofs.Items.{place_of}
 use Rattle.dsr_sides.proofs.Standing.{item_got}
 use Rattle.dsr_refusal.proofs.cycles.place_in.Goals as goal
+use Rattle.dsr_meaning.proofs.Items.{place_of}
 
 pub returns-then-other-number : goal.returns-then-other-number
 returns-then-other-number c = item_got c.args.path.now c.loop-place.place 0 c.loop-place-test.true ∙ ap Some c.if-other-number.true

@@ -1,5 +1,5 @@
 -- For each of the nine constraints an update that is applied.
-use Rattle.std.proofs.Common.{◌≡◌, ℕ, List, [], ◌∷◌, Some, refl, subst}
+use Rattle.std.proofs.Common.{◌≡◌, ℕ, List, [], ◌∷◌, Some, refl, subst, arith}
 use Rattle.dsr_ir.specs.declared.constraints.Literal.{Literal}
 use Rattle.dsr_ir.specs.declared.updates.Goal.TheVariants.{AddSet, RemoveSet, AddTuple, RemoveTuple, SetValue, Trim, Supply, ExactlyOne}
 use Rattle.dsr_ir.specs.declared.updates.Template.{Template}
@@ -32,9 +32,7 @@ abbrev pub applied : (template : Template) (update : Update) (step : Step) (new 
     → IsFalseNow step.binding literal → IsChosen example layout image literal.atom template step update
     → IsStepped example layout step update image new → IsApplied example template update layout step image new
 applied template update step new literal violated none literal_is is_false chosen stepped = record {
-  typed = typed;
-  bytes = bytes_of_image;
-  layout_is = placed;
+  image = record { typed = typed; bytes = bytes_of_image; layout_is = placed; small = omega arith };
   violated = violated;
   facts_hold = no_facts step.constraint none;
   literal = literal;

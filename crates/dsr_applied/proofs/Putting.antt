@@ -50,22 +50,24 @@ written at value within fits got long =
       beside = λ other form apart.
           beside image (set image at value) other (byte_cell at) value puts form apart bytes_of_image
           (bytes_with image at value bytes_of_image within fits);
+      bytes = bytes_with image at value bytes_of_image within fits;
     }
 
 -- where a cell has its value already, nothing changes
-same : (cell : Cell) (bytes : List ℕ) (value : ℕ) → cell_value bytes cell ≡ value → IsPut cell value bytes bytes
-same cell bytes value got = record {
+same : (cell : Cell) (bytes : List ℕ) (value : ℕ) → AreBytes bytes → cell_value bytes cell ≡ value → IsPut cell value bytes bytes
+same cell bytes value small got = record {
   puts = record { got = got; others = λ j outside. refl; length = refl };
   beside = λ other form apart. refl;
+  bytes = small;
 }
 
 -- the reset of slot 2 changes no byte: all that it writes is 0 already
 pub reset_of_free : ArePut (reset_puts base layout (slot 2)) image image
 reset_of_free =
-    put (byte_cell 6) 0 (same (byte_cell 6) image 0 refl)
-    (put (byte_cell 7) 0 (same (byte_cell 7) image 0 refl)
-    (put (byte_cell 6) 0 (same (byte_cell 6) image 0 refl)
-    (put (byte_cell 7) 0 (same (byte_cell 7) image 0 refl) done)))
+    put (byte_cell 6) 0 (same (byte_cell 6) image 0 bytes_of_image refl)
+    (put (byte_cell 7) 0 (same (byte_cell 7) image 0 bytes_of_image refl)
+    (put (byte_cell 6) 0 (same (byte_cell 6) image 0 bytes_of_image refl)
+    (put (byte_cell 7) 0 (same (byte_cell 7) image 0 bytes_of_image refl) done)))
 
 -- ---- the bytes that steps write
 

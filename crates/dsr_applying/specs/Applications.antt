@@ -10,10 +10,8 @@ use Rattle.dsr_ir.specs.declared.updates.Update.{Update}
 use Rattle.dsr_meaning.specs.Consistency.{BoundConstraint, IsViolated}
 use Rattle.dsr_meaning.specs.Counting.{IsIn}
 use Rattle.dsr_meaning.specs.Models.{IsFact}
-use Rattle.dsr_meaning.specs.Refusals.{IsLayoutOf}
 use Rattle.dsr_meaning.specs.Truth.{LiteralHolds}
-use Rattle.dsr_meaning.specs.Typed.{IsTyped}
-use Rattle.dsr_meaning.specs.Writes.{AreBytes}
+use Rattle.dsr_stepping.specs.Images.{IsImageOf}
 use Rattle.dsr_stepping.specs.Steps.{IsStepped}
 use Rattle.dsr_stepping.specs.declared.steps.Step.{Step}
 use Rattle.dsr_updating.specs.Facts.{from}
@@ -31,9 +29,7 @@ FactsHold spec layout bytes constraint =
 -- the constraint uses hold before.
 pub record IsApplied (spec : Spec) (template : Template) (update : Update) (layout : Layout) (step : Step)
     (old new : List ℕ) : Type 0 where
-  pub typed : IsTyped spec
-  pub bytes : AreBytes old
-  pub layout_is : IsLayoutOf spec old layout
+  pub image : IsImageOf spec layout old
   pub violated :
       IsViolated (IsFact spec layout old) spec
       (record { constraint = step.constraint; binding = step.binding })

@@ -130,10 +130,6 @@ pub record IsFreshFrom (is_fact : Fact → Type 0) (spec : Spec) (layout : Layou
   pub supplied : IsSupplied is_fact spec layout pool e
   pub least : (f : Element) → IsSupplied is_fact spec layout pool f → Precedes f e → ⊥
 
--- the pool's supply is empty
-abbrev pub IsEmptySupply : (Fact → Type 0) → Spec → Layout → ℕ → Type 0
-IsEmptySupply is_fact spec layout pool = (e : Element) → IsSupplied is_fact spec layout pool e → ⊥
-
 -- the fresh record of an update, which takes one from the pool, if any
 abbrev pub IsFresh : (Fact → Type 0) → Spec → Layout → Option ℕ → Option Element → Type 0
 IsFresh is_fact spec layout None fresh = fresh ≡ None

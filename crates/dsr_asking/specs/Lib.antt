@@ -1,3 +1,4 @@
 pub mod Words
+pub mod Usage
 pub mod Plans
 pub mod Commands

@@ -8,17 +8,15 @@ use Rattle.dsr_cert.proofs.Naming.{test_numbers}
 use Rattle.dsr_cert.proofs.Numbers.{limit}
 use Rattle.dsr_cert.proofs.Saying.{cancel_front, same_ended}
 use Rattle.dsr_cert.specs.Certificates.{Fits, IsNamed, IsReadAs, NamesWay, NamesWays, before_level, before_way, certificate_lines, conj_lines, conjs_lines, ended, first_line, last_line, level_bound, row_lines, rows_lines, way_line, way_text}
-use Rattle.dsr_graph.proofs.Found.{ways_only}
-use Rattle.dsr_graph.specs.Graphs.{IsGraphOf, IsOwnerIn, ways_of}
-use Rattle.dsr_graph.specs.declared.graphs.Graph.{Graph}
 use Rattle.dsr_ir.specs.declared.constraints.Conj.{Conj}
 use Rattle.dsr_ir.specs.declared.constraints.Constraint.{Constraint}
 use Rattle.dsr_ir.specs.declared.constraints.Literal.{Literal}
 use Rattle.dsr_ir.specs.declared.declarations.Spec.{Spec}
 use Rattle.dsr_ir.specs.declared.updates.Template.{Template}
+use Rattle.dsr_listing.proofs.FirstKept.{few_listed}
+use Rattle.dsr_listing.proofs.Unique.{listed_one}
 use Rattle.dsr_listing.specs.Owners.{Owner}
 use Rattle.dsr_meaning.specs.Lists.{each_at}
-use Rattle.dsr_placing.proofs.Counted.{few_ways}
 use Rattle.dsr_planning.specs.Plans.{IsListedAt, owner_at, way_at}
 use Rattle.dsr_planning.specs.declared.choices.Choice.{Choice}
 use Rattle.dsr_planning.specs.declared.choices.Row.{Row}
@@ -84,18 +82,17 @@ module _ {S V L : Type 0} (g : ℕ → V → List L) (R : ℕ → S → V → Ty
 
 -- ---- ways
 
-module _ (graph : Graph) (n : ℕ) (owner : Owner) (in_graph : IsOwnerIn graph n owner) where
+module _ (owner : Owner) where
   module _ (conj literal : ℕ) where
     few : (number : ℕ) (template : Template) → IsListedAt owner conj literal number template → number < 2 ^ 64
     few number template its =
-        let there = sym (ap (λ ts. slice_get ts (number - 1)) (ways_only graph n owner in_graph conj literal its.templates its.listed)) ∙ its.template_is in
-        let less = place_below (ways_of graph n conj literal) (number - 1) template there in
-        let most = few_ways graph n owner in_graph conj literal in
+        let less = place_below its.templates (number - 1) template its.template_is in
+        let most = few_listed owner conj literal its.templates its.listed in
         omega (arith, less, most)
 
     template_once : (number : ℕ) (t u : Template) → IsListedAt owner conj literal number t → IsListedAt owner conj literal number u → t ≡ u
     template_once number t u a b =
-        let lists : a.templates ≡ b.templates = ways_only graph n owner in_graph conj literal a.templates a.listed ∙ sym (ways_only graph n owner in_graph conj literal b.templates b.listed) in
+        let lists : a.templates ≡ b.templates = listed_one owner conj literal a.templates b.templates a.listed b.listed in
         let both : Some t ≡ Some u = sym a.template_is ∙ (ap (λ ts. slice_get ts (number - 1)) lists ∙ b.template_is) in
         cc
 
@@ -142,7 +139,7 @@ module _ (graph : Graph) (n : ℕ) (owner : Owner) (in_graph : IsOwnerIn graph n
 
 -- ---- rows
 
-module _ (spec : Spec) (graph : Graph) (graph_is : IsGraphOf spec graph) where
+module _ (spec : Spec) where
   bound_low : level_bound spec ≤ 128
   bound_low = limit spec.base.version
 
@@ -152,11 +149,8 @@ module _ (spec : Spec) (graph : Graph) (graph_is : IsGraphOf spec graph) where
     low : row.level < level_bound spec
     rows : Goes conj_lines (λ conj its ways. Goes (λ literal way. way_line conj literal way ∷ []) (λ literal l way. NamesWay (owner_at spec n constraint) conj literal l way) 0 its.literals ways) 0 constraint.conjs row.ways
 
-  in_graph : (n : ℕ) (constraint : Constraint) → slice_get spec.constraints n ≡ Some constraint → IsOwnerIn graph n (owner_at spec n constraint)
-  in_graph n constraint there = record { graph_is = graph_is; number_is = refl; constraint_is = there }
-
   row_long : (n : ℕ) (constraint : Constraint) (a b : Row) → IsRowFor n constraint a → IsRowFor n constraint b → length (row_lines spec n a) ≡ length (row_lines spec n b)
-  row_long n constraint a b p q = ap suc (rows_long graph n (owner_at spec n constraint) (in_graph n constraint p.there) a.ways b.ways p.rows q.rows)
+  row_long n constraint a b p q = ap suc (rows_long (owner_at spec n constraint) a.ways b.ways p.rows q.rows)
 
   row_once : (n : ℕ) (constraint : Constraint) (a b : Row) → IsRowFor n constraint a → IsRowFor n constraint b → row_lines spec n a ≡ row_lines spec n b → a ≡ b
   row_once n constraint a b p q same =
@@ -166,7 +160,7 @@ module _ (spec : Spec) (graph : Graph) (graph_is : IsGraphOf spec graph) where
       let p_low = p.low in
       let q_low = q.low in
       let level : a.level ≡ b.level = decimal_injective a.level b.level (omega (arith, low, p_low)) (omega (arith, low, q_low)) (cancel_front (before_level spec n) (decimal a.level) (decimal b.level) head) in
-      let ways : a.ways ≡ b.ways = rows_once graph n (owner_at spec n constraint) (in_graph n constraint p.there) a.ways b.ways p.rows q.rows tail in
+      let ways : a.ways ≡ b.ways = rows_once (owner_at spec n constraint) a.ways b.ways p.rows q.rows tail in
       λ i. record { level = level i; ways = ways i }
 
   module _ (text : List ℕ) (choice : Choice) (its : IsReadAs spec text choice) where

@@ -109,6 +109,7 @@ module _ (spec : Spec) (choice : Choice) (fits : Fits spec choice) (graph : Grap
 
     are_ways : AreWaysFor (owner_at spec n constraint) row
     are_ways = record {
+      as_many = row_fits.as_many;
       ways = λ conj literal its literal_is.
           let w = way_there constraint row row_fits conj literal its literal_is in
           (w.0, w.1, is_way conj literal its literal_is w.0 w.1);

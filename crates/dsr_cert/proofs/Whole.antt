@@ -13,8 +13,6 @@ use Rattle.dsr_cert.specs.Forms.{HasNoWrongLine, IsFirstWrong}
 use Rattle.dsr_cert.specs.Parts.{AreNamedIn, AreNamedRows, IsFirstFrom, IsNamedRow, ReadsAll}
 use Rattle.dsr_cert.specs.declared.faults.CertFault.{CertFault}
 use Rattle.dsr_cert.specs.declared.faults.CertFault.TheVariants as faults
-use Rattle.dsr_graph.specs.Graphs.{IsGraphOf}
-use Rattle.dsr_graph.specs.declared.graphs.Graph.{Graph}
 use Rattle.dsr_graph.proofs.Paired.{paired_back, paired_got, paired_weaker}
 use Rattle.dsr_ir.specs.declared.constraints.Constraint.{Constraint}
 use Rattle.dsr_ir.specs.declared.declarations.Spec.{Spec}
@@ -76,10 +74,10 @@ module _ (spec : Spec) (text : List ℕ) where
   right_all (Err fault) told = tt
 
   -- what is read is all that can be
-  pub only_all : (graph : Graph) → IsGraphOf spec graph → (r : Result Choice CertFault) → ReadsAll spec (lines_of text) r
+  pub only_all : (r : Result Choice CertFault) → ReadsAll spec (lines_of text) r
       → IfOk r (λ choice. (other : Choice) → IsReadAs spec text other → other ≡ choice)
-  only_all graph graph_is (Ok choice) told = λ other its. choice_once spec graph graph_is text other choice its (read_as spec choice told.0 text told.1)
-  only_all graph graph_is (Err fault) told = tt
+  only_all (Ok choice) told = λ other its. choice_once spec text other choice its (read_as spec choice told.0 text told.1)
+  only_all (Err fault) told = tt
 
   first_wrong : (fault : CertFault) → IsFirstFrom spec (lines_of text) 0 fault → IsFirstWrong spec text fault
   first_wrong fault first = record {

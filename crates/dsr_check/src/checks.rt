@@ -30,7 +30,7 @@ pub fn violations_of(
         (map bound_constraint vs.items)) }
 {
     let mut model = Model::prepare(alloc, spec, layout)?;
-    rebuild(&mut model, spec, layout, image)?;
+    rebuild(&mut model, spec, layout, image);
     violations(alloc, &model, spec)
 }
 

@@ -5,4 +5,3 @@ pub mod Taken
 pub mod Pairs
 pub mod GoneOver
 pub mod Whole
-pub mod FirstKept

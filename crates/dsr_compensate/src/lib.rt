@@ -4,13 +4,11 @@
 
 mod combining;
 mod judging;
-mod laws;
 mod listing;
 mod lists;
 mod passes;
 mod preventing;
 
 pub use judging::Judged;
-pub use laws::the_first_kept_are_taken;
 pub use lists::listed;
 pub use preventing::compensations;

@@ -25,7 +25,7 @@ use Rattle.dsr_meaning.specs.Truth.{element_of}
 use Rattle.dsr_planning.specs.Plans.{IsPlan}
 use Rattle.dsr_planning.specs.declared.choices.Choice.{Choice}
 use Rattle.dsr_repairing.specs.Due.{IsDue}
-use Rattle.dsr_repairing.specs.Images.{IsImageOf}
+use Rattle.dsr_stepping.specs.Images.{IsImageOf}
 use Rattle.dsr_seen.proofs.SameFacts.{AreSame}
 
 -- ---- one fact is to go

@@ -19,7 +19,7 @@ use Rattle.dsr_meaning.specs.Models.{IsDerived, IsDerivedBy, IsFact}
 use Rattle.dsr_planning.specs.Plans.{IsPlan}
 use Rattle.dsr_planning.specs.declared.choices.Choice.{Choice}
 use Rattle.dsr_repairing.specs.Due.{IsDue}
-use Rattle.dsr_repairing.specs.Images.{IsImageOf}
+use Rattle.dsr_stepping.specs.Images.{IsImageOf}
 
 pub fact_to_go : (spec : Spec) (choice : Choice) (layout : Layout) (bytes : List ℕ) (v : BoundConstraint)
     (conj literal : ℕ) (its : Literal) (template : Template) → IsImageOf spec layout bytes

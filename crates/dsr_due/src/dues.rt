@@ -9,7 +9,7 @@ ghost use Rattle.dsr_meaning.specs.Models.{IsFact};
 ghost use Rattle.dsr_meaning.specs.Typed.{IsTyped};
 ghost use Rattle.dsr_model.specs.Facts.{IsInModel};
 ghost use Rattle.dsr_planning.specs.Plans.{IsPlan};
-ghost use Rattle.dsr_repairing.specs.Images.{IsImageOf};
+ghost use Rattle.dsr_stepping.specs.Images.{IsImageOf};
 ghost use Rattle.dsr_repairing.specs.Turns.{IsTurn};
 
 use crate::bindings::{Violation, next_violation};

@@ -1,5 +1,5 @@
 -- The variables that a typed literal names are bound.
-use Rattle.std.proofs.Common.{◌≡◌, ℕ, Option, None, Some, IsSome, IsSomeAnd, inl, inr, refl}
+use Rattle.std.proofs.Common.{◌≡◌, ℕ, Option, None, Some, IsSome, IsSomeAnd, refl, subst}
 use Rattle.std.proofs.lemmas.Bool.{false≢true}
 use Rattle.std.specs.Prelude.{slice_get}
 use Rattle.dsr_ir.specs.declared.constraints.Measure.{Measure}
@@ -14,32 +14,32 @@ use Rattle.dsr_ir.specs.declared.tuples.Binding.{Binding}
 use Rattle.dsr_ir.specs.declared.tuples.Binding.TheVariants as bindings
 use Rattle.dsr_ir.specs.declared.tuples.Fact.{Fact}
 use Rattle.dsr_meaning.specs.Consistency.{IsBinding}
-use Rattle.dsr_meaning.specs.Counting.{IsIn}
 use Rattle.dsr_meaning.specs.Truth.{HasVariable, element_of}
 use Rattle.dsr_meaning.specs.Typed.{IsTypedMeasure, pool_of_var}
-use Rattle.dsr_updating.specs.Templates.{variables}
+use Rattle.dsr_ir.specs.declared.declarations.Spec.{Spec}
+use Rattle.dsr_updating.specs.Known.{IsKnown}
 
 -- the variable names an element
 abbrev pub IsBound : Binding → Var → Type 0
 IsBound b v = IsSome (element_of b v)
 
 module _ (is_fact : Fact → Type 0) where
-  pub in_quant : (quant : Quant) (b : Binding) (v : Var) → IsBinding is_fact quant b → IsIn v (variables quant) → IsBound b v
-  in_quant quant b Head is is_in = refl
-  in_quant quants.Once b First is (inl e) = absurd cc
-  in_quant quants.Once b First is (inr n) = absurd n
-  in_quant quants.Once b Second is (inl e) = absurd cc
-  in_quant quants.Once b Second is (inr n) = absurd n
-  in_quant (quants.Each set) bindings.Once v is is_in = absurd is
-  in_quant (quants.Each set) (bindings.Each e) First is is_in = refl
-  in_quant (quants.Each set) (bindings.Each e) Second is (inl q) = absurd cc
-  in_quant (quants.Each set) (bindings.Each e) Second is (inr (inl q)) = absurd cc
-  in_quant (quants.Each set) (bindings.Each e) Second is (inr (inr n)) = absurd n
-  in_quant (quants.Each set) (bindings.Pair e f) v is is_in = absurd is
-  in_quant (quants.Pairs rel) bindings.Once v is is_in = absurd is
-  in_quant (quants.Pairs rel) (bindings.Each e) v is is_in = absurd is
-  in_quant (quants.Pairs rel) (bindings.Pair e f) First is is_in = refl
-  in_quant (quants.Pairs rel) (bindings.Pair e f) Second is is_in = refl
+  -- a variable that is known to be a member of a set is bound
+  each_bound : (set : ℕ) (b : Binding) → IsBinding is_fact (quants.Each set) b → IsBound b First
+  each_bound set bindings.Once is = absurd is
+  each_bound set (bindings.Each x) is = refl
+  each_bound set (bindings.Pair x y) is = absurd is
+
+  pair_bound : (rel : ℕ) (b : Binding) → IsBinding is_fact (quants.Pairs rel) b → IsBound b First × IsBound b Second
+  pair_bound rel bindings.Once is = absurd is
+  pair_bound rel (bindings.Each x) is = absurd is
+  pair_bound rel (bindings.Pair x y) is = (refl, refl)
+
+  pub known_bound : (spec : Spec) (quant : Quant) (b : Binding) → IsBinding is_fact quant b → {v : Var} {set : ℕ} → IsKnown spec quant v set → IsBound b v
+  known_bound spec quant b is (IsKnown.quantified set e) = each_bound set b (subst (λ q. IsBinding is_fact q b) e is)
+  known_bound spec quant b is (IsKnown.source rel set e given) = (pair_bound rel b (subst (λ q. IsBinding is_fact q b) e is)).0
+  known_bound spec quant b is (IsKnown.target rel set e given) = (pair_bound rel b (subst (λ q. IsBinding is_fact q b) e is)).1
+  known_bound spec quant b is (IsKnown.base v set below known given) = known_bound spec quant b is known
 
   -- a variable that has a pool is bound
   pub with_pool : (base : Structures) (quant : Quant) (b : Binding) (v : Var) (pool : ℕ) → IsBinding is_fact quant b → pool_of_var base quant v ≡ Some pool → IsBound b v

@@ -1,5 +1,5 @@
 -- Of which updates all that a step leaves open is there.
-use Rattle.std.proofs.Common.{◌≡◌, ℕ, zero, suc, Bool, true, false, List, [], ◌∷◌, take, Option, None, Some, IsTrue, inl, inr, refl, sym, subst}
+use Rattle.std.proofs.Common.{◌≡◌, ℕ, Bool, true, false, List, [], ◌∷◌, Option, None, Some, IsTrue, inl, inr, refl, sym, subst}
 use Rattle.std.specs.Option.{option_map_or}
 use Rattle.std.specs.Prelude.{IfSome, is_some, option_and_then, if◌then◌else◌, ◌&&◌}
 use Rattle.std.specs.List.{filter_map}
@@ -25,22 +25,21 @@ use Rattle.dsr_ir.specs.declared.updates.Place.TheVariants as places
 use Rattle.dsr_ir.specs.declared.updates.Template.{Template}
 use Rattle.dsr_ir.specs.declared.updates.Update.{Update}
 use Rattle.dsr_ir.specs.declared.updates.Write.{Write}
-use Rattle.dsr_listing.specs.Candidates.{AreCompensations, ArePreventing, preventing, preventing_write}
 use Rattle.dsr_listing.specs.Lists.{with_writes}
 use Rattle.dsr_listing.specs.Owners.{Owner}
 use Rattle.dsr_meaning.specs.Counting.{IsIn}
-use Rattle.dsr_meaning.specs.Refusals.{first_of}
 use Rattle.dsr_meaning.specs.Truth.{HasVariable}
 use Rattle.dsr_stepped.proofs.AllTrue.{first_true, target_written}
 use Rattle.dsr_stepped.proofs.GuardWrites.{guard_written}
 use Rattle.dsr_stepped.proofs.ReferenceWrites.{reference_written}
 use Rattle.dsr_stepped.proofs.Removed.{picked_same}
-use Rattle.dsr_updating.specs.Changes.{Change}
 use Rattle.dsr_updating.specs.Givers.{is_own, is_single, is_slot}
 use Rattle.dsr_updating.specs.Guards.{guard_write, pick_wanted}
 use Rattle.dsr_updating.specs.Options.{options, reference_write, target_option}
 use Rattle.dsr_updating.specs.Templates.{all_true, others, place_of, removal_at, removal_place, removing, target_writes}
+use Rattle.dsr_feasible.specs.Grown.{Compensates}
 use Rattle.dsr_feasible.proofs.BoundVars.{IsBound}
+use Rattle.dsr_feasible.proofs.Compensating.{compensating}
 use Rattle.dsr_meaning.proofs.Items.{in_either, in_filter}
 
 -- ---- what is asked of an update
@@ -134,34 +133,10 @@ module _ (b : Binding) where
 
   -- ---- compensations
 
-  first_in : {T : Type 0} (xs : List T) (x : T) → first_of xs ≡ Some x → IsIn x xs
-  first_in [] x e = absurd cc
-  first_in (y ∷ ys) x e = inl (sym (same_Some y x e))
-
-  when_open : (b : Bool) (o : Option Write) (write : Write) → (if b then None else o) ≡ Some write → o ≡ Some write
-  when_open true o write e = absurd cc
-  when_open false o write e = e
-
-  preventing_picked : (c : Change) (rule : Rule) (write : Write) → preventing c rule ≡ Some write → HasPicked b write.pick
-  preventing_picked c rule write e =
-      let made = in_filter (preventing_write c) rule.guards write (first_in (filter_map (preventing_write c) rule.guards) write e) in
-      guard_picked c.spec.base false made.from write (when_open _ (guard_write c.spec.base false made.from) write made.is)
-
-  all_preventing : {c : Change} {rules : List Rule} {writes : List Write} → ArePreventing c rules writes → HavePicked b writes
-  all_preventing ArePreventing.done write is_in = absurd is_in
-  all_preventing {c} (ArePreventing.prevented rule first may is later) write (inl same) = subst (λ w. HasPicked b w.pick) (sym same) (preventing_picked c rule first is)
-  all_preventing (ArePreventing.prevented rule first may is later) write (inr behind) = all_preventing later write behind
-  all_preventing (ArePreventing.quiet rule none later) write is_in = all_preventing later write is_in
-
-  in_taken : {T : Type 0} (n : ℕ) (xs : List T) (x : T) → IsIn x (take n xs) → IsIn x xs
-  in_taken zero xs x is_in = absurd is_in
-  in_taken (suc n) [] x is_in = is_in
-  in_taken (suc n) (y ∷ ys) x (inl same) = inl same
-  in_taken (suc n) (y ∷ ys) x (inr later) = inr (in_taken n ys x later)
-
-  pub compensations_picked : (owner : Owner) (template : Template) {writes : List Write} → AreCompensations owner template writes → HavePicked b writes
-  compensations_picked owner template (AreCompensations.some update writes is are) write is_in = all_preventing are write (in_taken 8 writes write is_in)
-  compensations_picked owner template (AreCompensations.none none) write is_in = absurd is_in
+  pub compensation_picked : (owner : Owner) (raw : Template) (write : Write) → Compensates owner raw write → HasPicked b write.pick
+  compensation_picked owner raw write compensates =
+      let its = compensating owner raw write compensates in
+      guard_picked owner.spec.base false its.by.guard write its.by.write_is
 
   -- more writes change nothing of it
   pub still_choosable : (stops : Bool) (u : Update) (more : List Write) → IsChoosable b stops u → HavePicked b more → IsChoosable b stops (with_writes more u)

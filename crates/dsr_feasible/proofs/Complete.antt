@@ -40,7 +40,10 @@ use Rattle.dsr_updating.specs.Templates.{item_or_last, removing}
 use Rattle.dsr_feasible.proofs.BoundVars.{IsBound}
 use Rattle.dsr_feasible.proofs.Choosable.{HasEntry, HasPicked, HasPlace, HavePicked, IsChoosable, removing_choosable, still_choosable}
 use Rattle.dsr_feasible.proofs.DueForms.{IsDueForm, goal_same, of_compensated}
-use Rattle.dsr_feasible.proofs.RawForms.{GoalAdds, IsRemoval, IsTakenBy, mapped, taken_bound, taken_var}
+use Rattle.dsr_feasible.proofs.ChoosableAdders.{adder_choosable, taken_bound}
+use Rattle.dsr_feasible.proofs.TriedTemplates.{GoalAdds, IsRemoval, IsTakenBy}
+use Rattle.dsr_feasible.proofs.TriedUpdates.{IsAdder, taken_var}
+use Rattle.dsr_meaning.proofs.Options.{mapped_from}
 use Rattle.dsr_feasible.proofs.TakenGoals.{adding_takes_none, taking_adds_none}
 use Rattle.dsr_meaning.proofs.Items.{in_filter, item_at}
 
@@ -106,8 +109,8 @@ removal_choosable spec b symbol v updates n u bound removal at =
     let made = in_filter (λ (r : ℕ × Rule). option_map (removing v r.0 r.1) (item_or_last (options spec.base r.1) removal.number)) (givers spec symbol) u (subst (IsIn u) removal.are among) in
     let k = made.from.0 in
     let rule = made.from.1 in
-    let write = mapped (removing v k rule) (item_or_last (options spec.base rule) removal.number) u made.is in
-    subst (IsChoosable b true) (sym write.is) (removing_choosable b spec v k rule write.item bound (item_at (options spec.base rule) _ write.item write.there))
+    let write = mapped_from (removing v k rule) (item_or_last (options spec.base rule) removal.number) u made.is in
+    subst (IsChoosable b true) (sym write.1.1) (removing_choosable b spec v k rule write.0 bound (item_at (options spec.base rule) _ write.0 write.1.0))
 
 -- ---- the update that is chosen
 
@@ -134,11 +137,14 @@ module _ (spec : Spec) (layout : Layout) (bytes : List ℕ) (b : Binding) (its :
   bound : IfSome (taken_var its.atom) (IsBound b)
   bound = taken_bound (IsFact spec layout bytes) spec due.constraint.quant b due.is_binding its.atom due.typed.atom
 
+  raw_choosable : (u : Update) → IsAdder spec due.known due.raw.goal its.atom u → IsChoosable b false u
+  raw_choosable u adder = adder_choosable (IsFact spec layout bytes) spec due.constraint.quant b due.is_binding due.known due.tells due.raw.goal its.atom u due.typed.atom adder
+
   adds_choosable : (update : Update) → Adds (IsFact spec layout bytes) b its.atom template.goal → slice_get template.updates 0 ≡ Some update → IsChoosable b false update
   adds_choosable update adds at = elim due.form as (λ _. IsChoosable b false update) [
-    | inl one ↦ first_choosable one.update [] update one.are at one.choosable
+    | inl one ↦ first_choosable one.update [] update one.are at (raw_choosable one.update one.adder)
     | inr (inl removes) ↦ absurd (taking_adds_none (IsFact spec layout bytes) b its.atom its.negated template.goal (subst (λ g. IsTakenBy g its.atom its.negated) same_goal removes.goal) adds)
-    | inr (inr both) ↦ first_choosable both.update both.rest update both.are at both.choosable
+    | inr (inr both) ↦ first_choosable both.update both.rest update both.are at (raw_choosable both.update both.adder)
   ]
 
   behind_first : (first : Update) (rest : List Update) (n : ℕ) (update : Update) → due.raw.updates ≡ first ∷ rest → IsRemoval spec (atom_symbol its.atom) (taken_var its.atom) rest → TakesAway goals.ExactlyOne n → slice_get template.updates n ≡ Some update → IsChoosable b true update

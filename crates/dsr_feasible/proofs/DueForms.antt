@@ -2,7 +2,6 @@
 use Rattle.std.proofs.Common.{◌≡◌, ◌∙◌, ℕ, List, map, Option, None, Some, refl, sym, ap, subst}
 use Rattle.std.specs.Prelude.{option_map, slice_get}
 use Rattle.std.proofs.lemmas.Option.{same_Some, slice_get-map}
-use Rattle.dsr_ir.specs.declared.constraints.Conj.{Conj}
 use Rattle.dsr_ir.specs.declared.constraints.Constraint.{Constraint}
 use Rattle.dsr_ir.specs.declared.constraints.Literal.{Literal}
 use Rattle.dsr_ir.specs.declared.declarations.Spec.{Spec}
@@ -15,23 +14,15 @@ use Rattle.dsr_listing.specs.Lists.{compensated_by, with_writes}
 use Rattle.dsr_listing.specs.Sides.{IsKept}
 use Rattle.dsr_meaning.specs.Consistency.{BoundConstraint, IsBinding}
 use Rattle.dsr_meaning.specs.Truth.{LiteralHolds}
-use Rattle.dsr_meaning.specs.Typed.{IsTyped, IsTypedConj, IsTypedConstraint, IsTypedLiteral}
+use Rattle.dsr_meaning.specs.Typed.{IsTyped, IsTypedLiteral}
 use Rattle.dsr_planning.specs.Plans.{IsPlan, owner_at}
 use Rattle.dsr_planning.specs.declared.choices.Choice.{Choice}
 use Rattle.dsr_repairing.specs.Due.{IsDue}
-use Rattle.dsr_updating.specs.Templates.{literal_at}
-use Rattle.dsr_feasible.proofs.Choosable.{HavePicked, compensations_picked}
+use Rattle.dsr_updating.specs.Templates.{KnownSets, TellsKnown}
+use Rattle.dsr_feasible.proofs.Choosable.{HavePicked, compensation_picked}
 use Rattle.dsr_feasible.proofs.Forms.{due_form}
-use Rattle.dsr_feasible.proofs.RawForms.{RawForm, chained, raw_form}
-use Rattle.dsr_meaning.proofs.Items.{item_at, of_all}
-
--- the literal of a typed specification's constraint is typed
-pub literal_typed : (spec : Spec) (n : ℕ) (constraint : Constraint) (conj literal : ℕ) (its : Literal) → IsTyped spec → slice_get spec.constraints n ≡ Some constraint → literal_at constraint conj literal ≡ Some its → IsTypedLiteral spec constraint.quant its
-literal_typed spec n constraint conj literal its typed declared literal_is =
-    let of_spec = of_all (IsTypedConstraint spec) spec.constraints constraint typed.constraints (item_at spec.constraints n constraint declared) in
-    let way = chained (λ (c : Conj). slice_get c.literals literal) (slice_get constraint.conjs conj) its literal_is in
-    let of_conj = of_all (IsTypedConj spec constraint.quant) constraint.conjs way.item of_spec.conjs (item_at constraint.conjs conj way.item way.there) in
-    of_all (IsTypedLiteral spec constraint.quant) way.item.literals its of_conj.literals (item_at way.item.literals literal its way.is)
+use Rattle.dsr_feasible.proofs.TriedTemplates.{RawForm, raw_form}
+use Rattle.dsr_feasible.proofs.TypedLiterals.{typed_in}
 
 -- the literal is a false one of a constraint at a binding, and the template is one of three forms, with more writes
 pub record IsDueForm (is_fact : Fact → Type 0) (spec : Spec) (b : Binding) (its : Literal) (template : Template) : Type 0 where
@@ -41,7 +32,9 @@ pub record IsDueForm (is_fact : Fact → Type 0) (spec : Spec) (b : Binding) (it
   pub typed : IsTypedLiteral spec constraint.quant its
   pub is_false : LiteralHolds is_fact b its → ⊥
   pub raw : Template
-  pub form : RawForm spec b its.atom its.negated raw
+  pub known : KnownSets
+  pub tells : TellsKnown spec constraint.quant known
+  pub form : RawForm spec known its.atom its.negated raw
   pub more : List Write
   pub picked : HavePicked b more
   pub is : template ≡ compensated_by raw more
@@ -54,7 +47,7 @@ form_of is_fact spec choice v conj literal its template typed plan due =
     let violated = due.binding_is.violated in
     let same : violated.constraint ≡ due.constraint = same_Some violated.constraint due.constraint (sym violated.declared ∙ declared) in
     let bound = subst (λ (c : Constraint). IsBinding is_fact c.quant v.binding) same violated.is_binding in
-    let its_typed = literal_typed spec v.constraint due.constraint conj literal its typed declared due.literal_is.repaired.literal_is in
+    let its_typed = (typed_in spec typed v.constraint due.constraint conj literal its declared due.literal_is.repaired.literal_is).literal_typed in
     record {
       number = v.constraint;
       constraint = due.constraint;
@@ -62,9 +55,11 @@ form_of is_fact spec choice v conj literal its template typed plan due =
       typed = its_typed;
       is_false = due.literal_is.repaired.is_false;
       raw = form.raw;
-      form = raw_form is_fact spec form.known due.constraint.quant v.binding bound its.atom its.negated form.tried form.raw its_typed.atom form.are_tried form.is_tried;
+      known = form.known;
+      tells = form.tells;
+      form = raw_form spec form.known due.constraint.quant its.atom its.negated form.tried form.raw its_typed.negated form.are_tried form.is_tried;
       more = form.more;
-      picked = λ write among. compensations_picked v.binding (owner_at spec v.constraint due.constraint) form.raw form.are_compensations write (form.of_compensations write among);
+      picked = λ write among. compensation_picked v.binding (owner_at spec v.constraint due.constraint) form.raw write (form.compensations, form.are_compensations, form.of_compensations write among);
       is = form.is;
       kept = form.kept;
     }

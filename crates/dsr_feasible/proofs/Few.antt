@@ -3,7 +3,8 @@ use Rattle.std.proofs.Common.{◌≡◌, ◌≤◌, ℕ, suc, Bool, true, false,
 use Rattle.std.proofs.lemmas.List.{length-append, length-map}
 use Rattle.std.specs.List.{cons_option, filter_map}
 use Rattle.dsr_feasible.proofs.DueForms.{IsDueForm}
-use Rattle.dsr_feasible.proofs.RawForms.{IsRemoval, RawForm}
+use Rattle.dsr_feasible.proofs.TriedTemplates.{IsRemoval, RawForm}
+use Rattle.dsr_updating.specs.Templates.{KnownSets}
 use Rattle.dsr_ir.specs.Rules.{gives}
 use Rattle.dsr_ir.specs.declared.constraints.Atom.{Atom}
 use Rattle.dsr_ir.specs.declared.constraints.Literal.{Literal}
@@ -53,12 +54,12 @@ removals_few spec symbol v updates typed is =
     let same = ap length is.are in
     omega (arith, picked, rules, few, same)
 
-raw_few : (spec : Spec) (b : Binding) (atom : Atom) (negated : Bool) (t : Template) → IsTyped spec
-    → RawForm spec b atom negated t → length t.updates ≤ 129
-raw_few spec b atom negated t typed (inl adds) = let one = ap length adds.are in omega (arith, one)
-raw_few spec b atom negated t typed (inr (inl removes)) =
+raw_few : (spec : Spec) (known : KnownSets) (atom : Atom) (negated : Bool) (t : Template) → IsTyped spec
+    → RawForm spec known atom negated t → length t.updates ≤ 129
+raw_few spec known atom negated t typed (inl adds) = let one = ap length adds.are in omega (arith, one)
+raw_few spec known atom negated t typed (inr (inl removes)) =
     let few = removals_few spec _ _ t.updates typed removes.removal in omega (arith, few)
-raw_few spec b atom negated t typed (inr (inr both)) =
+raw_few spec known atom negated t typed (inr (inr both)) =
     let few = removals_few spec _ _ both.rest typed both.removal in
     let all = ap length both.are in
     omega (arith, few, all)
@@ -66,7 +67,7 @@ raw_few spec b atom negated t typed (inr (inr both)) =
 pub few_of : (is_fact : Fact → Type 0) (spec : Spec) (b : Binding) (its : Literal) (template : Template) → IsTyped spec
     → IsDueForm is_fact spec b its template → length template.updates ≤ 200
 few_of is_fact spec b its template typed form =
-    let raw = raw_few spec b its.atom its.negated form.raw typed form.form in
+    let raw = raw_few spec form.known its.atom its.negated form.raw typed form.form in
     let mapped = length-map form.raw.updates (with_writes form.more) in
     let same : length template.updates ≡ length (map (with_writes form.more) form.raw.updates) = ap (λ t. length t.updates) form.is in
     omega (arith, raw, mapped, same)

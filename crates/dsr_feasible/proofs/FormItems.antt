@@ -1,14 +1,14 @@
 -- Items of what rules of a symbol give.
-use Rattle.std.proofs.Common.{◌≡◌, ◌+◌, ◌⊎◌, ◌∙◌, ℕ, zero, suc, Bool, true, false, List, [], ◌∷◌, ◌++◌, map, Option, None, Some, inl, inr, refl, sym, ap, subst, arith}
+use Rattle.std.proofs.Common.{◌≡◌, ◌⊎◌, ℕ, true, List, [], ◌∷◌, Option, None, Some, inl, inr, refl, sym, ap, subst, arith}
 use Rattle.std.specs.Prelude.{slice_get, if◌then◌else◌}
-use Rattle.std.specs.List.{cons_option, filter_map, flat_map}
-use Rattle.std.proofs.lemmas.Option.{same_Some}
-use Rattle.dsr_ir.specs.Rules.{gives}
+use Rattle.std.specs.List.{cons_option}
+use Rattle.std.proofs.lemmas.Bool.{eqb-true, false≢true}
+use Rattle.dsr_ir.specs.Rules.{gives, is_same_symbol}
+use Rattle.dsr_ir.specs.declared.updates.Symbol.TheVariants as symbols
 use Rattle.dsr_ir.specs.declared.declarations.Spec.{Spec}
 use Rattle.dsr_ir.specs.declared.rules.Rule.{Rule}
 use Rattle.dsr_ir.specs.declared.updates.Symbol.{Symbol}
 use Rattle.dsr_meaning.specs.Counting.{IsIn}
-use Rattle.dsr_meaning.specs.Lists.{each_at}
 use Rattle.dsr_updating.specs.Templates.{listed}
 use Rattle.dsr_updating.specs.Givers.{IsGiver, each_giver, givers}
 use Rattle.dsr_meaning.proofs.Items.{at_each, in_each_at, passed_in}
@@ -20,6 +20,13 @@ of_listed (Some y) x (inl same) = ap Some (sym same)
 of_listed (Some y) x (inr none) = absurd none
 
 -- ---- what rules of a symbol give
+
+-- of equal symbols
+pub symbols_same : (a b : Symbol) → is_same_symbol a b ≡ true → a ≡ b
+symbols_same (symbols.Set s) (symbols.Set t) e = ap symbols.Set (eqb-true s t e)
+symbols_same (symbols.Rel r) (symbols.Rel q) e = ap symbols.Rel (eqb-true r q e)
+symbols_same (symbols.Set s) (symbols.Rel q) e = absurd (false≢true e)
+symbols_same (symbols.Rel r) (symbols.Set t) e = absurd (false≢true e)
 
 pub record IsOfGiver {T : Type 0} (spec : Spec) (symbol : Symbol) (f : ℕ → Rule → List T) (y : T) : Type 0 where
   pub number : ℕ

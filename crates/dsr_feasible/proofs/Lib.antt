@@ -1,5 +1,3 @@
-pub mod MakingForms
-pub mod MakingRaws
 pub mod MakingWrites
 pub mod MakingEntries
 pub mod MakingRecords
@@ -16,7 +14,6 @@ pub mod KnownSets
 pub mod Forms
 pub mod BoundVars
 pub mod Choosable
-pub mod RawForms
 pub mod DueForms
 pub mod TakenGoals
 pub mod Updates
@@ -24,3 +21,15 @@ pub mod Complete
 pub mod GreatestFact
 pub mod ToGo
 pub mod Few
+pub mod TriedUpdates
+pub mod TriedTemplates
+pub mod RawUpdates
+pub mod ChoosableAdders
+pub mod Compensating
+pub mod GrownUpdates
+pub mod LastGiven
+pub mod ToGoFacts
+pub mod TypedLiterals
+pub mod WrittenRecords
+pub mod TriedSteps
+pub mod PlainSets

@@ -4,6 +4,7 @@ use Rattle.std.specs.Option.{option_and_then}
 use Rattle.dsr_applying.specs.Choices.{IsEntryAt, IsFresh, IsFreshFrom, IsPlace}
 use Rattle.dsr_ir.specs.declared.constraints.Atom.{Atom}
 use Rattle.dsr_ir.specs.declared.constraints.Atom.TheVariants as atoms
+use Rattle.dsr_ir.specs.declared.constraints.Measure.{Measure}
 use Rattle.dsr_ir.specs.declared.constraints.Quant.{Quant}
 use Rattle.dsr_ir.specs.declared.constraints.Quant.TheVariants as quants
 use Rattle.dsr_ir.specs.declared.constraints.Var.{Var}
@@ -19,8 +20,10 @@ use Rattle.dsr_ir.specs.declared.tuples.Binding.TheVariants as bindings
 use Rattle.dsr_ir.specs.declared.tuples.Element.{Element}
 use Rattle.dsr_ir.specs.declared.tuples.Fact.{Fact}
 use Rattle.dsr_ir.specs.declared.tuples.Instance.{Instance}
+use Rattle.dsr_ir.specs.declared.updates.Goal.{Goal}
 use Rattle.dsr_ir.specs.declared.updates.Pick.{Pick}
 use Rattle.dsr_ir.specs.declared.updates.Pick.TheVariants as picks
+use Rattle.dsr_ir.specs.declared.updates.Symbol.{Symbol}
 use Rattle.dsr_ir.specs.declared.updates.Update.{Update}
 use Rattle.dsr_ir.specs.declared.updates.Write.{Write}
 use Rattle.dsr_meaning.specs.Cells.{width_bits}
@@ -37,7 +40,8 @@ use Rattle.dsr_updating.specs.Givers.{is_single}
 use Rattle.dsr_updating.specs.Templates.{KnownSets, TellsKnown, referred, starts_at}
 use Rattle.dsr_feasible.proofs.MakingCan.{IsMade, all_true_made, target_writes_made}
 use Rattle.dsr_feasible.proofs.MakingEntries.{FitsField, code_fits_field, slot_record}
-use Rattle.dsr_feasible.proofs.MakingRaws.{IsAdding, IsJoining, IsRelating, IsSupplying, single_span}
+use Rattle.dsr_feasible.proofs.TriedTemplates.{single_span}
+use Rattle.dsr_feasible.proofs.TriedUpdates.{IsAdding, IsJoining, IsRelating, IsSupplying}
 use Rattle.dsr_feasible.proofs.MakingRecords.{of_rule, place_named, start_record, target_read, var_record}
 use Rattle.std.proofs.lemmas.Bool.{and_parts}
 use Rattle.dsr_meaning.proofs.Options.{some_and}
@@ -73,33 +77,33 @@ module _ (spec : Spec) (bytes : List ℕ) (layout : Layout) (is : IsLayoutOf spe
   abbrev written : Instance
   written = record { rule = u.rule; elem = step.elem; index = step.index }
 
-  adding_instance : (v : Var) (rule : Rule) → IsAdding spec known v rule u → IsInstance spec layout written rule
-  adding_instance v rule adding =
+  adding_instance : (symbol : Symbol) (v : Var) (rule : Rule) → IsAdding spec known symbol v rule u → IsInstance spec layout written rule
+  adding_instance symbol v rule adding =
       let serves = and_parts (is_single rule.span) (starts_at known v rule) adding.serves_it in
       let at = place_named v step.binding stopped step.elem (subst (λ p. IsPlace step.binding stopped p step.elem) adding.place_is place) in
       let start = start_record spec bytes layout is.numbers typed quant quant_typed step.binding bound known tells v rule step.elem serves.1 at in
       let first : step.index ≡ 0 = subst (λ a. IsEntryAt step.binding stopped a step.index) adding.at_is entry in
       let below : step.index < 1 = omega (arith, first) in
       record {
-        rule_is = adding.rule_is;
+        rule_is = adding.giver.rule_is;
         pool_is = start.pool_is;
         slot_below = start.slot_below;
         index_below = subst (λ s. step.index < index_count layout s) (sym (single_span rule.span serves.0)) below;
       }
 
-  pub joining_made : IsJoining spec known u → (write : Write) → IsIn write u.writes → IsMade spec layout step write
-  joining_made joining =
+  pub joining_made : (goal : Goal) (atom : Atom) → IsJoining spec known goal atom u → (write : Write) → IsIn write u.writes → IsMade spec layout step write
+  joining_made goal atom joining =
       let rule = joining.rule in
-      all_true_made spec bytes layout is typed step written rule (adding_instance joining.v rule joining.adding_is) (of_rule spec typed u.rule rule joining.adding_is.rule_is) refl (λ path its. refl)
+      all_true_made spec bytes layout is typed step written rule (adding_instance _ joining.v rule joining.adding_is) (of_rule spec typed u.rule rule joining.adding_is.giver.rule_is) refl (λ path its. refl)
       rule.guards u.writes joining.made (λ guard among. among)
 
   -- the code of the other variable's record fits the target
-  related_fits : (atom : Atom) (relating : IsRelating spec known atom u) → IsTypedAtom spec quant atom → (f : Field) (pool : ℕ) → declared_field spec.base relating.path.field ≡ Some f → kind_pool f.kind ≡ Some pool → FitsField spec layout step relating.path.field f (picks.CodeOf relating.w)
-  related_fits atom relating atom_typed f pool declared refers =
+  related_fits : (goal : Goal) (atom : Atom) (relating : IsRelating spec known goal atom u) → IsTypedAtom spec quant atom → (f : Field) (pool : ℕ) → declared_field spec.base relating.path.field ≡ Some f → kind_pool f.kind ≡ Some pool → FitsField spec layout step relating.path.field f (picks.CodeOf relating.w)
+  related_fits goal atom relating atom_typed f pool declared refers =
       let rule = relating.rule in
       let its : IsTypedAtom spec quant (atoms.Pair relating.v relating.w relating.rel) = subst (IsTypedAtom spec quant) relating.atom_is atom_typed in
       let rel = some_and (slice_get spec.base.rels relating.rel) _ its in
-      let read = target_read spec typed rule relating.rel rule.inc relating.path (of_rule spec typed u.rule rule relating.adding_is.rule_is).inc relating.gives_it relating.target_is in
+      let read = target_read spec typed rule relating.rel rule.inc relating.path (of_rule spec typed u.rule rule relating.adding_is.giver.rule_is).inc relating.adding_is.giver.gives relating.target_is in
       let refers_to : option_and_then (λ (g : Field). kind_pool g.kind) (declared_field spec.base relating.path.field) ≡ Some pool = ap (option_and_then (λ (g : Field). kind_pool g.kind)) declared ∙ refers in
       let target : rel.0.target ≡ Some pool = target_same rel.0 (slice_get spec.base.rels relating.rel) (option_and_then (λ (g : Field). kind_pool g.kind) (declared_field spec.base relating.path.field)) (Some pool) rel.1.0 read refers_to in
       let of : pool_of_var spec.base quant relating.w ≡ Some pool = rel.1.1.2 ∙ target in
@@ -108,11 +112,11 @@ module _ (spec : Spec) (bytes : List ℕ) (layout : Layout) (is : IsLayoutOf spe
       let code = code_fits_field spec bytes layout is typed step relating.path.field f pool there.0 declared refers at in
       fits_code spec layout step relating.path.field f (picks.CodeOf relating.w) (element_of step.binding relating.w) there.0 there.1 refl code
 
-  pub relating_made : (atom : Atom) → IsTypedAtom spec quant atom → IsRelating spec known atom u → (write : Write) → IsIn write u.writes → IsMade spec layout step write
-  relating_made atom atom_typed relating =
+  pub relating_made : (goal : Goal) (atom : Atom) → IsTypedAtom spec quant atom → IsRelating spec known goal atom u → (write : Write) → IsIn write u.writes → IsMade spec layout step write
+  relating_made goal atom atom_typed relating =
       let rule = relating.rule in
-      target_writes_made spec bytes layout is typed step written rule (adding_instance relating.v rule relating.adding_is) (of_rule spec typed u.rule rule relating.adding_is.rule_is) refl (λ path its. refl)
-      (picks.CodeOf relating.w) relating.path u.writes relating.target_is relating.made (related_fits atom relating atom_typed)
+      target_writes_made spec bytes layout is typed step written rule (adding_instance _ relating.v rule relating.adding_is) (of_rule spec typed u.rule rule relating.adding_is.giver.rule_is) refl (λ path its. refl)
+      (picks.CodeOf relating.w) relating.path u.writes relating.target_is relating.made (related_fits goal atom relating atom_typed)
 
   module _ (fresh : IsFresh (IsFact spec layout bytes) spec layout u.fresh step.fresh) where
     -- the code of the fresh record fits the target
@@ -125,8 +129,8 @@ module _ (spec : Spec) (bytes : List ℕ) (layout : Layout) (is : IsLayoutOf spe
         let code = code_fits_field spec bytes layout is typed step field f pool e declared refers at in
         fits_code spec layout step field f picks.Fresh step.fresh e there.1.0 refl code
 
-    pub supplying_made : IsSupplying spec known u → (write : Write) → IsIn write u.writes → IsMade spec layout step write
-    supplying_made supplying =
+    pub supplying_made : (measure : Measure) → IsSupplying spec known measure u → (write : Write) → IsIn write u.writes → IsMade spec layout step write
+    supplying_made measure supplying =
         let rule = supplying.rule in
-        target_writes_made spec bytes layout is typed step written rule (adding_instance supplying.v rule supplying.adding_is) (of_rule spec typed u.rule rule supplying.adding_is.rule_is) refl (λ path its. refl)
+        target_writes_made spec bytes layout is typed step written rule (adding_instance _ supplying.v rule supplying.adding_is) (of_rule spec typed u.rule rule supplying.adding_is.giver.rule_is) refl (λ path its. refl)
         picks.Fresh supplying.path u.writes supplying.target_is supplying.made (λ f pool declared refers. fresh_fits supplying.path.field f pool supplying.fresh_is declared refers)

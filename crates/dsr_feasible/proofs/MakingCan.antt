@@ -19,7 +19,7 @@ use Rattle.dsr_meaning.specs.Counting.{IsIn}
 use Rattle.dsr_meaning.specs.Instances.{IsInstance, declared_field, kind_pool, premise_pool}
 use Rattle.dsr_meaning.specs.Refusals.{IsLayoutOf}
 use Rattle.dsr_meaning.specs.Typed.{IsTyped, IsTypedGuard, IsTypedPath, IsTypedRule}
-use Rattle.dsr_repairing.specs.Images.{IsFree, IsOfHead}
+use Rattle.dsr_stepping.specs.Images.{IsFree, IsOfHead}
 use Rattle.dsr_stepped.proofs.AllTrue.{first_true, in_others, target_written}
 use Rattle.dsr_stepped.proofs.Together.{target_typed}
 use Rattle.dsr_stepping.specs.Steps.{CanWrite}

@@ -1,7 +1,7 @@
--- An update that removes writes at the record and the entry of the instance that it stops.
-use Rattle.std.proofs.Common.{◌≡◌, ◌<◌, ◌∙◌, ◌&&◌, ℕ, Bool, true, false, List, [], ◌∷◌, Option, None, Some, IfSome, IsSomeAnd, is_some, inl, inr, refl, sym, ap, subst, slice_get, if◌then◌else◌, arith}
+-- An update that takes a fact away writes at the record and the entry of the instance that it stops, and can be made.
+use Rattle.std.proofs.Common.{◌≡◌, ◌<◌, ◌∙◌, ◌&&◌, ℕ, Bool, true, false, List, Option, None, Some, IfSome, IsSomeAnd, is_some, inl, inr, refl, sym, ap, subst, slice_get, if◌then◌else◌, arith}
 use Rattle.std.proofs.lemmas.Option.{same_Some}
-use Rattle.dsr_applying.specs.Choices.{IsEntryAt, IsPlace, IsUpdateAt}
+use Rattle.dsr_applying.specs.Choices.{IsEntryAt, IsPlace}
 use Rattle.dsr_ir.specs.declared.constraints.Atom.{Atom}
 use Rattle.dsr_ir.specs.declared.constraints.Var.{Var}
 use Rattle.dsr_ir.specs.declared.constraints.Var.TheVariants.{Head, First, Second}
@@ -15,13 +15,13 @@ use Rattle.dsr_ir.specs.declared.tuples.Element.{Element}
 use Rattle.dsr_ir.specs.declared.tuples.Fact.{Fact}
 use Rattle.dsr_ir.specs.declared.tuples.Instance.{Instance}
 use Rattle.dsr_ir.specs.declared.updates.At.TheVariants as ats
+use Rattle.dsr_ir.specs.declared.updates.Goal.{Goal}
 use Rattle.dsr_ir.specs.declared.updates.Place.TheVariants as places
-use Rattle.dsr_ir.specs.declared.updates.Template.{Template}
 use Rattle.dsr_ir.specs.declared.updates.Update.{Update}
 use Rattle.dsr_ir.specs.declared.updates.Write.{Write}
 use Rattle.dsr_meaning.specs.Counting.{IsIn}
 use Rattle.dsr_meaning.specs.Instances.{Gives, Includes, index_count, pool_of_premise, record_count}
-use Rattle.dsr_meaning.specs.Models.{Chain, IsDerivedBy, IsFact, begin, follow}
+use Rattle.dsr_meaning.specs.Models.{IsFact}
 use Rattle.dsr_meaning.specs.Refusals.{IsLayoutOf}
 use Rattle.dsr_meaning.specs.Truth.{element_of, head}
 use Rattle.dsr_meaning.specs.Typed.{IsTyped}
@@ -30,31 +30,13 @@ use Rattle.dsr_updating.specs.Givers.{is_own, is_single, is_slot}
 use Rattle.dsr_updating.specs.Options.{options}
 use Rattle.dsr_updating.specs.Templates.{removal_at, removal_place}
 use Rattle.dsr_feasible.proofs.MakingCan.{IsMade, option_made}
-use Rattle.dsr_feasible.proofs.MakingRaws.{IsRemoving, single_span, source_of}
+use Rattle.dsr_feasible.proofs.LastGiven.{given_by}
+use Rattle.dsr_feasible.proofs.RawUpdates.{IsStopChosen}
+use Rattle.dsr_feasible.proofs.ToGoFacts.{source_of, to_go_source}
+use Rattle.dsr_feasible.proofs.TriedTemplates.{single_span}
+use Rattle.dsr_feasible.proofs.TriedUpdates.{taken_var}
+use Rattle.dsr_stepped.proofs.HeadRules.{only_head}
 use Rattle.dsr_feasible.proofs.MakingRecords.{of_rule}
-
--- the instance gives the fact
-pub record IsGivenAt (spec : Spec) (layout : Layout) (bytes : List ℕ) (i : Instance) (fact : Fact) : Type 0 where
-  pub rule : Rule
-  pub gives : Gives spec layout bytes i rule fact
-
-first_same : (j i : Instance) (js is : List Instance) → j ∷ js ≡ i ∷ is → j ≡ i
-first_same j i js is e = same_Some j i (ap (λ xs. slice_get xs 0) e)
-
-last_gives : (spec : Spec) (layout : Layout) (bytes : List ℕ) (i : Instance) (all rest : List Instance) (fact : Fact) → all ≡ i ∷ rest → Chain spec layout bytes all fact → IsGivenAt spec layout bytes i fact
-last_gives spec layout bytes i all rest fact e (begin j rule premise gives) =
-    let same : j ≡ i = first_same j i [] rest e in
-    record { rule = rule; gives = subst (λ k. Gives spec layout bytes k rule fact) same gives }
-last_gives spec layout bytes i all rest fact e (follow {is = js} j rule set chain premise gives) =
-    let same : j ≡ i = first_same j i js rest e in
-    record { rule = rule; gives = subst (λ k. Gives spec layout bytes k rule fact) same gives }
-
-pub derived_by : (spec : Spec) (layout : Layout) (bytes : List ℕ) (i : Instance) (fact : Fact) → IsDerivedBy spec layout bytes i fact → IsGivenAt spec layout bytes i fact
-derived_by spec layout bytes i fact by = last_gives spec layout bytes i (i ∷ by.0) by.0 fact refl by.1
-
--- the only record of pool 0
-one_head : (e : Element) → e.pool ≡ 0 → e.slot < 1 → e ≡ head
-one_head e pool below = let slot : e.slot ≡ 0 = omega (arith, below) in λ k. record { pool = pool k; slot = slot k }
 
 module _ (spec : Spec) (layout : Layout) (bytes : List ℕ) (i : Instance) (rule : Rule) (fact : Fact) (gives : Gives spec layout bytes i rule fact) where
   -- where the rule gives the record itself, that is the source; and a slot is the one at the index
@@ -74,10 +56,10 @@ module _ (spec : Spec) (layout : Layout) (bytes : List ℕ) (i : Instance) (rule
 
   -- the record of the instance is the head, where the rule has no premise
   head_elem : rule.premise ≡ None → head ≡ i.elem
-  head_elem premise =
-      let pool : i.elem.pool ≡ 0 = gives.is_instance.pool_is ∙ ap (pool_of_premise spec.base) premise in
-      let below : i.elem.slot < 1 = subst (λ p. i.elem.slot < record_count layout (pool_of_premise spec.base p)) premise gives.is_instance.slot_below in
-      sym (one_head i.elem pool below)
+  head_elem premise = sym (only_head layout i.elem (record {
+    pool_is = gives.is_instance.pool_is ∙ ap (pool_of_premise spec.base) premise;
+    slot_below = subst (λ p. i.elem.slot < record_count layout (pool_of_premise spec.base p)) premise gives.is_instance.slot_below;
+  }))
 
   module _ (b : Binding) (e : Element) where
     -- the record of the head or of the instance is that of the instance
@@ -126,23 +108,38 @@ module _ (spec : Spec) (layout : Layout) (bytes : List ℕ) (i : Instance) (rule
           | false ↦ λ _ entry. rest_entry entry
         ] refl at
 
-module _ (spec : Spec) (bytes : List ℕ) (layout : Layout) (is : IsLayoutOf spec bytes layout) (typed : IsTyped spec) (step : Step) where
-  -- each write of an update that removes can be made
-  pub removal_made : (atom : Atom) (template : Template) (n : ℕ) (update u : Update) (stopped : Option Instance) → IsRemoving (IsFact spec layout bytes) spec atom template.goal n u → IsUpdateAt spec layout bytes step.binding atom template n update stopped
-      → update.rule ≡ u.rule → IsPlace step.binding stopped u.place step.elem → IsEntryAt step.binding stopped u.at step.index
-      → (write : Write) → IsIn write u.writes → IsMade spec layout step write
-  removal_made atom template n update u stopped removing (IsUpdateAt.adds its adds at) rule_same place entry write is_in = absurd (removing.never_adds step.binding adds refl)
-  removal_made atom template n update u stopped removing (IsUpdateAt.takes_away m its fact i away to_go deriver at of_rule_i) rule_same place entry write is_in =
-      let given = derived_by spec layout bytes i fact deriver.derived in
-      let rule_number : u.rule ≡ i.rule = sym rule_same ∙ of_rule_i in
-      let rule : given.rule ≡ removing.rule = same_Some given.rule removing.rule (sym given.gives.is_instance.rule_is ∙ (ap (slice_get spec.rules) (sym rule_number) ∙ removing.rule_is)) in
-      let gives : Gives spec layout bytes i removing.rule fact = subst (λ r. Gives spec layout bytes i r fact) rule given.gives in
-      let named = removing.source_is step.binding fact to_go in
-      let elem = removal_elem spec layout bytes i removing.rule fact gives step.binding step.elem removing.v named (subst (λ p. IsPlace step.binding (Some i) p step.elem) removing.place_is place) in
-      let index = removal_entry spec layout bytes i removing.rule fact gives step.binding step.index removing.v named (subst (λ a. IsEntryAt step.binding (Some i) a step.index) removing.at_is entry) in
-      let option : IsIn write (options spec.base removing.rule) = elim (subst (IsIn write) removing.writes_are is_in) as (λ _. IsIn write (options spec.base removing.rule)) [
-        | inl one ↦ subst (λ w. IsIn w (options spec.base removing.rule)) (sym one) removing.option
+-- ---- the instance that is stopped
+
+-- it gives the fact that is to go, by the update's rule, and is at the written record and entry
+pub record IsStoppedAt (spec : Spec) (layout : Layout) (bytes : List ℕ) (step : Step) (fact : Fact) (instance : Instance) (rule : Rule) : Type 0 where
+  pub gives : Gives spec layout bytes instance rule fact
+  pub elem : step.elem ≡ instance.elem
+  pub index : step.index ≡ instance.index
+
+module _ (spec : Spec) (layout : Layout) (bytes : List ℕ) (step : Step) (goal : Goal) (atom : Atom) (n : ℕ) (u update : Update) (stopped : Option Instance) (s : IsStopChosen spec layout bytes step.binding goal atom n u update stopped) (rule_same : update.rule ≡ u.rule) (place : IsPlace step.binding stopped u.place step.elem) (entry : IsEntryAt step.binding stopped u.at step.index) where
+  abbrev rule : Rule
+  rule = s.removing.rule
+
+  pub stopped_at : IsStoppedAt spec layout bytes step s.fact s.instance rule
+  stopped_at =
+      let gives = given_by spec layout bytes s.instance s.fact rule (ap (slice_get spec.rules) (sym s.rule_same ∙ rule_same) ∙ s.removing.giver.rule_is) s.derived in
+      let named = to_go_source step.binding (IsFact spec layout bytes) atom s.fact s.to_go in
+      record {
+        gives = gives;
+        elem = removal_elem spec layout bytes s.instance rule s.fact gives step.binding step.elem (taken_var atom) named
+            (subst (λ p. IsPlace step.binding (Some s.instance) p step.elem) s.removing.place_is (subst (λ o. IsPlace step.binding o u.place step.elem) s.stopped_is place));
+        index = removal_entry spec layout bytes s.instance rule s.fact gives step.binding step.index (taken_var atom) named
+            (subst (λ a. IsEntryAt step.binding (Some s.instance) a step.index) s.removing.at_is (subst (λ o. IsEntryAt step.binding o u.at step.index) s.stopped_is entry));
+      }
+
+  -- each write of such an update can be made
+  pub removal_made : IsLayoutOf spec bytes layout → IsTyped spec → (write : Write) → IsIn write u.writes → IsMade spec layout step write
+  removal_made is typed write is_in =
+      let at = stopped_at in
+      let instance = at.gives.is_instance in
+      let option : IsIn write (options spec.base rule) = elim (subst (IsIn write) s.removing.writes_are is_in) as (λ _. IsIn write (options spec.base rule)) [
+        | inl one ↦ subst (λ w. IsIn w (options spec.base rule)) (sym one) s.removing.option
         | inr none ↦ absurd none
       ] in
-      option_made spec bytes layout is typed step i removing.rule gives.is_instance (of_rule spec typed i.rule removing.rule gives.is_instance.rule_is) (sym elem)
-      (λ path its. ap (λ k. if path.indexed then k else 0) (sym index)) write option
+      option_made spec bytes layout is typed step s.instance rule instance (of_rule spec typed s.instance.rule rule instance.rule_is) (sym at.elem)
+      (λ path its. ap (λ k. if path.indexed then k else 0) (sym at.index)) write option

@@ -17,7 +17,7 @@ use Rattle.dsr_ir.specs.declared.updates.Write.{Write}
 use Rattle.dsr_meaning.specs.Cells.{width_bits}
 use Rattle.dsr_meaning.specs.Instances.{declared_field, kind_pool}
 use Rattle.dsr_meaning.specs.Typed.{IsTypedTest}
-use Rattle.dsr_repairing.specs.Images.{IsFree}
+use Rattle.dsr_stepping.specs.Images.{IsFree}
 use Rattle.dsr_updating.specs.Guards.{fitting, guard_write, number_false, number_true, pick_wanted}
 use Rattle.dsr_updating.specs.Options.{open_pool, reference_write}
 use Rattle.dsr_updating.specs.Templates.{value_write}

@@ -1,12 +1,16 @@
 -- Which goals add, and which take away.
-use Rattle.std.proofs.Common.{ℕ, Bool}
+use Rattle.std.proofs.Common.{ℕ, Bool, subst}
 use Rattle.dsr_applying.specs.Choices.{Adds, TakesAway}
 use Rattle.dsr_ir.specs.declared.constraints.Atom.{Atom}
 use Rattle.dsr_ir.specs.declared.tuples.Binding.{Binding}
 use Rattle.dsr_ir.specs.declared.tuples.Fact.{Fact}
 use Rattle.dsr_ir.specs.declared.updates.Goal.{Goal}
 use Rattle.dsr_ir.specs.declared.updates.Goal.TheVariants as goals
-use Rattle.dsr_feasible.proofs.RawForms.{GoalAdds, IsTakenBy}
+use Rattle.dsr_ir.specs.declared.declarations.Spec.{Spec}
+use Rattle.dsr_ir.specs.declared.updates.Update.{Update}
+use Rattle.dsr_updating.specs.Templates.{KnownSets}
+use Rattle.dsr_feasible.proofs.TriedTemplates.{GoalAdds, IsTakenBy}
+use Rattle.dsr_feasible.proofs.TriedUpdates.{IsAdder}
 
 pub adding_adds : (is_fact : Fact → Type 0) (b : Binding) (atom : Atom) (goal : Goal) → GoalAdds goal → Adds is_fact b atom goal
 adding_adds is_fact b atom goals.AddSet adds = tt
@@ -47,3 +51,21 @@ taking_takes atom negated goals.RemoveSet n takes = tt
 taking_takes atom negated goals.RemoveTuple n takes = tt
 taking_takes atom negated goals.Trim n takes = tt
 taking_takes atom negated goals.ExactlyOne n takes = absurd takes
+
+-- no update is both the first one of a template that adds and one that takes away
+pub adds_take_none : (is_fact : Fact → Type 0) (b : Binding) (atom : Atom) (goal : Goal) → Adds is_fact b atom goal → TakesAway goal 0 → ⊥
+adds_take_none is_fact b atom goals.AddSet adds takes = takes
+adds_take_none is_fact b atom goals.AddTuple adds takes = takes
+adds_take_none is_fact b atom goals.SetValue adds takes = takes
+adds_take_none is_fact b atom goals.Supply adds takes = takes
+adds_take_none is_fact b atom goals.ExactlyOne adds takes = takes
+adds_take_none is_fact b atom goals.RemoveSet adds takes = adds
+adds_take_none is_fact b atom goals.RemoveTuple adds takes = adds
+adds_take_none is_fact b atom goals.Trim adds takes = adds
+
+pub adder_takes_none : (spec : Spec) (known : KnownSets) (goal : Goal) (atom : Atom) (u : Update) → IsAdder spec known goal atom u → TakesAway goal 0 → ⊥
+adder_takes_none spec known goal atom u (IsAdder.joins j) takes = subst (λ g. TakesAway g 0) j.goal_is takes
+adder_takes_none spec known goal atom u (IsAdder.relates r) takes = subst (λ g. TakesAway g 0) r.goal_is takes
+adder_takes_none spec known goal atom u (IsAdder.supplies_some measure is atom_is s) takes = subst (λ g. TakesAway g 0) is takes
+adder_takes_none spec known goal atom u (IsAdder.supplies_one measure is atom_is s) takes = subst (λ g. TakesAway g 0) is takes
+adder_takes_none spec known goal atom u (IsAdder.sets s) takes = subst (λ g. TakesAway g 0) s.goal_is takes

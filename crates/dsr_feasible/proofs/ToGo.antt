@@ -1,14 +1,10 @@
 -- The fact that is to go is there.
 use Rattle.std.proofs.Common.{◌≡◌, ◌∙◌, ℕ, zero, suc, Bool, true, false, List, [], Option, None, Some, IsTrue, IsSome, IsSomeAnd, MatchBool, inl, inr, refl, sym, subst, arith}
-use Rattle.std.specs.Prelude.{slice_get}
-use Rattle.std.specs.Option.{option_and_then}
 use Rattle.std.proofs.lemmas.Bool.{false≢true}
-use Rattle.std.proofs.lemmas.Bool.Decides.{nat_tests}
 use Rattle.dsr_applying.specs.Choices.{Adds, CountsNothing, IsToGo}
 use Rattle.dsr_decided.proofs.Models.{facts_listed}
 use Rattle.dsr_decided.proofs.Truths.{literal_decided}
 use Rattle.dsr_decided.specs.Deciding.{IsDecided}
-use Rattle.dsr_ir.specs.Rules.{gives}
 use Rattle.dsr_ir.specs.declared.constraints.Atom.{Atom}
 use Rattle.dsr_ir.specs.declared.constraints.Atom.TheVariants as atoms
 use Rattle.dsr_ir.specs.declared.constraints.Literal.{Literal}
@@ -16,14 +12,10 @@ use Rattle.dsr_ir.specs.declared.constraints.Measure.{Measure}
 use Rattle.dsr_ir.specs.declared.constraints.Measure.TheVariants.{Into, Out, Whole}
 use Rattle.dsr_ir.specs.declared.constraints.Quant.{Quant}
 use Rattle.dsr_ir.specs.declared.constraints.Var.{Var}
-use Rattle.dsr_ir.specs.declared.declarations.SetDecl.{SetDecl}
 use Rattle.dsr_ir.specs.declared.declarations.Spec.{Spec}
 use Rattle.dsr_ir.specs.declared.layouts.Layout.{Layout}
-use Rattle.dsr_ir.specs.declared.rules.Inc.{Inc}
-use Rattle.dsr_ir.specs.declared.rules.Inc.TheVariants as incs
 use Rattle.dsr_ir.specs.declared.rules.Op.{Op}
 use Rattle.dsr_ir.specs.declared.rules.Op.TheVariants.{Eq, Ge, Gt, Le, Lt, Ne}
-use Rattle.dsr_ir.specs.declared.rules.Rule.{Rule}
 use Rattle.dsr_ir.specs.declared.tuples.Binding.{Binding}
 use Rattle.dsr_ir.specs.declared.tuples.Element.{Element}
 use Rattle.dsr_ir.specs.declared.tuples.Fact.{Fact}
@@ -37,46 +29,27 @@ use Rattle.dsr_listing.specs.Sides.{atom_symbol}
 use Rattle.dsr_meaning.specs.Consistency.{IsBinding}
 use Rattle.dsr_meaning.specs.Counting.{AreMany}
 use Rattle.dsr_meaning.specs.Looking.{IsCounted}
-use Rattle.dsr_meaning.specs.Models.{IsDerived, IsFact, IsMemberBy, base_of}
+use Rattle.dsr_meaning.specs.Models.{IsDerived, IsFact, base_of}
 use Rattle.dsr_meaning.specs.Truth.{AtomHolds, HasSize, HasVariable, element_of}
-use Rattle.dsr_meaning.specs.Typed.{IsPlainSetOf, IsTyped, IsTypedAtom, IsTypedInc, IsTypedRule, MayBeNegated}
+use Rattle.dsr_meaning.specs.Typed.{IsTyped, IsTypedAtom, MayBeNegated}
 use Rattle.dsr_updating.specs.Givers.{HasGiver}
 use Rattle.dsr_updating.specs.Templates.{counted_symbol}
 use Rattle.dsr_feasible.proofs.BoundVars.{measured}
 use Rattle.dsr_feasible.proofs.DueForms.{IsDueForm, goal_same}
 use Rattle.dsr_feasible.proofs.GreatestFact.{counted_listed, greatest}
-use Rattle.dsr_feasible.proofs.RawForms.{GoalAdds, IsForOne, IsTakenBy, IsTrimmed}
+use Rattle.dsr_feasible.proofs.TriedTemplates.{GoalAdds, IsForOne, IsTakenBy, IsTrimmed}
+use Rattle.dsr_feasible.proofs.PlainSets.{as_derived, given_plain, plain_base}
 use Rattle.dsr_feasible.proofs.TakenGoals.{adding_adds}
-use Rattle.dsr_meaning.proofs.Items.{item_at, of_all}
 
--- ---- sets that are no complements
-
-plain_base : (spec : Spec) (pool set : ℕ) → IsPlainSetOf spec.base pool set → base_of spec set ≡ None
-plain_base spec pool set plain = of_set (slice_get spec.base.sets set) plain where
-  of_set : (o : Option SetDecl) → IsSomeAnd o (λ s. (s.pool ≡ pool) × (s.except ≡ None)) → option_and_then (λ (d : SetDecl). d.except) o ≡ None
-  of_set None h = absurd h
-  of_set (Some s) h = h.1
-
--- what a typed rule gives is a plain set
-given_plain : (spec : Spec) (rule : Rule) (inc : Inc) (set : ℕ) → IsTypedInc spec.base rule inc → gives (symbols.Set set) inc ≡ true → base_of spec set ≡ None
-given_plain spec rule (incs.Own own) set typed given = (let same : own ≡ set = grind (arith, nat_tests, given) in subst (λ n. base_of spec n ≡ None) same (plain_base spec _ own typed))
-given_plain spec rule (incs.Target own path) set typed given = (let same : own ≡ set = grind (arith, nat_tests, given) in subst (λ n. base_of spec n ≡ None) same (plain_base spec typed.0 own typed.1))
-given_plain spec rule (incs.Slot own pool) set typed given = (let same : own ≡ set = grind (arith, nat_tests, given) in subst (λ n. base_of spec n ≡ None) same (plain_base spec pool own typed.0))
-given_plain spec rule (incs.OwnPair rel path) set typed given = absurd (false≢true given)
-given_plain spec rule (incs.SlotPair rel pool path) set typed given = absurd (false≢true given)
+-- ---- what is counted is derived
 
 giver_plain : (spec : Spec) (set : ℕ) → IsTyped spec → HasGiver spec (symbols.Set set) → base_of spec set ≡ None
-giver_plain spec set typed (k, rule, giver) =
-    let its = of_all (IsTypedRule spec.base) spec.rules rule typed.rules (item_at spec.rules k rule giver.rule_is) in
-    given_plain spec rule rule.inc set its.inc giver.gives
+giver_plain spec set typed (k, rule, giver) = given_plain spec typed set k rule giver
 
 module _ (spec : Spec) (layout : Layout) (bytes : List ℕ) where
-  derived_member : (set : ℕ) (e : Element) → base_of spec set ≡ None → IsFact spec layout bytes (Member set e) → IsDerived spec layout bytes (Member set e)
-  derived_member set e plain is = subst (λ o. IsMemberBy spec layout bytes set o e) plain is
-
   -- what is counted is derived, where rules give it
   derived_counted : (b : Binding) (measure : Measure) (fact : Fact) → IsTyped spec → HasGiver spec (counted_symbol measure) → IsCounted b measure fact → IsFact spec layout bytes fact → IsDerived spec layout bytes fact
-  derived_counted b (Whole set) (Member s e) typed giver counted is = derived_member s e (subst (λ n. base_of spec n ≡ None) (sym counted) (giver_plain spec set typed giver)) is
+  derived_counted b (Whole set) (Member s e) typed giver counted is = as_derived spec layout bytes s e (subst (λ n. base_of spec n ≡ None) (sym counted) (giver_plain spec set typed giver)) is
   derived_counted b (Whole set) (Pair r x t) typed giver counted is = is
   derived_counted b (Out v rel) (Member s e) typed giver counted is = absurd counted
   derived_counted b (Out v rel) (Pair r x t) typed giver counted is = is
@@ -129,7 +102,7 @@ module _ (spec : Spec) (layout : Layout) (bytes : List ℕ) (typed : IsTyped spe
   member_to_go v set plain holds = of_var (element_of b v) holds where
     of_var : (o : Option Element) → IsSomeAnd o (λ x. IsFact spec layout bytes (Member set x)) → (fact : Fact) × IsSomeAnd o (λ x. fact ≡ Member set x) × IsDerived spec layout bytes fact
     of_var None h = absurd h
-    of_var (Some x) h = (Member set x, refl, derived_member spec layout bytes set x plain h)
+    of_var (Some x) h = (Member set x, refl, as_derived spec layout bytes set x plain h)
 
   pair_to_go : (v w : Var) (rel : ℕ) → AtomHolds (IsFact spec layout bytes) b (atoms.Pair v w rel) → HasToGo spec layout bytes b (atoms.Pair v w rel)
   pair_to_go v w rel holds = of_vars (element_of b v) (element_of b w) holds where

@@ -1,44 +1,35 @@
 -- The updates of a template that is due.
-use Rattle.std.proofs.Common.{◌≡◌, ◌∙◌, ◌<◌, ◌≤◌, ◌-◌, ℕ, zero, suc, nat_eq, true, false, List, [], ◌∷◌, length, min, Option, None, Some, IsSomeAnd, inl, inr, refl, sym, ap, subst, arith}
+use Rattle.std.proofs.Common.{◌≡◌, ◌∙◌, ◌<◌, ◌≤◌, ◌-◌, ℕ, zero, suc, nat_eq, false, List, [], ◌∷◌, length, min, Option, Some, inl, inr, refl, sym, ap, subst, arith}
 use Rattle.std.specs.Prelude.{option_map, slice_get}
 use Rattle.std.proofs.Math.Nat.{min-le_right}
 use Rattle.std.proofs.lemmas.Bool.Decides.{nat_tests}
 use Rattle.dsr_applying.specs.Choices.{Adds, IsToGo, TakesAway}
-use Rattle.dsr_ir.specs.Rules.{gives}
-use Rattle.dsr_ir.specs.declared.constraints.Atom.{Atom}
-use Rattle.dsr_ir.specs.declared.constraints.Atom.TheVariants as atoms
 use Rattle.dsr_ir.specs.declared.constraints.Literal.{Literal}
-use Rattle.dsr_ir.specs.declared.constraints.Measure.{Measure}
-use Rattle.dsr_ir.specs.declared.constraints.Measure.TheVariants.{Into, Out, Whole}
 use Rattle.dsr_ir.specs.declared.constraints.Var.{Var}
 use Rattle.dsr_ir.specs.declared.declarations.Spec.{Spec}
 use Rattle.dsr_ir.specs.declared.layouts.Layout.{Layout}
-use Rattle.dsr_ir.specs.declared.rules.Inc.{Inc}
-use Rattle.dsr_ir.specs.declared.rules.Inc.TheVariants as incs
 use Rattle.dsr_ir.specs.declared.rules.Rule.{Rule}
 use Rattle.dsr_ir.specs.declared.tuples.Binding.{Binding}
-use Rattle.dsr_ir.specs.declared.tuples.Element.{Element}
 use Rattle.dsr_ir.specs.declared.tuples.Fact.{Fact}
-use Rattle.dsr_ir.specs.declared.tuples.Fact.TheVariants as facts
 use Rattle.dsr_ir.specs.declared.tuples.Instance.{Instance}
-use Rattle.dsr_ir.specs.declared.tuples.Target.TheVariants.{Elem}
 use Rattle.dsr_ir.specs.declared.updates.Symbol.{Symbol}
-use Rattle.dsr_ir.specs.declared.updates.Symbol.TheVariants as symbols
 use Rattle.dsr_ir.specs.declared.updates.Template.{Template}
 use Rattle.dsr_ir.specs.declared.updates.Update.{Update}
 use Rattle.dsr_listing.specs.Lists.{with_writes}
 use Rattle.dsr_listing.specs.Sides.{atom_symbol}
 use Rattle.dsr_meaning.specs.Counting.{IsIn}
-use Rattle.dsr_meaning.specs.Instances.{Gives, Includes}
-use Rattle.dsr_meaning.specs.Looking.{IsCounted, symbol_of}
-use Rattle.dsr_meaning.specs.Models.{Chain, begin, follow, IsDerivedBy, IsFact}
-use Rattle.dsr_meaning.specs.Truth.{element_of}
+use Rattle.dsr_meaning.specs.Looking.{symbol_of}
+use Rattle.dsr_meaning.specs.Models.{IsDerivedBy, IsFact}
 use Rattle.dsr_updating.specs.Givers.{IsGiver, givers}
 use Rattle.dsr_updating.specs.Options.{options}
-use Rattle.dsr_updating.specs.Templates.{counted_symbol, item_or_last, removal_updates, removing}
+use Rattle.dsr_updating.specs.Templates.{item_or_last, removal_updates, removing}
 use Rattle.dsr_feasible.proofs.DueForms.{IsDueForm, at_compensated, goal_same}
 use Rattle.dsr_feasible.proofs.FormItems.{giver_in}
-use Rattle.dsr_feasible.proofs.RawForms.{GoalAdds, IsRemoval, IsTakenBy, taken_var}
+use Rattle.dsr_feasible.proofs.TriedTemplates.{GoalAdds, IsRemoval, IsTakenBy}
+use Rattle.dsr_feasible.proofs.LastGiven.{derived_by}
+use Rattle.dsr_feasible.proofs.ToGoFacts.{to_go_symbol}
+use Rattle.dsr_stepped.proofs.GivenSymbols.{giver_of as gives_symbol}
+use Rattle.dsr_feasible.proofs.TriedUpdates.{taken_var}
 use Rattle.dsr_feasible.proofs.TakenGoals.{adding_adds, taking_adds_none, taking_takes}
 use Rattle.dsr_meaning.proofs.Items.{filter_in, none_of, place_of}
 
@@ -58,47 +49,10 @@ module _ (is_fact : Fact → Type 0) (spec : Spec) (b : Binding) (its : Literal)
 -- ---- the rule of an instance
 
 -- an instance that gives a fact is one of a rule of the fact's symbol
-itself : (n : ℕ) → nat_eq n n ≡ true
-itself n = grind (arith, nat_tests)
-
-gives_symbol : (spec : Spec) (layout : Layout) (bytes : List ℕ) (i : Instance) (inc : Inc) (fact : Fact) → Includes spec layout bytes i inc fact → gives (symbol_of fact) inc ≡ true
-gives_symbol spec layout bytes i (incs.Own set) fact is = subst (λ f. gives (symbol_of f) (incs.Own set) ≡ true) (sym is) (itself set)
-gives_symbol spec layout bytes i (incs.Target set path) fact is = subst (λ f. gives (symbol_of f) (incs.Target set path) ≡ true) (sym is.2) (itself set)
-gives_symbol spec layout bytes i (incs.Slot set pool) fact is = subst (λ f. gives (symbol_of f) (incs.Slot set pool) ≡ true) (sym is) (itself set)
-gives_symbol spec layout bytes i (incs.OwnPair rel path) fact is = subst (λ f. gives (symbol_of f) (incs.OwnPair rel path) ≡ true) (sym is.2) (itself rel)
-gives_symbol spec layout bytes i (incs.SlotPair rel pool path) fact is = subst (λ f. gives (symbol_of f) (incs.SlotPair rel pool path) ≡ true) (sym is.2) (itself rel)
-
 pub giver_of : (spec : Spec) (layout : Layout) (bytes : List ℕ) (i : Instance) (fact : Fact) → IsDerivedBy spec layout bytes i fact → (rule : Rule) × IsGiver spec (symbol_of fact) i.rule rule
-giver_of spec layout bytes i fact derived = by_chain derived.1 where
-  by_gives : (rule : Rule) → Gives spec layout bytes i rule fact → (r : Rule) × IsGiver spec (symbol_of fact) i.rule r
-  by_gives rule g = (rule, record { rule_is = g.is_instance.rule_is; gives = gives_symbol spec layout bytes i rule.inc fact g.included })
-
-  by_chain : {is : List Instance} → Chain spec layout bytes (i ∷ is) fact → (r : Rule) × IsGiver spec (symbol_of fact) i.rule r
-  by_chain (begin j rule none g) = by_gives rule g
-  by_chain (follow j rule set chain some g) = by_gives rule g
-
--- ---- the symbol of a fact that is to go
-
-counted_of_symbol : (b : Binding) (measure : Measure) (fact : Fact) → IsCounted b measure fact → symbol_of fact ≡ counted_symbol measure
-counted_of_symbol b (Whole set) (facts.Member s e) counted = ap symbols.Set counted
-counted_of_symbol b (Whole set) (facts.Pair r x t) counted = absurd counted
-counted_of_symbol b (Out v rel) (facts.Member s e) counted = absurd counted
-counted_of_symbol b (Out v rel) (facts.Pair r x t) counted = ap symbols.Rel counted.0
-counted_of_symbol b (Into rel v) (facts.Member s e) counted = absurd counted
-counted_of_symbol b (Into rel v) (facts.Pair r x t) counted = ap symbols.Rel counted.0
-
-pub to_go_symbol : (is_fact : Fact → Type 0) (b : Binding) (atom : Atom) (fact : Fact) → IsToGo is_fact b atom fact → symbol_of fact ≡ atom_symbol atom
-to_go_symbol is_fact b (atoms.Member v set) fact to_go = of_var (element_of b v) to_go where
-  of_var : (o : Option Element) → IsSomeAnd o (λ x. fact ≡ facts.Member set x) → symbol_of fact ≡ symbols.Set set
-  of_var None h = absurd h
-  of_var (Some x) h = ap symbol_of h
-to_go_symbol is_fact b (atoms.Pair v w rel) fact to_go = of_var (element_of b v) (element_of b w) to_go where
-  of_var : (o p : Option Element) → IsSomeAnd o (λ x. IsSomeAnd p (λ y. fact ≡ facts.Pair rel x (Elem y))) → symbol_of fact ≡ symbols.Rel rel
-  of_var None p h = absurd h
-  of_var (Some x) None h = absurd h
-  of_var (Some x) (Some y) h = ap symbol_of h
-to_go_symbol is_fact b (atoms.Count measure op k) fact to_go = counted_of_symbol b measure fact to_go.of_kind.0
-to_go_symbol is_fact b (atoms.Value v rel op bound) fact to_go = absurd to_go
+giver_of spec layout bytes i fact derived =
+    let given = derived_by spec layout bytes i fact derived in
+    (given.rule, record { rule_is = given.gives.is_instance.rule_is; gives = gives_symbol spec layout bytes i given.rule.inc fact given.gives.included })
 
 -- ---- the update of a rule
 
@@ -139,7 +93,7 @@ module _ (spec : Spec) (layout : Layout) (bytes : List ℕ) (b : Binding) (its :
   taking_there fact i not_adds to_go derived =
       let goal = same_goal (IsFact spec layout bytes) spec b its template due in
       let giver = giver_of spec layout bytes i fact derived in
-      let of_atom : IsGiver spec (atom_symbol its.atom) i.rule giver.0 = subst (λ s. IsGiver spec s i.rule giver.0) (to_go_symbol (IsFact spec layout bytes) b its.atom fact to_go) giver.1 in
+      let of_atom : IsGiver spec (atom_symbol its.atom) i.rule giver.0 = subst (λ s. IsGiver spec s i.rule giver.0) (to_go_symbol b (IsFact spec layout bytes) its.atom fact to_go) giver.1 in
       elim due.form [
         | inl one ↦ absurd (not_adds (adding_adds (IsFact spec layout bytes) b its.atom template.goal (subst GoalAdds goal one.goal)))
         | inr (inl removes) ↦

@@ -14,7 +14,7 @@ ghost use Rattle.dsr_meaning.specs.Models.{IsDerived, IsDerivedBy, IsFact};
 ghost use Rattle.dsr_planning.specs.Plans.{IsPlan};
 ghost use Rattle.dsr_planning.specs.declared.choices.Choice.{Choice};
 ghost use Rattle.dsr_repairing.specs.Due.{IsDue};
-ghost use Rattle.dsr_repairing.specs.Images.{IsImageOf};
+ghost use Rattle.dsr_stepping.specs.Images.{IsImageOf};
 
 /// Where the template of the literal that is to become true next adds nothing, there is a fact that is to go, and
 /// a chain of instances gives it.

@@ -5,7 +5,7 @@ ghost use Rattle.dsr_ir.specs.declared.layouts.Layout.{Layout};
 ghost use Rattle.dsr_ir.specs.declared.updates.Update.{Update};
 ghost use Rattle.dsr_planning.specs.Plans.{IsPlan};
 ghost use Rattle.dsr_planning.specs.declared.choices.Choice.{Choice};
-ghost use Rattle.dsr_repairing.specs.Images.{IsFree, IsImageOf, IsOfHead};
+ghost use Rattle.dsr_stepping.specs.Images.{IsFree, IsImageOf, IsOfHead};
 ghost use Rattle.dsr_repairing.specs.Turns.{IsDueStep};
 ghost use Rattle.dsr_stepping.specs.Steps.{CanStep};
 ghost use Rattle.dsr_stepping.specs.declared.steps.Step.{Step};

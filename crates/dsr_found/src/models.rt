@@ -56,6 +56,6 @@ pub fn model_of(alloc: Global, spec: &Spec, image: Vec<u8>) -> Option<Found>
     ensures model { IfSome result (λ found. IsModelOf spec.now found.layout found.image found.model) }
 {
     let mut found = prepared(alloc, spec, image)?;
-    rebuild(&mut found.model, spec, &found.layout, &found.image).ok()?;
+    rebuild(&mut found.model, spec, &found.layout, &found.image);
     Some(found)
 }

@@ -1,2 +1,3 @@
 pub mod ImagesChecked
 pub mod TextsPrinted
+pub mod UsageTold

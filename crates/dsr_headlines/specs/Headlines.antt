@@ -9,6 +9,8 @@ use Rattle.dsr_meaning.specs.Consistency.{AreViolations, BoundConstraint, IsCons
 use Rattle.dsr_meaning.specs.Models.{IsFact}
 use Rattle.dsr_meaning.specs.Refusals.{IsLayoutOf}
 use Rattle.dsr_script.specs.Outside.{Outside}
+use Rattle.dsr_script.specs.Runs.{Halts}
+use Rattle.dsr_script.specs.Scripts.{Tell}
 use Rattle.dsr_script.specs.declared.status.Status.{Status}
 use Rattle.dsr_script.specs.declared.status.Status.TheVariants.{Said}
 use Rattle.dsr_script.specs.declared.status.Verdict.{Verdict}
@@ -18,7 +20,8 @@ use Rattle.dsr_store.specs.Written.{appended}
 use Rattle.dsr_text.specs.Canonical.{canonical}
 use Rattle.dsr_tree.specs.Trees.{TreeShape}
 use Rattle.dsr_typing.specs.Specifications.{IsSpecificationOf}
-use Rattle.dsr_asking.specs.Commands.{image_limit, spec_limit}
+use Rattle.dsr_asking.specs.Commands.{image_limit, spec_limit, usage}
+use Rattle.dsr_asking.specs.Usage.{AskForNothing}
 use Rattle.dsr_asking.specs.Words.{Check, Text, command_of}
 
 -- the words ask to check an image under a specification: their files are within their limits, the text means the
@@ -84,3 +87,8 @@ PrintsTexts words before after status =
     → command_of words ≡ Some (Text spec_name) → status ≡ Said verdicts.Ok
     → (tree : TreeShape) × IsPrinted files words tree
     × (after.output.written ≡ appended before.output.written (canonical tree))
+
+-- words that ask for nothing are told so, with no call of the shelf; and of no other words is that told
+pub record TellsUsage (words : List (List ℕ)) (before after : Outside) (status : Status) : Type 0 where
+  pub told : AskForNothing words → Halts before after status (Tell usage)
+  pub nothing_else : status ≡ Said verdicts.Usage → AskForNothing words

@@ -1,14 +1,15 @@
-//! What a run says of images and texts, by the files that a shelf tells.
+//! What a run says of words that ask for nothing, and of images and texts, by the files that a shelf tells.
 //! Each law is the contract of a function that does nothing when it runs.
 #![tactic(auto)]
 
 ghost use Rattle.std.specs.Prelude.{ℕ, List};
 ghost use Rattle.dsr_asking.specs.Commands.{asked};
-ghost use Rattle.dsr_headlines.specs.Headlines.{ChecksImages, ChecksNothingElse, PrintsTexts};
+ghost use Rattle.dsr_headlines.specs.Headlines.{ChecksImages, ChecksNothingElse, PrintsTexts, TellsUsage};
 ghost use Rattle.dsr_script.specs.Outside.{Outside};
 ghost use Rattle.dsr_script.specs.Runs.{Runs};
 ghost use Rattle.dsr_script.specs.declared.status.Status.{Status};
 
+use dsr_asking::usage_has_six_reasons;
 use dsr_one_meaning::texts_have_one_meaning;
 
 /// A `check` that speaks gives the verdict on the image; none is called consistent or inconsistent
@@ -27,3 +28,11 @@ pub fn texts_are_printed()
     ensures { (words : List (List ℕ)) (before after : Outside) (status : Status)
         → Runs (asked words) before after status → PrintsTexts words before after status }
 {}
+
+/// Words are said to ask for nothing exactly where one of six reasons holds.
+pub fn usage_is_told()
+    ensures { (words : List (List ℕ)) (before after : Outside) (status : Status)
+        → Runs (asked words) before after status → TellsUsage words before after status }
+{
+    usage_has_six_reasons();
+}

@@ -45,5 +45,6 @@ pub trait ImageBytes {
         requires fits { value < 2 ^ cell.now.width }
         ensures put { Puts cell.now value (bytes self.old) (bytes self.new) }
         ensures beside { BesideStay cell.now (bytes self.old) (bytes self.new) }
+        ensures bytes { AreBytes (bytes self.new) }
         ensures kept { claimed self.new ≡ claimed self.old };
 }

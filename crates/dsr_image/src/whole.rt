@@ -73,6 +73,7 @@ fn put_cell(bytes: &mut [u8], cell: &Cell, value: u64)
     requires fits { value < 2 ^ cell.now.width }
     ensures put { Puts cell.now value bytes.old bytes.new }
     ensures beside { BesideStay cell.now bytes.old bytes.new }
+    ensures after { AreBytes bytes.new }
 {
     write_cell(bytes, cell, value);
 }

@@ -16,24 +16,26 @@ use Rattle.dsr_meaning.specs.Instances.{declared_field}
 use Rattle.dsr_meaning.specs.Layouts.{layout_with}
 use Rattle.dsr_meaning.specs.Legal.{IsLegalLayout}
 use Rattle.dsr_meaning.specs.Refusals.{refusals_by}
-use Rattle.dsr_meaning.specs.Writes.{AreCellsApart}
-use Rattle.dsr_repairing.specs.Images.{IsFree, IsImageOf, IsOfHead}
+use Rattle.dsr_meaning.specs.Writes.{AreBytes, AreCellsApart, HasSameBits}
+use Rattle.dsr_stepping.specs.Images.{FixedFieldsStay, IsFree, IsImageOf, IsOfHead}
 use Rattle.dsr_resolved.proofs.AcceptedLayouts.{legal_of}
 use Rattle.dsr_stepping.specs.Puts.{ArePut}
 use Rattle.dsr_stepping.specs.Resets.{reset_puts}
 use Rattle.dsr_stepping.specs.Steps.{CanStep, CanWrite, IsSlot, IsStepped, written_cell, written_index}
 use Rattle.dsr_stepping.specs.declared.steps.Step.{Step}
 use Rattle.dsr_update.specs.Claims.{CanReset}
-use Rattle.dsr_kept.proofs.Clear.{puts_as_long, puts_leave, writes_as_long, writes_leave}
+use Rattle.dsr_kept.proofs.Clear.{puts_as_long, puts_bytes, puts_leave, writes_as_long, writes_bytes, writes_leave}
 use Rattle.dsr_kept.proofs.FixedEntries.{IsFixedEntry, fixed_entry, fixed_field}
 use Rattle.dsr_kept.proofs.HeadApart.{LiesInSlot, entry_in_slot, slot_apart}
+use Rattle.dsr_kept.proofs.PutOnce.{bits_told}
 use Rattle.dsr_kept.proofs.ResetPuts.{reset_clear}
 use Rattle.dsr_meaning.proofs.Items.{of_all}
 
 -- the layout of an image is that of one which is as long, and has the same values of fixed fields
-same_layout : (spec : Spec) (layout : Layout) (old new : List ℕ) → IsImageOf spec layout old → length new ≡ length old → ((k : ℕ) → fixed_value spec.base new k ≡ fixed_value spec.base old k) → IsImageOf spec layout new
-same_layout spec layout old new image long same = record {
+same_layout : (spec : Spec) (layout : Layout) (old new : List ℕ) → IsImageOf spec layout old → AreBytes new → length new ≡ length old → ((k : ℕ) → fixed_value spec.base new k ≡ fixed_value spec.base old k) → IsImageOf spec layout new
+same_layout spec layout old new image bytes long same = record {
   typed = image.typed;
+  bytes = bytes;
   layout_is = record {
     numbers = (λ i. layout_with (λ k. same k i) spec.base (long i)) ∙ image.layout_is.numbers;
     accepted = (λ i. refusals_by (λ k. same k i) spec spec.base (long i)) ∙ image.layout_is.accepted;
@@ -87,6 +89,12 @@ module _ (spec : Spec) (layout : Layout) (step : Step) (update : Update) (old : 
       | Some e ↦ λ puts. puts_as_long (reset_puts spec.base layout e) old stepped.between puts
     ] stepped.reset
 
+    reset_bytes : AreBytes stepped.between
+    reset_bytes = elim step.fresh as (λ o. MatchOption o (stepped.between ≡ old) (λ e. ArePut (reset_puts spec.base layout e) old stepped.between) → AreBytes stepped.between) [
+      | None ↦ λ same. subst AreBytes (sym same) image.bytes
+      | Some e ↦ λ puts. puts_bytes (reset_puts spec.base layout e) old stepped.between image.bytes puts
+    ] stepped.reset
+
     -- the reset leaves the value of a fixed field's cell
     reset_leaves : (k : ℕ) (cell : Cell) → fixed_cell spec.base k ≡ Some cell → cell_value stepped.between cell ≡ cell_value old cell
     reset_leaves k cell fixed = elim step.fresh as (λ o. IfSome o (IsSlot layout) → MatchOption o (stepped.between ≡ old) (λ e. ArePut (reset_puts spec.base layout e) old stepped.between) → cell_value stepped.between cell ≡ cell_value old cell) [
@@ -103,6 +111,13 @@ module _ (spec : Spec) (layout : Layout) (step : Step) (update : Update) (old : 
         written_apart k cell fixed v d (of_all (CanWrite spec layout step) update.writes v can.writes is_in) (of_all (IsFree spec) update.writes v free is_in) (of_all (IsOfHead spec step.elem) update.writes v of_head is_in) is) stepped.written
         ∙ reset_leaves k cell fixed
 
+    -- and each of its bits, since both images are bytes
+    bits_left : FixedFieldsStay spec.base old new
+    bits_left k = elim (fixed_cell spec.base k) as (λ o. fixed_cell spec.base k ≡ o → IfSome o (λ cell. HasSameBits cell old new)) [
+      | None ↦ λ _. tt
+      | Some cell ↦ λ is. bits_told new old (writes_bytes update.writes stepped.between new reset_bytes stepped.written) image.bytes cell.bit cell.width cell.order cell.bytewise (own k cell is).form (left k cell is)
+    ] refl
+
     value_left : (k : ℕ) → fixed_value spec.base new k ≡ fixed_value spec.base old k
     value_left k = elim (fixed_cell spec.base k) as (λ o. fixed_cell spec.base k ≡ o → option_map (cell_value new) o ≡ option_map (cell_value old) o) [
       | None ↦ λ _. refl
@@ -112,5 +127,9 @@ module _ (spec : Spec) (layout : Layout) (step : Step) (update : Update) (old : 
 pub layout_kept : (spec : Spec) (layout : Layout) (step : Step) (update : Update) (old new : List ℕ) → IsImageOf spec layout old → CanStep spec layout step update (length old) → All (IsFree spec) update.writes → All (IsOfHead spec step.elem) update.writes → IsStepped spec layout step update old new → IsImageOf spec layout new
 layout_kept spec layout step update old new image can free of_head stepped =
     same_layout spec layout old new image
+    (writes_bytes update.writes stepped.between new (reset_bytes spec layout step update old image new can free of_head stepped) stepped.written)
     (writes_as_long update.writes stepped.between new stepped.written ∙ reset_as_long spec layout step update old image new can free of_head stepped)
     (value_left spec layout step update old image new can free of_head stepped)
+
+pub fixed_fields_kept : (spec : Spec) (layout : Layout) (step : Step) (update : Update) (old new : List ℕ) → IsImageOf spec layout old → CanStep spec layout step update (length old) → All (IsFree spec) update.writes → All (IsOfHead spec step.elem) update.writes → IsStepped spec layout step update old new → FixedFieldsStay spec.base old new
+fixed_fields_kept spec layout step update old new image can free of_head stepped = bits_left spec layout step update old image new can free of_head stepped

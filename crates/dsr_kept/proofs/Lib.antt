@@ -1,6 +1,10 @@
+pub mod EachPut
 pub mod KnownLengths
 pub mod FixedEntries
 pub mod HeadApart
 pub mod Clear
 pub mod ResetPuts
 pub mod Kept
+pub mod PutOnce
+pub mod EntryOnce
+pub mod Told

@@ -1,5 +1,5 @@
 -- The templates that are listed for a literal.
-use Rattle.std.specs.Prelude.{◌≡◌, ℕ, zero, suc, List, [], ◌∷◌, ◌++◌, map, Some, MatchOption, None, Option}
+use Rattle.std.specs.Prelude.{◌≡◌, ◌<◌, ℕ, zero, suc, List, [], ◌∷◌, ◌++◌, map, Some, MatchOption, None, Option, slice_get}
 use Rattle.std.specs.List.{flat_map}
 use Rattle.dsr_ir.specs.declared.constraints.Atom.{Atom}
 use Rattle.dsr_ir.specs.declared.constraints.Literal.{Literal}
@@ -63,6 +63,19 @@ pub data AreTaken (owner : Owner) (atom : Atom) : ℕ → List Template → List
       {n : ℕ} {before all rest : List Template} → (template : Template) → (IsIn template before → ⊥)
       → IsKept owner atom template → AreTaken owner atom n (before ++ template ∷ []) all rest
       → AreTaken owner atom (suc n) before (template ∷ all) (template ∷ rest)
+
+-- the list has the template at this place, and at none before
+pub record StandsFirstAt (all : List Template) (template : Template) (n : ℕ) : Type 0 where
+  pub there : slice_get all n ≡ Some template
+  pub none_before : (m : ℕ) → m < n → slice_get all m ≡ Some template → ⊥
+
+-- the first place of the one is before that of the other
+pub record StandsBefore (all : List Template) (template other : Template) : Type 0 where
+  pub place : ℕ
+  pub other_place : ℕ
+  pub first : StandsFirstAt all template place
+  pub other_first : StandsFirstAt all other other_place
+  pub before : place < other_place
 
 -- The templates that are listed for the literal with these numbers: of those that are tried for it, without and with
 -- compensations, the first 64 that are kept, of equal ones the first.

@@ -1,3 +1,4 @@
 pub mod Changed
 pub mod PutBytes
 pub mod Sets
+pub mod ToldChanges

@@ -1,23 +1,16 @@
 -- One byte that is put, and the bytes that are claimed.
-use Rattle.std.proofs.Common.{◌≡◌, ◌≢◌, ◌<◌, ◌≤◌, ◌+◌, ◌*◌, ◌/◌, ◌⊎◌, ℕ, suc, Bool, true, List, length, drop, slice_index, get_or, Some, inl, inr, refl, sym, ap, subst, ◌∙◌, arith}
+use Rattle.std.proofs.Common.{◌≡◌, ◌≢◌, ◌<◌, ◌≤◌, ◌+◌, ◌*◌, ◌⊎◌, ℕ, suc, Bool, true, List, length, drop, slice_index, get_or, Some, inl, inr, refl, sym, ap, subst, ◌∙◌, arith}
 use Rattle.std.proofs.Math.ListN.{drop_of_length-le}
 use Rattle.std.proofs.Math.Seq.{drop-cons}
 use Rattle.std.proofs.lemmas.Bool.{cases_lt}
 use Rattle.std.proofs.lemmas.Option.{slice_get-get_or}
 use Rattle.dsr_image.specs.Images.{AreClaimed, StayClaimed}
 use Rattle.dsr_made.proofs.Changed.{IsPutAt, none_left, rest_left}
-use Rattle.dsr_meaning.specs.Cells.{cell_value}
 use Rattle.dsr_meaning.specs.Writes.{BesideStay, Puts}
 use Rattle.dsr_repairing.specs.Entries.{changes}
 use Rattle.dsr_repairing.specs.declared.entries.ByteChange.{ByteChange}
 use Rattle.dsr_stepping.specs.Resets.{byte_cell}
-
--- the value of a byte as a cell
-byte_value : (bytes : List ℕ) (at : ℕ) → cell_value bytes (byte_cell at) ≡ slice_index bytes at
-byte_value bytes at =
-    let place : 8 * at / 8 ≡ at = omega arith in
-    let value : cell_value bytes (byte_cell at) ≡ slice_index bytes (8 * at / 8) = omega arith in
-    value ∙ ap (slice_index bytes) place
+use Rattle.dsr_update.proofs.ByteCells.{byte_value}
 
 apart : (i p : ℕ) → i ≢ p → (8 * i + 8 ≤ 8 * p) ⊎ (8 * p + 8 ≤ 8 * i)
 apart i p other = elim (cases_lt i p) [

@@ -1,5 +1,5 @@
 // The bytes in which two images differ.
-ghost use Rattle.std.specs.Prelude.{◌≡◌, ◌≤◌, ℕ, List, IfOk, OnOk, length};
+ghost use Rattle.std.specs.Prelude.{◌≡◌, ◌≤◌, ℕ, List, IfOk, OnErr, OnOk, length};
 ghost use Rattle.dsr_image.specs.Images.{StayClaimed};
 ghost use Rattle.dsr_made.specs.Changes.{AreRoomFor, AreWithin};
 ghost use Rattle.dsr_repairing.specs.Entries as said;
@@ -52,11 +52,12 @@ fn byte_cell(place: u64) -> Cell
     }
 }
 
-/// Claims the bytes of all changes.
+/// Claims the bytes of all changes; answers `NoMemory` only where not all of them were claimed before.
 pub fn claim_changes<I: ImageBytes>(changes: &[ByteChange], image: &mut I) -> Result<(), NoMemory>
     requires within { AreWithin changes.now (I.ImageBytes.bytes image.old) }
     ensures bytes { I.ImageBytes.bytes image.new ≡ I.ImageBytes.bytes image.old }
     ensures claimed { OnOk result (AreRoomFor changes.now (I.ImageBytes.claimed image.new)) }
+    ensures needed { OnErr result (AreRoomFor changes.now (I.ImageBytes.claimed image.old) → ⊥) }
     ensures kept { StayClaimed (I.ImageBytes.claimed image.old) (I.ImageBytes.claimed image.new) }
 {
     for change in changes {

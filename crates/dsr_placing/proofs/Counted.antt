@@ -4,33 +4,13 @@ use Rattle.std.proofs.lemmas.Bool.{false≢true}
 use Rattle.dsr_graph.proofs.Found.{ways_listed, ways_only}
 use Rattle.dsr_graph.specs.Graphs.{IsOwnerIn, ways_of}
 use Rattle.dsr_graph.specs.declared.graphs.Graph.{Graph}
-use Rattle.dsr_ir.specs.declared.constraints.Atom.{Atom}
 use Rattle.dsr_ir.specs.declared.constraints.Literal.{Literal}
-use Rattle.dsr_ir.specs.declared.updates.Template.{Template}
-use Rattle.dsr_listing.specs.Lists.{AreListed, AreListedOf, AreTaken}
+use Rattle.dsr_listing.proofs.FirstKept.{few_listed}
 use Rattle.dsr_listing.specs.Owners.{Owner}
 use Rattle.dsr_placing.specs.Placing.{HasUsable, IsFirstUsable, IsUsableWay, IsWayAt}
 use Rattle.dsr_placing.specs.declared.sparing.Position.{Position}
 use Rattle.dsr_planning.specs.Stuck.{CanRepair, MustTest}
 use Rattle.dsr_updating.specs.Templates.{literal_at}
-
-few_taken : {owner : Owner} {atom : Atom} {n : ℕ} {before all ts : List Template} → AreTaken owner atom n before all ts → length ts ≤ n
-few_taken AreTaken.no_more = omega arith
-few_taken AreTaken.enough = omega arith
-few_taken (AreTaken.again t is_in a) = few_taken a
-few_taken (AreTaken.left_out t not_kept a) = few_taken a
-few_taken (AreTaken.taken t new kept a) = let rest = few_taken a in omega (arith, rest)
-
-few_listed : (owner : Owner) (conj place : ℕ) (ts : List Template) → AreListedOf owner conj place ts → length ts ≤ 64
-few_listed owner conj place ts listed = by (literal_at owner.constraint conj place) refl where
-  by : (o : Option Literal) → literal_at owner.constraint conj place ≡ o → length ts ≤ 64
-  by None none =
-      let empty : ts ≡ [] = subst (λ o. MatchOption o (ts ≡ []) (λ l. AreListed owner conj place l.atom ts)) none listed in
-      let many = ap length empty in
-      omega (arith, many)
-  by (Some l) is =
-      let its : AreListed owner conj place l.atom ts = subst (λ o. MatchOption o (ts ≡ []) (λ x. AreListed owner conj place x.atom ts)) is listed in
-      few_taken its.are_taken
 
 pub few_ways : (graph : Graph) (number : ℕ) (owner : Owner) → IsOwnerIn graph number owner → (conj place : ℕ) → length (ways_of graph number conj place) ≤ 64
 few_ways graph number owner in_graph conj place = few_listed owner conj place (ways_of graph number conj place) (ways_listed graph number owner in_graph conj place)

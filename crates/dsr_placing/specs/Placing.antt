@@ -1,9 +1,9 @@
 -- What can be repaired where some constraints are left, by the graph.
-use Rattle.std.specs.Prelude.{◌≡◌, ◌<◌, ◌↔◌, ℕ, Bool, false, IsTrue, List, None, Some, slice_get, slice_index_or}
+use Rattle.std.specs.Prelude.{◌≡◌, ◌<◌, ◌↔◌, ℕ, Bool, false, IsTrue, List, None, Some, length, slice_get, slice_index_or}
 use Rattle.dsr_breaking.specs.Breaks.{Breaks, Falsifies, Relies}
 use Rattle.dsr_breaking.specs.declared.causes.Reason.{Reason}
 use Rattle.dsr_covering.specs.Atoms.{IsTested, IsTestedIn}
-use Rattle.dsr_graph.specs.Graphs.{IsWayOf}
+use Rattle.dsr_graph.specs.Graphs.{IsGraphOf, IsWayOf, from_in}
 use Rattle.dsr_graph.specs.declared.graphs.Graph.{Graph}
 use Rattle.dsr_ir.specs.declared.constraints.Constraint.{Constraint}
 use Rattle.dsr_ir.specs.declared.constraints.Conj.{Conj}
@@ -11,6 +11,7 @@ use Rattle.dsr_ir.specs.declared.constraints.Literal.{Literal}
 use Rattle.dsr_ir.specs.declared.declarations.Spec.{Spec}
 use Rattle.dsr_ir.specs.declared.updates.Template.{Template}
 use Rattle.dsr_listing.specs.Owners.{Owner}
+use Rattle.dsr_meaning.specs.Counting.{IsIn}
 use Rattle.dsr_placing.specs.declared.sparing.Position.{Position}
 use Rattle.dsr_planning.specs.Plans.{owner_at}
 use Rattle.dsr_planning.specs.Stuck.{MustTest, SparesMembers}
@@ -19,6 +20,29 @@ use Rattle.dsr_updating.specs.Templates.{literal_at}
 -- the constraint with this number is left
 abbrev pub IsLeft : List Bool → ℕ → Type 0
 IsLeft left n = IsTrue (slice_index_or left n false)
+
+-- ---- what is asked about is there
+
+-- the graph is that of a specification of so many constraints, and this one has the number
+pub record IsConstraintIn (graph : Graph) (many number : ℕ) (constraint : Constraint) : Type 0 where
+  pub spec : Spec
+  pub graph_is : IsGraphOf spec graph
+  pub constraint_is : slice_get spec.constraints number ≡ Some constraint
+  pub as_many : length spec.constraints ≡ many
+
+-- that one has the conjunction with this number
+pub record IsConjIn (graph : Graph) (many constraint number : ℕ) (conj : Conj) : Type 0 where
+  pub its : Constraint
+  pub in_graph : IsConstraintIn graph many constraint its
+  pub conj_is : slice_get its.conjs number ≡ Some conj
+
+-- and that one the literal
+pub record IsLiteralIn (graph : Graph) (many : ℕ) (at : Position) (literal : Literal) : Type 0 where
+  pub its : Constraint
+  pub in_graph : IsConstraintIn graph many at.constraint its
+  pub literal_is : literal_at its at.conj at.literal ≡ Some literal
+
+-- ---- what can be repaired
 
 -- the constraint is a member, and the template breaks it
 pub record BreaksLeft (owner : Owner) (Member : ℕ → Type 0) (template : Template) (n : ℕ) (other : Constraint) : Type 0 where
@@ -60,6 +84,11 @@ abbrev pub AreTests : Owner → (ℕ → Type 0) → List (List Bool) → Type 0
 AreTests owner Member rows =
     (conj n : ℕ) (literal : Literal) → literal_at owner.constraint conj n ≡ Some literal
     → IsTested rows conj n ↔ MustTest owner Member conj n
+
+-- the constraint is left, and relies on the other one by the graph, in which one that it hasn't relies on none
+pub record TellsRelies (graph : Graph) (left : List Bool) (who on : ℕ) : Type 0 where
+  pub is_left : IsLeft left who
+  pub relies : IsIn on (from_in graph who)
 
 pub record ReliesLeft (spec : Spec) (Member : ℕ → Type 0) (who on : ℕ) : Type 0 where
   pub member : Member who

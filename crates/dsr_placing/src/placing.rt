@@ -2,7 +2,7 @@
 ghost use Rattle.std.specs.Prelude.{◌≡◌, ◌≤◌, ◌^◌, All, Decides, IfOk, MatchBool, length};
 ghost use Rattle.dsr_graph.specs.Graphs.{IsOwnerIn};
 ghost use Rattle.dsr_listing.specs.Owners.{Owner as OwnerOf};
-ghost use Rattle.dsr_placing.specs.Placing.{IsLeft, ReliesLeft, IsReliedOn, IsReliedOnByNone};
+ghost use Rattle.dsr_placing.specs.Placing.{IsConstraintIn, IsLeft, ReliesLeft, IsReliedOn, IsReliedOnByNone, TellsRelies};
 ghost use Rattle.dsr_planning.specs.Stuck.{IsHeld, MayBeFirst};
 
 use crate::sparing::is_left;
@@ -14,7 +14,8 @@ use std::alloc::Global;
 
 /// Whether the constraint is left, and relies on the other one.
 pub fn relies_left(graph: &Graph, who: u32, on: u32, left: &[bool]) -> bool
-    ensures { (owner : OwnerOf) → IsOwnerIn graph.now who owner
+    ensures told { Decides result (TellsRelies graph.now left.now who on) }
+    ensures relies { (owner : OwnerOf) → IsOwnerIn graph.now who owner
         → Decides result (ReliesLeft owner.spec (IsLeft left.now) who on) }
 {
     if !is_left(left, who) {
@@ -49,6 +50,7 @@ pub fn may_be_first(
     left: &[bool],
 ) -> Result<bool, NoMemory>
     requires few { length left.now ≤ 2 ^ 32 }
+    requires there { IsConstraintIn graph.now (length left.now) number constraint.now }
     requires conjs { length constraint.now.conjs ≤ 16 }
     requires literals { All (λ conj. length conj.literals ≤ 8) constraint.now.conjs }
     ensures { IfOk result (λ first. (owner : OwnerOf) → IsOwnerIn graph.now number owner

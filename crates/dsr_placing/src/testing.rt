@@ -2,7 +2,7 @@
 ghost use Rattle.std.specs.Prelude.{◌≡◌, ◌≤◌, ◌^◌, All, IfOk, MatchOption, Some, length, slice_get};
 ghost use Rattle.dsr_graph.specs.Graphs.{IsOwnerIn};
 ghost use Rattle.dsr_listing.specs.Owners.{Owner as OwnerOf};
-ghost use Rattle.dsr_placing.specs.Placing.{AreTests, AreTestsIn, IsLeft, IsWayAt};
+ghost use Rattle.dsr_placing.specs.Placing.{AreTests, AreTestsIn, IsConjIn, IsConstraintIn, IsLeft, IsLiteralIn, IsWayAt};
 ghost use Rattle.dsr_planning.specs.Stuck.{MustTest};
 ghost use Rattle.dsr_updating.specs.Templates.{literal_at};
 
@@ -15,6 +15,7 @@ use std::alloc::Global;
 /// 0; none where it has to be tested.
 pub fn way(graph: &Graph, at: Position, literal: &Literal, left: &[bool]) -> Option<u32>
     requires few { length left.now ≤ 2 ^ 32 }
+    requires there { IsLiteralIn graph.now (length left.now) at literal.now }
     ensures { (owner : OwnerOf) → IsOwnerIn graph.now at.constraint owner
         → length left.now ≡ length owner.spec.constraints
         → literal_at owner.constraint at.conj at.literal ≡ Some literal.now
@@ -37,6 +38,7 @@ fn conj_tests(
     left: &[bool],
 ) -> Result<Vec<bool>, NoMemory>
     requires few { length left.now ≤ 2 ^ 32 }
+    requires there { IsConjIn graph.now (length left.now) constraint number conj.now }
     requires literals { length conj.now.literals ≤ 8 }
     ensures { IfOk result (λ marks. (owner : OwnerOf) → IsOwnerIn graph.now constraint owner
         → length left.now ≡ length owner.spec.constraints
@@ -64,6 +66,7 @@ pub fn tests(
     left: &[bool],
 ) -> Result<Vec<Seq<bool>>, NoMemory>
     requires few { length left.now ≤ 2 ^ 32 }
+    requires there { IsConstraintIn graph.now (length left.now) number constraint.now }
     requires conjs { length constraint.now.conjs ≤ 16 }
     requires literals { All (λ conj. length conj.literals ≤ 8) constraint.now.conjs }
     ensures { IfOk result (λ rows. (owner : OwnerOf) → IsOwnerIn graph.now number owner

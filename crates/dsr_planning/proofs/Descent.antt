@@ -12,7 +12,7 @@ use Rattle.dsr_planning.specs.declared.choices.Row.{Row}
 use Rattle.dsr_planning.specs.declared.choices.Way.{Way}
 use Rattle.dsr_planning.specs.declared.choices.Way.TheVariants.{Test, By}
 
-item_there : {T : Type 0} (xs : List T) (n : ℕ) → n < length xs → (x : T) × (slice_get xs n ≡ Some x)
+pub item_there : {T : Type 0} (xs : List T) (n : ℕ) → n < length xs → (x : T) × (slice_get xs n ≡ Some x)
 item_there [] n less = absurd (omega (arith, less))
 item_there (x ∷ xs) zero less = (x, refl)
 item_there (x ∷ xs) (suc n) less = item_there xs n (omega (arith, less))

@@ -17,7 +17,7 @@ covers_fewer constraint T S fewer covers truth =
     }
 
 module _ (M N : ℕ → Type 0) (more : (n : ℕ) → M n → N n) where
-  repair_fewer : (owner : Owner) (conj literal : ℕ) → CanRepair owner N conj literal → CanRepair owner M conj literal
+  pub repair_fewer : (owner : Owner) (conj literal : ℕ) → CanRepair owner N conj literal → CanRepair owner M conj literal
   repair_fewer owner conj literal can = record {
     its = can.its;
     literal_is = can.literal_is;

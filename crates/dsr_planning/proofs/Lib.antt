@@ -1,2 +1,4 @@
 pub mod Descent
+pub mod Fitting
 pub mod Grown
+pub mod OnePlan

@@ -68,8 +68,9 @@ IsWayFor owner conj literal its (By number template) = MayRepair owner conj lite
 abbrev pub way_at : Row → ℕ → ℕ → Option Way
 way_at row conj literal = option_and_then (λ ways. slice_get ways literal) (slice_get row.ways conj)
 
--- each literal has a way, and nothing else has one
+-- there is a list for each conjunction, in which each literal has a way, and nothing else has one
 pub record AreWaysFor (owner : Owner) (row : Row) : Type 0 where
+  pub as_many : length row.ways ≡ length owner.constraint.conjs
   pub ways :
       (conj literal : ℕ) (its : Literal) → literal_at owner.constraint conj literal ≡ Some its
       → (way : Way) × (way_at row conj literal ≡ Some way) × IsWayFor owner conj literal its way

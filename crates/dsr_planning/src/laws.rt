@@ -1,13 +1,20 @@
-// What keeps a specification from having a plan, each law the contract of a function that does nothing.
-ghost use Rattle.std.specs.Prelude.{ℕ, List};
+// Which plans a specification has, each law the contract of a function that does nothing.
+ghost use Rattle.std.specs.Prelude.{◌≡◌, ℕ, List};
 ghost use Rattle.dsr_ir.specs.declared.declarations.Spec.{Spec};
 ghost use Rattle.dsr_meaning.specs.Counting.{IsIn};
 ghost use Rattle.dsr_planning.specs.Plans.{IsPlan};
 ghost use Rattle.dsr_planning.specs.Stuck.{IsStuck};
+ghost use Rattle.dsr_planning.specs.Taken.{IsTaken};
 ghost use Rattle.dsr_planning.specs.declared.choices.Choice.{Choice};
 
 /// Where a set of constraints is stuck, and has a member, no choice is a plan.
 pub fn stuck_sets_leave_no_plan()
     ensures { (spec : Spec) (members : List ℕ) (choice : Choice) (n : ℕ) → IsStuck spec (λ m. IsIn m members)
         → IsIn n members → IsPlan spec choice → ⊥ }
+{}
+
+/// A specification has one plan that is taken, if any.
+pub fn taken_plans_are_one()
+    ensures { (spec : Spec) (choice other : Choice) → IsTaken spec choice → IsTaken spec other
+        → choice ≡ other }
 {}

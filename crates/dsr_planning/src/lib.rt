@@ -11,6 +11,6 @@ mod plans;
 mod refusals;
 
 pub use choices::{Choice, Row, Way};
-pub use laws::stuck_sets_leave_no_plan;
+pub use laws::{stuck_sets_leave_no_plan, taken_plans_are_one};
 pub use plans::Plan;
 pub use refusals::{StuckEnd, StuckMember, StuckSet, StuckWay};

@@ -4,7 +4,7 @@ ghost use Rattle.std.specs.Prelude.{◌≡◌, ◌≤◌, ◌^◌, ℕ, All, Dec
 ghost use Rattle.dsr_graph.specs.Graphs.{IsGraphOf, IsOwnerIn};
 ghost use Rattle.dsr_listing.specs.Owners.{Owner as OwnerOf};
 ghost use Rattle.dsr_meaning.specs.Typed.{IsTyped};
-ghost use Rattle.dsr_placing.specs.Placing.{IsLeft};
+ghost use Rattle.dsr_placing.specs.Placing.{IsConstraintIn, IsLeft};
 ghost use Rattle.dsr_planning.specs.Refusals.{FindsFirst, IsEnd, IsHopeless};
 ghost use Rattle.dsr_refusal.specs.Members.{AreMembers};
 ghost use Rattle.dsr_removal.specs.Outcomes.{AreLargest};
@@ -26,6 +26,7 @@ fn is_hopeless(
     nobody: &[bool],
 ) -> Result<bool, NoMemory>
     requires few { length nobody.now ≤ 2 ^ 32 }
+    requires there { IsConstraintIn graph.now (length nobody.now) number constraint.now }
     requires conjs { length constraint.now.conjs ≤ 16 }
     requires literals { All (λ conj. length conj.literals ≤ 8) constraint.now.conjs }
     requires nobody { (n : ℕ) → IsLeft nobody.now n → ⊥ }

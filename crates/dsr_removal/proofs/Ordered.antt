@@ -66,6 +66,7 @@ module _ (owner : Owner) (Member : ℕ → Type 0) (row : Row) (taken : AreTaken
 
   ways_for : AreWaysFor owner row
   ways_for = record {
+    as_many = taken.as_many;
     ways = λ conj literal its is. let way = way_for conj literal its is in (way.0, way.1, is_way conj literal its way.0 way.2);
     no_more = λ conj literal none. no_way conj literal (way_at row conj literal) refl none;
   }

@@ -7,9 +7,10 @@ use Rattle.dsr_ir.specs.declared.declarations.Spec.{Spec}
 use Rattle.dsr_listing.specs.Owners.{Owner}
 use Rattle.dsr_planning.specs.Plans.{owner_at}
 use Rattle.dsr_planning.specs.Taken.{IsTakenWay}
+use Rattle.dsr_planning.specs.declared.choices.Choice.{Choice}
 use Rattle.dsr_planning.specs.declared.choices.Row.{Row}
 use Rattle.dsr_planning.specs.declared.choices.Way.{Way}
-use Rattle.dsr_removal.specs.Rounds.{IsLeftAt, IsPlacedIn}
+use Rattle.dsr_removal.specs.Rounds.{AreSettled, IsLeftAt, IsPlacedIn}
 
 -- for each literal of the conjunction with this number its way
 abbrev pub AreTakenIn : Owner → (ℕ → Type 0) → ℕ → Conj → List Way → Type 0
@@ -31,3 +32,10 @@ pub record IsRowAt (spec : Spec) (rounds : List (Option ℕ)) (count n : ℕ) (c
 abbrev pub AreRowsOf : Spec → List (Option ℕ) → ℕ → List Row → Type 0
 AreRowsOf spec rounds count rows =
     ArePaired (λ n constraint row. IsRowAt spec rounds count n constraint row) spec.constraints rows
+
+-- rounds place all constraints, and each has the row that its round gives it
+pub record IsOfRounds (spec : Spec) (choice : Choice) : Type 0 where
+  pub rounds : List (Option ℕ)
+  pub count : ℕ
+  pub settled : AreSettled spec rounds count
+  pub rows : AreRowsOf spec rounds count choice.rows

@@ -3,7 +3,7 @@ ghost use Rattle.std.specs.Prelude.{◌≡◌, ◌≤◌, ◌^◌, All, IfOk, le
 ghost use Rattle.dsr_graph.specs.Graphs.{IsGraphOf, IsOwnerIn};
 ghost use Rattle.dsr_listing.specs.Owners.{Owner as OwnerOf};
 ghost use Rattle.dsr_meaning.specs.Typed.{IsTyped};
-ghost use Rattle.dsr_placing.specs.Placing.{IsLeft};
+ghost use Rattle.dsr_placing.specs.Placing.{IsConstraintIn, IsLeft};
 ghost use Rattle.dsr_removal.specs.Rounds as said;
 ghost use Rattle.dsr_removal.specs.Rounds.{AreNext, AreSettled, IsNext, is_late};
 
@@ -81,6 +81,7 @@ impl Turn<'_> {
         before: Option<u32>,
     ) -> Result<Option<u32>, NoMemory>
         requires few { length self.now.left.now ≤ 2 ^ 32 }
+        requires there { IsConstraintIn self.now.graph.now (length self.now.left.now) number constraint.now }
         requires conjs { length constraint.now.conjs ≤ 16 }
         requires literals { All (λ conj. length conj.literals ≤ 8) constraint.now.conjs }
         ensures { IfOk result (λ after. (owner : OwnerOf) → IsOwnerIn self.now.graph.now number owner

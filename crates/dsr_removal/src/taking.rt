@@ -3,7 +3,7 @@ ghost use Rattle.std.specs.Prelude.{◌≡◌, ◌≤◌, ◌<◌, ◌+◌, ◌^
 ghost use Rattle.dsr_graph.specs.Graphs.{IsGraphOf, IsOwnerIn};
 ghost use Rattle.dsr_listing.specs.Owners.{Owner as OwnerOf};
 ghost use Rattle.dsr_meaning.specs.Typed.{IsTyped};
-ghost use Rattle.dsr_placing.specs.Placing.{IsLeft};
+ghost use Rattle.dsr_placing.specs.Placing.{IsConjIn, IsConstraintIn, IsLeft, IsLiteralIn};
 ghost use Rattle.dsr_planning.specs.Taken.{IsTakenWay};
 ghost use Rattle.dsr_removal.specs.Outcomes.{IsOutcomeFor};
 ghost use Rattle.dsr_removal.specs.Rounds.{AreSettled, IsPlacedIn};
@@ -26,6 +26,7 @@ fn literal_way(
     left: &[bool],
 ) -> Result<Way, NoMemory>
     requires few { length left.now ≤ 2 ^ 32 }
+    requires there { IsLiteralIn graph.now (length left.now) at literal.now }
     ensures { IfOk result (λ its. (owner : OwnerOf) → IsOwnerIn graph.now at.constraint owner
         → length left.now ≡ length owner.spec.constraints
         → literal_at owner.constraint at.conj at.literal ≡ Some literal.now
@@ -52,6 +53,7 @@ fn conj_ways(
     left: &[bool],
 ) -> Result<Vec<Way>, NoMemory>
     requires few { length left.now ≤ 2 ^ 32 }
+    requires there { IsConjIn graph.now (length left.now) constraint number conj.now }
     requires literals { length conj.now.literals ≤ 8 }
     ensures { IfOk result (λ ways. (owner : OwnerOf) → IsOwnerIn graph.now constraint owner
         → length left.now ≡ length owner.spec.constraints
@@ -78,6 +80,7 @@ fn all_ways(
     left: &[bool],
 ) -> Result<Vec<Seq<Way>>, NoMemory>
     requires few { length left.now ≤ 2 ^ 32 }
+    requires there { IsConstraintIn graph.now (length left.now) number constraint.now }
     requires conjs { length constraint.now.conjs ≤ 16 }
     requires literals { All (λ conj. length conj.literals ≤ 8) constraint.now.conjs }
     ensures { IfOk result (λ rows. (owner : OwnerOf) → IsOwnerIn graph.now number owner
@@ -102,6 +105,7 @@ fn row(
     round: u32,
 ) -> Result<Row, NoMemory>
     requires few { length placed.now.rounds.items ≤ 2 ^ 32 }
+    requires there { IsConstraintIn graph.now (length placed.now.rounds.items) number constraint.now }
     requires conjs { length constraint.now.conjs ≤ 16 }
     requires literals { All (λ conj. length conj.literals ≤ 8) constraint.now.conjs }
     requires below { round < placed.now.count }

@@ -1,37 +1,34 @@
 -- A step that is due, made: which update the plan has for it, and what it leaves.
-use Rattle.std.proofs.Common.{◌≡◌, ◌∙◌, ℕ, List, length, Option, None, Some, slice_get, get_or, refl, arith, sym, ap, subst}
+use Rattle.std.proofs.Common.{Result, Ok, Err, ◌≡◌, ◌∙◌, ℕ, List, length, Option, None, Some, slice_get, get_or, refl, arith, sym, ap, subst}
 use Rattle.std.proofs.lemmas.Option.{same_Some}
 use Rattle.std.specs.Option.{option_and_then}
+use Rattle.std.specs.Prelude.{OnErr}
 use Rattle.dsr_applying.specs.Choices.{IsUpdateAt}
 use Rattle.dsr_applying.specs.Choices.IsUpdateAt.{adds, takes_away}
-use Rattle.dsr_due.proofs.Gone.{got_of}
-use Rattle.dsr_feasible.proofs.MakingSteps.{can_step, writes_free, writes_of_head}
+use Rattle.dsr_feasible.proofs.MakingSteps.{can_step}
 use Rattle.dsr_fixpoint.specs.Models.{IsLaidOut}
 use Rattle.dsr_ir.specs.declared.constraints.Atom.{Atom}
 use Rattle.dsr_ir.specs.declared.declarations.Spec.{Spec}
+use Rattle.dsr_ir.specs.declared.declarations.Structures.{Structures}
 use Rattle.dsr_ir.specs.declared.layouts.Layout.{Layout}
 use Rattle.dsr_ir.specs.declared.tuples.Binding.{Binding}
 use Rattle.dsr_ir.specs.declared.tuples.Instance.{Instance}
 use Rattle.dsr_ir.specs.declared.updates.Template.{Template}
 use Rattle.dsr_ir.specs.declared.updates.Update.{Update}
-use Rattle.dsr_ir.specs.declared.updates.Write.{Write}
-use Rattle.dsr_kept.proofs.Kept.{layout_kept}
-use Rattle.dsr_made.specs.Changes.{AreWithin}
-use Rattle.dsr_made.specs.Made.{IsMade}
-use Rattle.dsr_made.proofs.Changed.{all_within}
 use Rattle.dsr_planning.specs.Plans.{IsPlan, way_at}
 use Rattle.dsr_planning.specs.declared.choices.Choice.{Choice}
 use Rattle.dsr_repair.specs.Planned.{chosen_update, update_in}
-use Rattle.dsr_repairing.specs.Entries.{AreSet, IsEntryOf, changes}
-use Rattle.dsr_repairing.specs.Entries.AreSet.{done as nothing_set, made as set, skipped as left}
-use Rattle.dsr_repairing.specs.Images.{IsImageOf}
+use Rattle.dsr_repairing.specs.Entries.{IsEntryOf, changes}
+use Rattle.dsr_stepping.specs.Images.{FixedFieldsStay, IsImageOf}
+use Rattle.dsr_run_laws.proofs.RunOnce.{fixed_same, step_keeps, step_keeps_fixed}
+use Rattle.dsr_bound_laws.proofs.Whole.{remaining_falls, rises_above}
+use Rattle.dsr_model.specs.Views.{ModelView}
+use Rattle.dsr_repair.specs.Stepping.{IsNearer, state}
+use Rattle.dsr_repairing.specs.Runs.{IsDueEntry}
 use Rattle.dsr_repairing.specs.Turns.{IsDueStep}
-use Rattle.dsr_repairing.specs.declared.entries.ByteChange.{ByteChange}
-use Rattle.dsr_repairing.specs.declared.entries.CellSet.{CellSet}
 use Rattle.dsr_repairing.specs.declared.entries.Entry.{Entry}
 use Rattle.dsr_resolved.proofs.AcceptedLayouts.{legal_of}
-use Rattle.dsr_stepping.specs.Steps.{AreWritten, CanStep}
-use Rattle.dsr_stepping.specs.Steps.AreWritten.{done, made, skipped}
+use Rattle.dsr_stepping.specs.Steps.{CanStep}
 use Rattle.dsr_stepping.specs.declared.steps.Step.{Step}
 
 -- ---- the update
@@ -73,16 +70,6 @@ due_by_it spec choice layout bytes step update its due is =
 
 -- ---- what it leaves
 
--- the writes that set values, made
-pub were_written :
-    (spec : Spec) (layout : Layout) (step : Step) {writes : List Write} {old new : List ℕ} {told : List CellSet}
-    → AreSet spec layout step writes old new told → AreWritten spec layout step writes old new
-were_written spec layout step nothing_set = done
-were_written spec layout step (left write cell number at picked wanted rest) =
-    skipped write cell number at picked wanted (were_written spec layout step rest)
-were_written spec layout step (set write cell number at picked unwanted put rest) =
-    made write cell number at picked unwanted put (were_written spec layout step rest)
-
 module _ (spec : Spec) (choice : Choice) (layout : Layout) (old : List ℕ) (step : Step) (update : Update)
     (image : IsImageOf spec layout old) (plan : IsPlan spec choice)
     (due : IsDueStep spec choice layout old step update) where
@@ -93,28 +80,25 @@ module _ (spec : Spec) (choice : Choice) (layout : Layout) (old : List ℕ) (ste
   -- what it leaves has the layout
   pub image_stays : (new : List ℕ) (entry : Entry) → IsEntryOf spec layout step update old new entry → IsImageOf spec layout new
   image_stays new entry told =
-      layout_kept spec layout step update old new image can_be_made
-      (writes_free spec choice layout old step update image plan due)
-      (writes_of_head spec choice layout old step update image plan due)
-      (record { between = told.between; reset = told.reset; written = were_written spec layout step told.sets })
+      step_keeps spec choice layout plan old new entry image (record { step = step; update = update; due = due; made = told })
 
--- the bytes that an entry tells of are those of the image
-pub told_within : (spec : Spec) (layout : Layout) (step : Step) (update : Update) (old new : List ℕ) (entry : Entry) → IsEntryOf spec layout step update old new entry → AreWithin entry.bytes old
-told_within spec layout step update old new entry told =
-    subst (λ cs. AreWithin cs old) (sym told.bytes)
-    (λ n d below.
-    let within = (all_within 0 old new (get_or (changes old new) n d) n (got_of (changes old new) (changes old new) n d refl below)).1 in
-    omega (arith, within))
+  -- and so do the fixed fields
+  pub fixed_stay : (new : List ℕ) (entry : Entry) → IsEntryOf spec layout step update old new entry → FixedFieldsStay spec.base old new
+  fixed_stay new entry told =
+      step_keeps_fixed spec choice layout plan old new entry image (record { step = step; update = update; due = due; made = told })
 
--- where the changes that are told were made, the bytes are those that the step makes
-pub bytes_made :
-    (spec : Spec) (layout : Layout) (step : Step) (update : Update) (old claimed new : List ℕ) (entry : Entry)
-    (told : List ByteChange) (is : IsMade spec layout step update old entry) → claimed ≡ old → told ≡ entry.bytes
-    → ((target : List ℕ) → length target ≡ length claimed → told ≡ changes claimed target → new ≡ target)
-    → new ≡ is.new
-bytes_made spec layout step update old claimed new entry told is same told_is made_is =
-    made_is is.new (is.as_long ∙ sym (ap length same))
-    (told_is ∙ (is.entry_is.bytes ∙ ap (λ bytes. changes bytes is.new) (sym same)))
+-- where no byte changes, no fixed field does
+pub fixed_as_before : (base : Structures) (old new : List ℕ) → new ≡ old → FixedFieldsStay base old new
+fixed_as_before base old new same = subst (FixedFieldsStay base old) (sym same) (fixed_same base old)
+
+-- what holds anyway holds after a failure
+pub on_err : {A E P : Type 0} (result : Result A E) → P → OnErr result P
+on_err (Ok value) holds = tt
+on_err (Err fault) holds = holds
+
+-- what has the same bytes, entries and model is the same
+pub same_state : (bytes bytes' : List ℕ) (entries entries' : List Entry) (model : ModelView) → bytes ≡ bytes' → entries ≡ entries' → state bytes entries model ≡ state bytes' entries' model
+same_state bytes bytes' entries entries' model one other = λ i. state (one i) (other i) model
 
 -- ---- a layout on an image
 
@@ -125,3 +109,16 @@ laid_out spec layout bytes image = record {
   legal = legal_of spec bytes layout image.layout_is image.typed image.small;
   small = image.small;
 }
+
+-- a step that is due brings the image nearer to its end
+pub nearer :
+    (spec : Spec) (choice : Choice) (layout : Layout) (old new : List ℕ) (step : Step) (update : Update) (entry : Entry)
+    → IsPlan spec choice → IsImageOf spec layout old → IsImageOf spec layout new
+    → IsDueStep spec choice layout old step update → IsEntryOf spec layout step update old new entry
+    → IsNearer spec choice layout old new step.constraint
+nearer spec choice layout old new step update entry plan image after due told =
+    let is : IsDueEntry spec choice layout old entry new = record { step = step; update = update; due = due; made = told } in
+    record {
+      falls = λ n m. remaining_falls spec choice layout old new entry plan image is n m after;
+      above = rises_above spec choice layout old new entry plan image is;
+    }

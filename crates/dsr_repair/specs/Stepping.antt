@@ -1,13 +1,18 @@
 -- What a step leaves: an image with its layout and its model, and a log.
-use Rattle.std.specs.Prelude.{◌≡◌, ℕ, List, [], ◌∷◌, ◌++◌}
+use Rattle.std.specs.Prelude.{◌≡◌, ◌<◌, ℕ, Some, slice_get, List, [], ◌∷◌, ◌++◌}
 use Rattle.dsr_ir.specs.declared.declarations.Spec.{Spec}
 use Rattle.dsr_ir.specs.declared.layouts.Layout.{Layout}
 use Rattle.dsr_fixpoint.specs.Models.{IsModelOf, IsPreparedFor}
+use Rattle.dsr_meaning.specs.Consistency.{BoundConstraint, IsViolated}
+use Rattle.dsr_meaning.specs.Models.{IsFact}
 use Rattle.dsr_model.specs.Views.{ModelView}
 use Rattle.dsr_planning.specs.declared.choices.Choice.{Choice}
-use Rattle.dsr_repairing.specs.Images.{IsImageOf}
+use Rattle.dsr_planning.specs.declared.choices.Row.{Row}
+use Rattle.dsr_bound_laws.specs.Remaining.{IsRemaining}
+use Rattle.dsr_stepping.specs.Images.{IsImageOf}
 use Rattle.dsr_repairing.specs.Runs.{IsDueEntry}
 use Rattle.dsr_repairing.specs.declared.entries.Entry.{Entry}
+use Rattle.dsr_stepping.specs.declared.steps.Step.{Step}
 use Rattle.dsr_repairing.specs.declared.turns.Turn.{Turn}
 use Rattle.dsr_repairing.specs.declared.turns.Turn.TheVariants as turns
 
@@ -17,20 +22,38 @@ pub record IsModelled (spec : Spec) (layout : Layout) (bytes : List ℕ) (view :
   pub prepared : IsPreparedFor spec layout view
   pub model : IsModelOf spec layout bytes view
 
--- an entry was pushed, which tells the step that was made
-pub record IsLogged (spec : Spec) (choice : Choice) (layout : Layout) (old new : List ℕ) (before after : List Entry) : Type 0 where
-  pub entry : Entry
-  pub pushed : after ≡ before ++ entry ∷ []
-  pub made : IsDueEntry spec choice layout old entry new
+-- an image, a log and a model, as a step finds or leaves them
+pub record State : Type 0 where
+  pub bytes : List ℕ
+  pub entries : List Entry
+  pub model : ModelView
 
--- all is as it was
-pub record Stays (old new : List ℕ) (before after : List Entry) : Type 0 where
-  pub bytes : new ≡ old
-  pub entries : after ≡ before
+abbrev pub state : List ℕ → List Entry → ModelView → State
+state bytes entries model = record { bytes = bytes; entries = entries; model = model }
+
+-- this step was made, and an entry was pushed which tells it
+pub record IsLogged (spec : Spec) (choice : Choice) (layout : Layout) (step : Step) (old new : State) : Type 0 where
+  pub entry : Entry
+  pub pushed : new.entries ≡ old.entries ++ entry ∷ []
+  pub made : IsDueEntry spec choice layout old.bytes entry new.bytes
+  pub step_is : made.step ≡ step
 
 -- the step that is due was made and logged, or there was none and all is as it was
-abbrev pub IsTaken : Spec → Choice → Layout → List ℕ → List ℕ → List Entry → List Entry → Turn → Type 0
-IsTaken spec choice layout old new before after turns.Done = Stays old new before after
-IsTaken spec choice layout old new before after (turns.Step step) =
-    IsLogged spec choice layout old new before after
-IsTaken spec choice layout old new before after (turns.Empty need) = Stays old new before after
+abbrev pub IsTaken : Spec → Choice → Layout → State → State → Turn → Type 0
+IsTaken spec choice layout old new turns.Done = new ≡ old
+IsTaken spec choice layout old new (turns.Step step) = IsLogged spec choice layout step old new
+IsTaken spec choice layout old new (turns.Empty need) = new ≡ old
+
+-- less remains than before, and bindings are newly violated of constraints on levels above the one alone for which the step was made
+pub record IsNearer (spec : Spec) (choice : Choice) (layout : Layout) (old new : List ℕ) (constraint : ℕ) : Type 0 where
+  pub falls : (n m : ℕ) → IsRemaining spec choice layout old n → IsRemaining spec choice layout new m → m < n
+  pub above :
+      (w : BoundConstraint) (row other : Row) → IsViolated (IsFact spec layout new) spec w
+      → (IsViolated (IsFact spec layout old) spec w → ⊥) → slice_get choice.rows constraint ≡ Some row
+      → slice_get choice.rows w.constraint ≡ Some other → row.level < other.level
+
+-- a step brings the image nearer to its end
+abbrev pub Brings : Spec → Choice → Layout → List ℕ → List ℕ → Turn → Type 0
+Brings spec choice layout old new turns.Done = Unit {0}
+Brings spec choice layout old new (turns.Step step) = IsNearer spec choice layout old new step.constraint
+Brings spec choice layout old new (turns.Empty need) = Unit {0}

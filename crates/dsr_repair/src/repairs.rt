@@ -1,21 +1,52 @@
 // A whole repair.
-ghost use Rattle.std.specs.Prelude.{◌≡◌, [], IfOk};
-ghost use Rattle.dsr_repairing.specs.Images.{IsImageOf};
+ghost use Rattle.std.specs.Prelude.{◌≡◌, ◌≤◌, [], IfOk, length};
+ghost use Rattle.dsr_bound_laws.specs.Bounds.{bound};
+ghost use Rattle.dsr_planning.specs.Plans.{IsPlan};
 ghost use Rattle.dsr_repairing.specs.Runs.{IsPartRun};
 ghost use Rattle.dsr_repairing.specs.Turns.{IsOutcome};
+ghost use Rattle.dsr_stepping.specs.Images.{FixedFieldsStay, IsImageOf};
 
 use crate::steps::step;
 use dsr_fixpoint::rebuild;
 use dsr_image::ImageBytes;
-use dsr_ir::{Layout, NoMemory};
+use dsr_ir::{Layout, NoMemory, Spec};
 use dsr_log::Log;
 use dsr_model::Model;
 use dsr_planning::Plan;
 use dsr_repairing::{Outcome, Turn};
 use std::alloc::Global;
 
+// Makes the steps that are due until none is left. That this ends is due to the bound.
+fn make_steps<I: ImageBytes>(
+    alloc: Global,
+    plan: &Plan,
+    spec: &Spec,
+    layout: &Layout,
+    image: &mut I,
+    log: &mut Log,
+) -> Result<Outcome, NoMemory>
+    requires spec { spec.now ≡ plan.now.0 }
+    requires planned { IsPlan plan.now.0 plan.now.1 }
+    requires image { IsImageOf plan.now.0 layout.now (I.ImageBytes.bytes image.old) }
+    requires empty { log.old.entries ≡ [] }
+    ensures steps { IsPartRun plan.now.0 plan.now.1 layout.now (I.ImageBytes.bytes image.old)
+        log.new.entries (I.ImageBytes.bytes image.new) }
+    ensures ends { IfOk result (IsOutcome plan.now.0 plan.now.1 layout.now (I.ImageBytes.bytes image.new)) }
+{
+    let mut model = Model::prepare(alloc, spec, layout)?;
+    rebuild(&mut model, spec, layout, image);
+    'steps: loop {
+        match step(alloc, plan, layout, image, &mut model, log)? {
+            Turn::Done => return Ok(Outcome::Consistent),
+            Turn::Empty(need) => return Ok(Outcome::Empty(need)),
+            Turn::Step(_) => {}
+        }
+    }
+}
+
 /// Makes the steps that are due, one after the other, until none is left: the image is consistent, or the supply of a
 /// fresh record that the next step needs is empty. The log has all steps that were made, also where memory is wanting.
+/// There are no more of them than the specification and the image's length bound.
 pub fn repair<I: ImageBytes>(
     alloc: Global,
     plan: &Plan,
@@ -27,17 +58,12 @@ pub fn repair<I: ImageBytes>(
     requires empty { log.old.entries ≡ [] }
     ensures steps { IsPartRun plan.now.0 plan.now.1 layout.now (I.ImageBytes.bytes image.old)
         log.new.entries (I.ImageBytes.bytes image.new) }
+    ensures short { length log.new.entries ≤ bound plan.now.0 (length (I.ImageBytes.bytes image.old)) }
     ensures ends { IfOk result (IsOutcome plan.now.0 plan.now.1 layout.now (I.ImageBytes.bytes image.new)) }
     ensures image { IsImageOf plan.now.0 layout.now (I.ImageBytes.bytes image.new) }
+    ensures fixed { FixedFieldsStay plan.now.0.base (I.ImageBytes.bytes image.old)
+        (I.ImageBytes.bytes image.new) }
 {
-    let mut model = Model::prepare(alloc, plan.spec(), layout)?;
-    rebuild(&mut model, plan.spec(), layout, image)?;
-    for _ in 0..u64::MAX {
-        match step(alloc, plan, layout, image, &mut model, log)? {
-            Turn::Done => return Ok(Outcome::Consistent),
-            Turn::Empty(need) => return Ok(Outcome::Empty(need)),
-            Turn::Step(_) => {}
-        }
-    }
-    Err(NoMemory)
+    let spec = plan.spec();
+    make_steps(alloc, plan, spec, layout, image, log)
 }

@@ -1,15 +1,16 @@
 // One step.
 ghost use Rattle.std.specs.Prelude.{◌≡◌, IfOk, OnErr, option_map};
 ghost use Rattle.dsr_repair.specs.Planned.{chosen_update};
-ghost use Rattle.dsr_repair.specs.Stepping.{IsModelled, IsTaken, Stays};
+ghost use Rattle.dsr_repair.specs.Stepping.{Brings, IsModelled, IsTaken, state};
 ghost use Rattle.dsr_repairing.specs.Turns.{IsTurn};
+ghost use Rattle.dsr_stepping.specs.Images.{FixedFieldsStay};
 
 use dsr_due::due;
 use dsr_fixpoint::rebuild;
 use dsr_image::ImageBytes;
 use dsr_ir::{Layout, NoMemory, Update};
 use dsr_log::Log;
-use dsr_made::{claim_changes, entry_of, make_changes};
+use dsr_made::make;
 use dsr_model::Model;
 use dsr_planning::{Plan, Way};
 use dsr_repairing::Turn;
@@ -29,7 +30,8 @@ fn update_of<'a>(plan: &'a Plan, step: &Step) -> Option<&'a Update>
 }
 
 /// Makes the step that is due, pushes its entry, and builds the model anew. Where nothing is due, or a supply is empty,
-/// all stays as it is; so it does where memory is wanting, but that more bytes may be claimed.
+/// all stays as it is; so it does where memory is wanting, but that more bytes may be claimed. Nothing can fail once a
+/// byte is written.
 pub fn step<I: ImageBytes>(
     alloc: Global,
     plan: &Plan,
@@ -40,10 +42,15 @@ pub fn step<I: ImageBytes>(
 ) -> Result<Turn, NoMemory>
     requires modelled { IsModelled plan.now.0 layout.now (I.ImageBytes.bytes image.old) model.old }
     ensures turn { IfOk result (IsTurn plan.now.0 plan.now.1 layout.now (I.ImageBytes.bytes image.old)) }
-    ensures taken { IfOk result (IsTaken plan.now.0 plan.now.1 layout.now (I.ImageBytes.bytes image.old)
-        (I.ImageBytes.bytes image.new) log.old.entries log.new.entries) }
-    ensures stays { OnErr result (Stays (I.ImageBytes.bytes image.old) (I.ImageBytes.bytes image.new)
-        log.old.entries log.new.entries) }
+    ensures taken { IfOk result (IsTaken plan.now.0 plan.now.1 layout.now
+        (state (I.ImageBytes.bytes image.old) log.old.entries model.old)
+        (state (I.ImageBytes.bytes image.new) log.new.entries model.new)) }
+    ensures brings { IfOk result (Brings plan.now.0 plan.now.1 layout.now (I.ImageBytes.bytes image.old)
+        (I.ImageBytes.bytes image.new)) }
+    ensures stays { OnErr result (state (I.ImageBytes.bytes image.new) log.new.entries model.new
+        ≡ state (I.ImageBytes.bytes image.old) log.old.entries model.old) }
+    ensures fixed { FixedFieldsStay plan.now.0.base (I.ImageBytes.bytes image.old)
+        (I.ImageBytes.bytes image.new) }
     ensures modelled { IsModelled plan.now.0 layout.now (I.ImageBytes.bytes image.new) model.new }
 {
     let turn = due(plan, layout, image, model);
@@ -53,11 +60,9 @@ pub fn step<I: ImageBytes>(
     let Some(update) = update_of(plan, &step) else {
         unreachable!();
     };
-    let entry = entry_of(alloc, plan.spec(), layout, &step, update, image)?;
     log.reserve()?;
-    claim_changes(entry.bytes.items(), image)?;
-    make_changes(entry.bytes.items(), image);
+    let entry = make(alloc, plan.spec(), layout, &step, update, image)?;
     log.push(entry);
-    rebuild(model, plan.spec(), layout, image)?;
+    rebuild(model, plan.spec(), layout, image);
     Ok(turn)
 }

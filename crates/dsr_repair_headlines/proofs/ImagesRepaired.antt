@@ -18,7 +18,7 @@ use Rattle.dsr_planning.specs.declared.choices.Choice.{Choice}
 use Rattle.dsr_planning.specs.declared.refusals.StuckSet.{StuckSet}
 use Rattle.dsr_repair_headlines.proofs.Unmoved.{unmoved}
 use Rattle.dsr_repair_headlines.specs.Headlines.{IsToRepair, RepairsImages, RepairsNothingElse}
-use Rattle.dsr_repair_headlines.specs.Repairs.{IsRepairVerdict}
+use Rattle.dsr_repair_headlines.specs.Repairs.{IsRepairVerdict, RunsDry}
 use Rattle.dsr_repaired.specs.Repaired.{Ending, IsRepairOf, Saves, Tells, mended, stopped, unlaid}
 use Rattle.dsr_script.proofs.Laws.{said_at_save, said_at_tell}
 use Rattle.dsr_script.specs.Outside.{IsSaved, Outside, Stands}
@@ -30,6 +30,14 @@ use Rattle.dsr_script.specs.declared.status.Verdict.{Verdict}
 use Rattle.dsr_script.specs.declared.status.Verdict.TheVariants as verdicts
 use Rattle.dsr_store.specs.Files.{Files}
 use Rattle.dsr_typing.specs.Specifications.{specification}
+use Rattle.dsr_bound_laws.proofs.Runs.{run_bounded}
+use Rattle.dsr_ir.specs.declared.layouts.Layout.{Layout}
+use Rattle.dsr_planning.proofs.OnePlan.{one_plan}
+use Rattle.dsr_repairing.specs.Runs.{IsRun}
+use Rattle.dsr_repairing.specs.declared.entries.Entry.{Entry}
+use Rattle.dsr_repairing.specs.declared.turns.Outcome.TheVariants.{Consistent, Empty}
+use Rattle.dsr_run_laws.proofs.RunOnce.{run_keeps, run_keeps_fixed, run_once}
+use Rattle.dsr_stepping.specs.Images.{IsImageOf}
 
 -- what was saved and told, by how a repair ends
 abbrev pub IsEnded : List ℕ → Outside → Outside → Verdict → Ending → Type 0
@@ -128,6 +136,19 @@ none_first rs refusal none first = let e : None ≡ Some refusal = sym (ap first
 differs : {X : Type 0} (verdict : Verdict) {a b : Verdict} → verdict ≡ a → a ≢ b → verdict ≡ b → X
 differs verdict says apart other = absurd (apart (sym says ∙ other))
 
+-- the run of the plan that is taken has one end
+ends_otherwise :
+    (spec : Spec) (image : List ℕ) (choice : Choice) → IsTaken spec choice → (layout : Layout) (entries : List Entry) (new : List ℕ)
+    → IsImageOf spec layout image → IsRun spec choice layout image entries new Consistent → RunsDry spec image → ⊥
+ends_otherwise spec image choice taken layout entries new is run dry =
+    let plan_same : dry.choice ≡ choice = one_plan spec dry.choice choice dry.taken taken in
+    let layout_same : dry.layout ≡ layout = same_Some dry.layout layout (sym dry.laid_out.numbers ∙ is.layout_is.numbers) in
+    let other : IsRun spec choice layout image dry.entries dry.new (Empty dry.need) =
+    subst (λ l. IsRun spec choice l image dry.entries dry.new (Empty dry.need)) layout_same
+    (subst (λ c. IsRun spec c dry.layout image dry.entries dry.new (Empty dry.need)) plan_same dry.run) in
+    let end : Consistent ≡ Empty dry.need = (run_once spec choice layout taken.plan is.typed image new dry.new entries dry.entries Consistent (Empty dry.need) is run other).1.1 in
+    cc
+
 module _ (spec : Spec) (image name : List ℕ) (before after : Outside) (verdict : Verdict) where
   unplanned_verdict : Unplanned spec before after verdict → IsRepairVerdict spec image name before after verdict
   unplanned_verdict its =
@@ -136,6 +157,7 @@ module _ (spec : Spec) (image name : List ℕ) (before after : Outside) (verdict
         no_plan = (λ _. its.none, λ _. says);
         no_layout = (differs verdict says (λ e. cc), λ both. absurd (its.none both.0.0 both.0.1));
         otherwise = λ plan laid_out. absurd (its.none plan.0 plan.1);
+        empty = (differs verdict says (λ e. cc), λ dry. absurd (its.none dry.choice dry.taken.plan));
         unplanned = λ _. record { set = its.set; stuck = its.stuck; stands = its.stands; told = its.speaks.put };
         unlaid = differs verdict says (λ e. cc);
         repaired = differs verdict says (λ e. cc);
@@ -151,6 +173,7 @@ module _ (spec : Spec) (image name : List ℕ) (before after : Outside) (verdict
           no_plan = (differs verdict says (λ e. cc), λ none. absurd (none choice taken.plan));
           no_layout = (λ _. ((choice, taken.plan), λ laid_out. none_first (refusals spec image) refusal laid_out.1.accepted first), λ _. says);
           otherwise = λ plan laid_out. absurd (none_first (refusals spec image) refusal laid_out.1.accepted first);
+          empty = (differs verdict says (λ e. cc), λ dry. absurd (none_first (refusals spec image) refusal dry.laid_out.accepted first));
           unplanned = differs verdict says (λ e. cc);
           unlaid = λ _. record { refusal = refusal; first = first; stands = ended.0; told = ended.1.put };
           repaired = differs verdict says (λ e. cc);
@@ -160,18 +183,22 @@ module _ (spec : Spec) (image name : List ℕ) (before after : Outside) (verdict
         let says : verdict ≡ verdicts.Ok = ended.1.says in
         record {
           no_plan = (differs verdict says (λ e. cc), λ none. absurd (none choice taken.plan));
-          no_layout = (differs verdict says (λ e. cc), λ both. absurd (both.1 (layout, is)));
+          no_layout = (differs verdict says (λ e. cc), λ both. absurd (both.1 (layout, is.layout_is)));
           otherwise = λ plan laid_out. inl says;
+          empty = (differs verdict says (λ e. cc), λ dry. absurd (ends_otherwise spec image choice taken layout entries new is run dry));
           unplanned = differs verdict says (λ e. cc);
           unlaid = differs verdict says (λ e. cc);
           repaired = λ _. record {
             choice = choice;
             taken = taken;
             layout = layout;
-            laid_out = is;
+            laid_out = is.layout_is;
             entries = entries;
             new = new;
             run = run;
+            short = run_bounded spec choice layout taken.plan image new entries is run.steps;
+            still = (run_keeps spec choice layout taken.plan image new entries is run.steps).layout_is;
+            fixed = run_keeps_fixed spec choice layout taken.plan image new entries is run.steps;
             consistent = run.ends;
             saved = ended.0;
             told = ended.1.put;
@@ -183,8 +210,12 @@ module _ (spec : Spec) (image name : List ℕ) (before after : Outside) (verdict
         let says : verdict ≡ verdicts.SupplyEmpty = ended.1.says in
         record {
           no_plan = (differs verdict says (λ e. cc), λ none. absurd (none choice taken.plan));
-          no_layout = (differs verdict says (λ e. cc), λ both. absurd (both.1 (layout, is)));
+          no_layout = (differs verdict says (λ e. cc), λ both. absurd (both.1 (layout, is.layout_is)));
           otherwise = λ plan laid_out. inr says;
+          empty = (
+            λ _. record { choice = choice; taken = taken; layout = layout; laid_out = is.layout_is; entries = entries; new = new; need = need; run = run },
+            λ _. says,
+          );
           unplanned = differs verdict says (λ e. cc);
           unlaid = differs verdict says (λ e. cc);
           repaired = differs verdict says (λ e. cc);
@@ -192,11 +223,13 @@ module _ (spec : Spec) (image name : List ℕ) (before after : Outside) (verdict
             choice = choice;
             taken = taken;
             layout = layout;
-            laid_out = is;
+            laid_out = is.layout_is;
             entries = entries;
             new = new;
             need = need;
             run = run;
+            short = run_bounded spec choice layout taken.plan image new entries is run.steps;
+            still = (run_keeps spec choice layout taken.plan image new entries is run.steps).layout_is;
             stands = ended.0;
             told = ended.1.put;
           };

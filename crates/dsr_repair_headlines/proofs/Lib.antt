@@ -1,3 +1,4 @@
 pub mod Unmoved
 pub mod ImagesRepaired
 pub mod TrialsTold
+pub mod Lasting

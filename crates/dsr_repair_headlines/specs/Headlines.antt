@@ -3,7 +3,9 @@ use Rattle.std.specs.Prelude.{◌≡◌, ◌≤◌, ℕ, List, length, Some}
 use Rattle.std.specs.FinMap.{get}
 use Rattle.dsr_asking.specs.Commands.{image_limit, spec_limit}
 use Rattle.dsr_asking.specs.Words.{Repair, Trial, command_of}
+use Rattle.dsr_headlines.specs.Headlines.{IsChecked, IsVerdictOn}
 use Rattle.dsr_ir.specs.declared.declarations.Spec.{Spec}
+use Rattle.dsr_ir.specs.declared.layouts.Layout.{Layout}
 use Rattle.dsr_repair_headlines.specs.Repairs.{IsRepairVerdict, IsTold, WasRepaired, WasStopped}
 use Rattle.dsr_script.specs.Outside.{Outside, Stands}
 use Rattle.dsr_script.specs.Scripts.{Answer}
@@ -49,6 +51,16 @@ RepairsNothingElse words before after status =
     → IsOfSome (λ spec image. WasRepaired spec image name before after) files words name)
     × (status ≡ Said verdicts.SupplyEmpty
     → IsOfSome (λ spec image. WasStopped spec image before after) files words name)
+
+-- Where a repair saved an image, words that ask to check what stands under the name, under the same specification,
+-- get the verdict that it is consistent.
+abbrev pub RepairsLast : List (List ℕ) → Outside → Outside → Status → Type 0
+RepairsLast words before after status =
+    (files saved : Files) (spec : Spec) (image name : List ℕ) → before.held ≡ Some files → after.held ≡ Some saved
+    → status ≡ Said verdicts.Ok → IsToRepair files words spec image name
+    → (others : List (List ℕ)) (layout : Layout) (new : List ℕ) (check : IsChecked saved others spec layout new)
+    → check.image_name ≡ name → (first last : Outside) (verdict : Verdict)
+    → IsVerdictOn spec layout new first last verdict → verdict ≡ verdicts.Ok
 
 -- the answer to the trial of this number was told, and nothing saved
 pub record WasTried (number : ℕ) (before after : Outside) (verdict : Verdict) : Type 0 where

@@ -1,5 +1,5 @@
 -- What comes of a repair, from how it ended.
-use Rattle.std.proofs.Common.{◌≡◌, ◌≢◌, ◌∙◌, ℕ, List, Ok, ap, sym, subst}
+use Rattle.std.proofs.Common.{◌≡◌, ◌≢◌, ◌≤◌, ◌∙◌, ℕ, List, length, Ok, ap, sym, subst}
 use Rattle.dsr_answers.specs.Texts.{layout_answer}
 use Rattle.dsr_check.proofs.Answered.{refused_answer}
 use Rattle.dsr_ir.specs.declared.declarations.Spec.{Spec}
@@ -7,13 +7,14 @@ use Rattle.dsr_ir.specs.declared.layouts.Layout.{Layout}
 use Rattle.dsr_layout.specs.Telling as layouts
 use Rattle.dsr_layout.specs.declared.faults.LayoutFault.{LayoutFault}
 use Rattle.dsr_layout.specs.declared.faults.LayoutFault.TheVariants as faults
-use Rattle.dsr_meaning.specs.Refusals.{IsLayoutOf, Refusal, refusals}
+use Rattle.dsr_meaning.specs.Refusals.{Refusal, refusals}
 use Rattle.dsr_planning.specs.declared.choices.Choice.{Choice}
 use Rattle.dsr_repairing.specs.Runs.{IsRun}
 use Rattle.dsr_repairing.specs.declared.entries.Entry.{Entry}
 use Rattle.dsr_repairing.specs.declared.turns.Need.{Need}
 use Rattle.dsr_repairing.specs.declared.turns.Outcome.{Outcome}
 use Rattle.dsr_repairing.specs.declared.turns.Outcome.TheVariants.{Consistent, Empty}
+use Rattle.dsr_stepping.specs.Images.{IsImageOf}
 use Rattle.dsr_script.specs.Moves.{shown}
 use Rattle.dsr_script.specs.declared.moves.Told.{Told}
 use Rattle.dsr_repaired.specs.Repaired.{IsRepairOf, Saves, Tells, empty_answer, repaired_answer}
@@ -41,31 +42,29 @@ module _ (spec : Spec) (choice : Choice) (image : List ℕ) where
       subst (λ b. IsRun spec choice layout b entries new end) held
       (subst (IsRun spec choice layout bytes entries new) ends run)
 
-  layout_of :
+  pub image_of :
       (its : Spec) (bytes : List ℕ) (layout : Layout) → its ≡ spec → bytes ≡ image
-      → IsLayoutOf its bytes layout → IsLayoutOf spec image layout
-  layout_of its bytes layout same held of =
-      subst (λ s. IsLayoutOf s image layout) same (subst (λ b. IsLayoutOf its b layout) held of)
+      → IsImageOf its layout bytes → IsImageOf spec layout image
+  image_of its bytes layout same held of =
+      subst (λ s. IsImageOf s layout image) same (subst (IsImageOf its layout) held of)
 
   pub mended_told :
       (its : Spec) (layout : Layout) (bytes before new saved : List ℕ) (entries : List Entry) (outcome : Outcome)
       (told : Told) → its ≡ spec → bytes ≡ image → before ≡ image → saved ≡ new
-      → IsLayoutOf its bytes layout → IsRun spec choice layout before entries new outcome
+      → IsImageOf its layout bytes → IsRun spec choice layout before entries new outcome
       → outcome ≡ Consistent → shown told ≡ repaired_answer its entries
       → IsRepairOf spec choice image (Saves saved (shown told))
   mended_told its layout bytes before new saved entries outcome told same held begun stays of run ends says =
       subst (λ b. IsRepairOf spec choice image (Saves b (shown told))) (sym stays)
       (subst (λ a. IsRepairOf spec choice image (Saves new a)) (sym (says ∙ ap (λ s. repaired_answer s entries) same))
-      (mended layout entries new (layout_of its bytes layout same held of)
-      (run_ended layout before new entries outcome Consistent begun ends run)))
+      (mended layout entries new (image_of its bytes layout same held of) (run_ended layout before new entries outcome Consistent begun ends run)))
 
   pub stopped_told :
       (its : Spec) (layout : Layout) (bytes before new : List ℕ) (entries : List Entry) (outcome : Outcome)
       (need : Need) (told : Told) → its ≡ spec → bytes ≡ image → before ≡ image
-      → IsLayoutOf its bytes layout → IsRun spec choice layout before entries new outcome
+      → IsImageOf its layout bytes → IsRun spec choice layout before entries new outcome
       → outcome ≡ Empty need → shown told ≡ empty_answer its entries need
       → IsRepairOf spec choice image (Tells (shown told))
   stopped_told its layout bytes before new entries outcome need told same held begun of run ends says =
       subst (λ a. IsRepairOf spec choice image (Tells a)) (sym (says ∙ ap (λ s. empty_answer s entries need) same))
-      (stopped layout entries new need (layout_of its bytes layout same held of)
-      (run_ended layout before new entries outcome (Empty need) begun ends run))
+      (stopped layout entries new need (image_of its bytes layout same held of) (run_ended layout before new entries outcome (Empty need) begun ends run))

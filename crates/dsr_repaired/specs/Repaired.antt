@@ -1,9 +1,9 @@
 -- What is answered about a repair of an image by a plan.
-use Rattle.std.specs.Prelude.{◌≡◌, ◌++◌, ◌+◌, ℕ, List, Some, codes, decimal}
+use Rattle.std.specs.Prelude.{◌≡◌, ◌≤◌, ◌++◌, ◌+◌, ℕ, List, Some, length, codes, decimal}
 use Rattle.dsr_answers.specs.Texts.{binding_text, constraint_name, layout_answer, pool_name}
 use Rattle.dsr_ir.specs.declared.declarations.Spec.{Spec}
 use Rattle.dsr_ir.specs.declared.layouts.Layout.{Layout}
-use Rattle.dsr_meaning.specs.Refusals.{IsLayoutOf, Refusal, first_of, refusals}
+use Rattle.dsr_meaning.specs.Refusals.{Refusal, first_of, refusals}
 use Rattle.dsr_planning.specs.declared.choices.Choice.{Choice}
 use Rattle.dsr_repaired.specs.declared.repairs.Repaired.{Repaired}
 use Rattle.dsr_repaired.specs.declared.repairs.Repaired.TheVariants as repaired
@@ -15,6 +15,7 @@ use Rattle.dsr_report.specs.Reports.{report_text}
 use Rattle.dsr_script.specs.Moves.{shown}
 use Rattle.dsr_script.specs.Scripts.{Answer}
 use Rattle.dsr_script.specs.declared.status.Verdict.TheVariants as verdicts
+use Rattle.dsr_stepping.specs.Images.{IsImageOf}
 
 -- the report of all steps
 abbrev pub repaired_answer : Spec → List Entry → Answer
@@ -46,11 +47,11 @@ pub data IsRepairOf (spec : Spec) (choice : Choice) (image : List ℕ) : Ending 
       (refusal : Refusal) → first_of (refusals spec image) ≡ Some refusal
       → IsRepairOf spec choice image (Tells (layout_answer spec refusal))
   mended :
-      (layout : Layout) (entries : List Entry) (new : List ℕ) → IsLayoutOf spec image layout
+      (layout : Layout) (entries : List Entry) (new : List ℕ) → IsImageOf spec layout image
       → IsRun spec choice layout image entries new Consistent
       → IsRepairOf spec choice image (Saves new (repaired_answer spec entries))
   stopped :
-      (layout : Layout) (entries : List Entry) (new : List ℕ) (need : Need) → IsLayoutOf spec image layout
+      (layout : Layout) (entries : List Entry) (new : List ℕ) (need : Need) → IsImageOf spec layout image
       → IsRun spec choice layout image entries new (Empty need)
       → IsRepairOf spec choice image (Tells (empty_answer spec entries need))
 

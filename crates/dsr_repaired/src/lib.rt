@@ -5,6 +5,6 @@ mod repairs;
 mod runs;
 mod texts;
 
-pub use repairs::{Repaired, repair};
+pub use repairs::{Repaired, laid_out, repair};
 pub use runs::{Run, repair_whole};
 pub use texts::{need_told, report_told};

@@ -1,14 +1,18 @@
 // A repair of an image, as it is answered.
-ghost use Rattle.std.specs.Prelude.{◌≤◌, IfOk, length};
+ghost use Rattle.std.specs.Prelude.{◌≤◌, IfErr, IfOk, length};
+ghost use Rattle.dsr_layout.specs.Telling.{Tells};
+ghost use Rattle.dsr_meaning.specs.Legal.{IsLegalLayout};
+ghost use Rattle.dsr_meaning.specs.Refusals.{refusals};
 ghost use Rattle.dsr_meaning.specs.Typed.{IsTyped};
 ghost use Rattle.dsr_repaired.specs.Repaired.{IsRepairOf, ending_of};
+ghost use Rattle.dsr_stepping.specs.Images.{IsImageOf};
 
 use crate::runs::repair_whole;
 use crate::texts::{need_told, report_told};
 use dsr_answers::layout_refused;
 use dsr_image::Whole;
-use dsr_ir::NoMemory;
-use dsr_layout::layout;
+use dsr_ir::{Layout, NoMemory, Spec};
+use dsr_layout::{LayoutFault, layout};
 use dsr_planning::Plan;
 use dsr_repairing::Outcome;
 use dsr_script::Told;
@@ -23,6 +27,18 @@ pub enum Repaired {
     Unsaved(Told),
 }
 
+/// The layout of a specification on an image. Where it is refused, the fault is the first of the
+/// least kind, by order of declaration.
+pub fn laid_out(alloc: Global, spec: &Spec, image: &[u8]) -> Result<Layout, LayoutFault>
+    requires typed { IsTyped spec.now }
+    requires small { length image.now ≤ 67108864 }
+    ensures image { IfOk result (λ layout. IsImageOf spec.now layout image.now) }
+    ensures legal { IfOk result IsLegalLayout }
+    ensures refused { IfErr result (Tells (refusals spec.now image.now)) }
+{
+    layout(alloc, spec, image)
+}
+
 /// Repairs an image by a plan.
 pub fn repair(alloc: Global, plan: &Plan, image: Vec<u8>) -> Result<Repaired, NoMemory>
     requires typed { IsTyped plan.now.0 }
@@ -30,7 +46,7 @@ pub fn repair(alloc: Global, plan: &Plan, image: Vec<u8>) -> Result<Repaired, No
     ensures { IfOk result (λ r. IsRepairOf plan.now.0 plan.now.1 image.items (ending_of r)) }
 {
     let spec = plan.spec();
-    let layout = match layout(alloc, spec, &image) {
+    let layout = match laid_out(alloc, spec, &image) {
         Ok(layout) => layout,
         Err(fault) => return Ok(Repaired::Unsaved(layout_refused(alloc, spec, fault)?)),
     };

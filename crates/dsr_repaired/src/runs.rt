@@ -1,6 +1,6 @@
 // A repair of an image that is held whole.
 ghost use Rattle.std.specs.Prelude.{IfOk};
-ghost use Rattle.dsr_repairing.specs.Images.{IsImageOf};
+ghost use Rattle.dsr_stepping.specs.Images.{IsImageOf};
 ghost use Rattle.dsr_repairing.specs.Runs.{IsRun};
 
 use dsr_image::Whole;
@@ -28,8 +28,8 @@ pub fn repair_whole(
     layout: &Layout,
     image: Whole,
 ) -> Result<Run, NoMemory>
-    requires { IsImageOf plan.now.0 layout.now image }
-    ensures { IfOk result (λ run. IsRun plan.now.0 plan.now.1 layout.now image
+    requires image { IsImageOf plan.now.0 layout.now image }
+    ensures run { IfOk result (λ run. IsRun plan.now.0 plan.now.1 layout.now image
         run.log.entries run.image run.outcome) }
 {
     let mut image = image;

@@ -1,4 +1,3 @@
-pub mod Images
 pub mod Due
 pub mod Turns
 pub mod Entries

@@ -20,10 +20,10 @@ mod templates;
 
 use crate::headings::heading_of;
 use anyhow::bail;
-use dsr_compensate::the_first_kept_are_taken;
 use dsr_graph::graph;
 use dsr_ir::Spec;
 use dsr_lines::Lines;
+use dsr_listing::the_first_kept_are_taken;
 use dsr_read::specification;
 use std::alloc::Global;
 

@@ -11,3 +11,5 @@ pub mod AllTrue
 pub mod Together
 pub mod Written
 pub mod Added
+pub mod HeadRules
+pub mod GivenSymbols

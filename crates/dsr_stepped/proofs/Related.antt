@@ -12,7 +12,7 @@ use Rattle.dsr_meaning.specs.Typed.{AreTyped, Descends, ancestors}
 use Rattle.dsr_updating.specs.Changes.{are_related, descends}
 
 -- a number that passes as equal to some is in the list
-some_is : (n : ℕ) (ns : List ℕ) → any_of (nat_eq n) ns ≡ true → IsIn n ns
+pub some_is : (n : ℕ) (ns : List ℕ) → any_of (nat_eq n) ns ≡ true → IsIn n ns
 some_is n [] e = absurd cc
 some_is n (m ∷ ms) e =
     elim (nat_eq n m) as (λ b. nat_eq n m ≡ b → (b || any_of (nat_eq n) ms) ≡ true → IsIn n (m ∷ ms)) [

@@ -1,3 +1,4 @@
+pub mod Images
 pub mod Puts
 pub mod Resets
 pub mod Steps

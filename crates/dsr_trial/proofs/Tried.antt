@@ -19,7 +19,7 @@ use Rattle.dsr_meaning.specs.Refusals.{IsLayoutOf, Refusal, first_of, refusals}
 use Rattle.dsr_planning.specs.Taken.{IsTaken}
 use Rattle.dsr_planning.specs.declared.choices.Choice.{Choice}
 use Rattle.dsr_repaired.specs.Repaired.{empty_answer}
-use Rattle.dsr_repairing.specs.Images.{IsImageOf}
+use Rattle.dsr_stepping.specs.Images.{IsImageOf}
 use Rattle.dsr_repairing.specs.Runs.{IsRun}
 use Rattle.dsr_repairing.specs.declared.entries.Entry.{Entry}
 use Rattle.dsr_repairing.specs.declared.turns.Need.{Need}

@@ -5,7 +5,7 @@ ghost use Rattle.dsr_gen.specs.Texts.{trial_text as text_of_trials};
 ghost use Rattle.dsr_meaning.specs.Legal.{IsLegalLayout};
 ghost use Rattle.dsr_meaning.specs.Typed.{IsTyped};
 ghost use Rattle.dsr_planning.specs.Taken.{IsTaken};
-ghost use Rattle.dsr_repairing.specs.Images.{IsImageOf};
+ghost use Rattle.dsr_stepping.specs.Images.{IsImageOf};
 ghost use Rattle.dsr_script.specs.Moves.{shown};
 ghost use Rattle.dsr_trial.specs.Trials.{IsTrial, trial_answer};
 ghost use Rattle.dsr_typing.specs.Specifications.{IsSpecificationOf};
@@ -15,11 +15,10 @@ use dsr_check::violations_of;
 use dsr_gen::{trial_image, trial_text};
 use dsr_image::Whole;
 use dsr_ir::{Layout, NoMemory, Spec};
-use dsr_layout::layout;
 use dsr_plan::{Found, find, refused};
 use dsr_planning::Plan;
 use dsr_reading::{Reading, read};
-use dsr_repaired::{need_told, repair_whole};
+use dsr_repaired::{laid_out, need_told, repair_whole};
 use dsr_repairing::Outcome;
 use dsr_script::{Told, Verdict};
 use std::alloc::Global;
@@ -90,7 +89,7 @@ fn try_plan(alloc: Global, plan: &Plan, number: u16) -> Result<Told, NoMemory>
 {
     let spec = plan.spec();
     let image = trial_image(alloc, number)?;
-    match layout(alloc, spec, &image) {
+    match laid_out(alloc, spec, &image) {
         Ok(layout) => try_image(alloc, plan, &layout, number, image),
         Err(fault) => layout_refused(alloc, spec, fault),
     }

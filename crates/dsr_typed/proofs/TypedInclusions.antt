@@ -20,7 +20,7 @@ use Rattle.dsr_meaning.specs.Typed.{IsPlainSetOf, IsPoolNumber, IsTypedInc, Coun
 use Rattle.dsr_meaning.proofs.Empty.{both_empty}
 use Rattle.dsr_text.specs.Declarations.{disagree}
 use Rattle.dsr_text.proofs.Absent.{when_absent}
-use Rattle.dsr_typing.specs.Known.{known_in, is_nil, pool_named, plain_set, plain_named, is_this, differ}
+use Rattle.dsr_typing.specs.Known.{field_is, known_in, is_nil, pool_named, plain_set, plain_named, is_this, differ}
 use Rattle.dsr_typing.specs.Rules.{path_field}
 use Rattle.dsr_typing.specs.RuleFaults.{refers_elsewhere, is_other_target, is_other_head, is_scalar, path_names, is_foreign, index_faults, counts_others, slot_faults, term_names, term_faults, term_pool, is_no_pair, relates_others, pair_mismatches, member_names, member_faults, member_mismatches, inclusion_place, inclusion_names, inclusion_indexes, inclusion_mismatches, inclusion_faults}
 use Rattle.dsr_typing.specs.TypedRules.{number_of, pool_in, path_in, rule_in, typed_pair, typed_member, typed_inclusion, typed_span}
@@ -123,8 +123,7 @@ module _ (base : Structures) (r : Rule) (g : Grounded base r) where
         let kinds = or_parts (is_no_pair scope term path) _ e in
         let rest = or_parts (is_other_head scope path.var) (relates_others scope term path (Some f.item)) kinds.1 in
         let known = when_absent (is_none ((known_in base).pool q.name)) conditions.UnknownName q.place names in
-        let p = found_pool base q.name known in
-        (
+        let p = found_pool base q.name known in (
           counts q k known indexes,
           gives_target term (pool_in (known_in base) q) (p.found ∙ ap Some (sym (ap number_of p.found))) path_known index rest.0 rest.1,
           indexed_here (path_field scope path.var path.field) (path_here base r g path.var path.field path_known rest.0) path.index index kinds.0,

@@ -1,6 +1,4 @@
-pub mod Bytes
-pub mod Written
-pub mod ClaimedWrites
+pub mod ByteCells
 pub mod StepLayouts
 pub mod Left
 pub mod Putting

@@ -1,34 +1,22 @@
--- What is claimed of an image before a step is made, and what is asked of a record that is reset.
-use Rattle.std.specs.Prelude.{◌≡◌, ◌≤◌, ℕ, Bool, List, All, IfSome, IsSomeAnd, Some, length}
-use Rattle.dsr_image.specs.Images.{AreClaimed, IsCellClaimed}
+-- What is asked of a record that is reset, and what is claimed of the image before.
+use Rattle.std.specs.Prelude.{◌≡◌, ◌≤◌, ℕ, Bool, List, IfSome, IsSomeAnd, Some, length}
+use Rattle.dsr_image.specs.Images.{AreClaimed}
 use Rattle.dsr_ir.specs.Layouts.{pool_numbers}
 use Rattle.dsr_ir.specs.declared.declarations.Field.{Field}
 use Rattle.dsr_ir.specs.declared.declarations.FieldRef.{FieldRef}
 use Rattle.dsr_ir.specs.declared.declarations.Spec.{Spec}
 use Rattle.dsr_ir.specs.declared.layouts.Layout.{Layout}
 use Rattle.dsr_ir.specs.declared.tuples.Element.{Element}
-use Rattle.dsr_ir.specs.declared.updates.Update.{Update}
-use Rattle.dsr_ir.specs.declared.updates.Write.{Write}
 use Rattle.dsr_meaning.specs.Cells.{record_start}
 use Rattle.dsr_meaning.specs.Instances.{declared_field}
 use Rattle.dsr_meaning.specs.Refusals.{IsLayoutOf}
 use Rattle.dsr_meaning.specs.Typed.{Descends, IsTyped, pool_at}
-use Rattle.dsr_stepping.specs.Steps.{IsSlot, written_cell}
-use Rattle.dsr_stepping.specs.declared.steps.Step.{Step}
+use Rattle.dsr_stepping.specs.Steps.{IsSlot}
 
 -- the bytes of the record's slot are claimed
 abbrev pub IsSlotClaimed : (ℕ → Bool) → Layout → Element → Type 0
 IsSlotClaimed claimed layout e =
     IfSome (pool_numbers layout e.pool) (λ n. AreClaimed claimed (record_start layout e) n.slot)
-
--- the cell that is written is claimed
-abbrev pub IsWriteClaimed : (ℕ → Bool) → Layout → Step → Write → Type 0
-IsWriteClaimed claimed layout step write = IfSome (written_cell layout step write) (IsCellClaimed claimed)
-
--- all that the step writes is claimed
-pub record IsStepClaimed (claimed : ℕ → Bool) (layout : Layout) (step : Step) (update : Update) : Type 0 where
-  pub fresh : IfSome step.fresh (IsSlotClaimed claimed layout)
-  pub writes : All (IsWriteClaimed claimed layout step) update.writes
 
 -- the layout is one of the specification, for an image of so many bytes, of which
 -- there are no more than there may be, and the record is a slot of a pool

@@ -1,1 +1,2 @@
 pub mod LowLevels
+pub mod Said

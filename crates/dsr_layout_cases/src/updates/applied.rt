@@ -1,14 +1,14 @@
 // Steps on images.
 ghost use Rattle.dsr_meaning.specs.Typed.{IsTyped};
 
-use crate::updates::checks::{can_be_fresh, can_update};
+use crate::updates::checks::{are_free, can_be_fresh, can_write_all};
 use anyhow::bail;
 use dsr_image::Whole;
 use dsr_ir::{Spec, Template};
 use dsr_layout::layout;
+use dsr_made::make;
 use dsr_meaning::typed_specifications_are_placeable;
 use dsr_stepping::Step;
-use dsr_update::apply;
 use std::alloc::Global;
 
 /// What the step leaves of the bytes.
@@ -28,14 +28,20 @@ pub fn applied(
     let Ok(layout) = layout(alloc, spec, &bytes) else {
         bail!("no layout");
     };
-    if !can_update(spec, template, &layout, step) {
-        bail!("no such update, or a write that can't be made");
+    let Some(update) = template.updates.items().get(step.update as usize) else {
+        bail!("no such update");
+    };
+    if !can_write_all(spec, &layout, step, update.writes.items()) {
+        bail!("a write that can't be made");
+    }
+    if !are_free(spec, update.writes.items()) {
+        bail!("a write to a fixed field");
     }
     if !can_be_fresh(&layout, step.fresh) {
         bail!("no such fresh record");
     }
     let mut image = Whole::new(bytes);
-    let Ok(()) = apply(spec, template, &layout, step, &mut image) else {
+    let Ok(_) = make(alloc, spec, &layout, step, update, &mut image) else {
         bail!("no memory");
     };
     Ok(image.into_bytes())

@@ -1,13 +1,14 @@
 // Whether a step can be made.
-ghost use Rattle.std.specs.Prelude.{◌<◌, ◌^◌, All, IfSome, IsSomeAnd, slice_get};
+ghost use Rattle.std.specs.Prelude.{◌<◌, ◌^◌, All, IfSome};
 ghost use Rattle.std.specs.Bool.{OnTrue};
 ghost use Rattle.dsr_meaning.specs.Legal.{IsLegalLayout};
+ghost use Rattle.dsr_stepping.specs.Images.{IsFree};
 ghost use Rattle.dsr_stepping.specs.Steps as said;
 ghost use Rattle.dsr_stepping.specs.Steps.{CanWrite, IsSlot};
 
 use crate::entries::has_entry;
 use crate::updates::numbers::written_number;
-use dsr_ir::{Cell, Element, Layout, Spec, Template, Write};
+use dsr_ir::{Cell, Element, Layout, Spec, Write};
 use dsr_layout::{cell, pool_numbers};
 use dsr_stepping::Step;
 
@@ -35,8 +36,8 @@ fn can_write(spec: &Spec, layout: &Layout, step: &Step, write: &Write) -> bool
     fits(number, &cell(layout, step.elem, write.path.field, index))
 }
 
-// Whether each of the writes can be made.
-fn can_write_all(spec: &Spec, layout: &Layout, step: &Step, writes: &[Write]) -> bool
+/// Whether each of the writes can be made.
+pub fn can_write_all(spec: &Spec, layout: &Layout, step: &Step, writes: &[Write]) -> bool
     requires legal { IsLegalLayout layout.now }
     ensures { OnTrue result (All (CanWrite spec.now layout.now step.now) writes.now) }
 {
@@ -48,16 +49,29 @@ fn can_write_all(spec: &Spec, layout: &Layout, step: &Step, writes: &[Write]) ->
     true
 }
 
-/// Whether the writes of the step's update can be made.
-pub fn can_update(spec: &Spec, template: &Template, layout: &Layout, step: &Step) -> bool
-    requires legal { IsLegalLayout layout.now }
-    ensures { OnTrue result (IsSomeAnd (slice_get template.now.updates step.now.update)
-        (λ update. All (CanWrite spec.now layout.now step.now) update.writes)) }
+fn is_free(spec: &Spec, write: &Write) -> bool
+    ensures { OnTrue result (IsFree spec.now write.now) }
 {
-    match template.updates.items().get(step.update as usize) {
-        Some(update) => can_write_all(spec, layout, step, update.writes.items()),
+    let place = write.path.field;
+    let Some(structure) = spec.base.structures.items().get(place.structure as usize) else {
+        return false;
+    };
+    match structure.fields.items().get(place.field as usize) {
+        Some(field) => !field.fixed,
         None => false,
     }
+}
+
+/// Whether none of the writes names a fixed field.
+pub fn are_free(spec: &Spec, writes: &[Write]) -> bool
+    ensures { OnTrue result (All (IsFree spec.now) writes.now) }
+{
+    for write in writes {
+        if !is_free(spec, write) {
+            return false;
+        }
+    }
+    true
 }
 
 fn is_slot(layout: &Layout, elem: Element) -> bool

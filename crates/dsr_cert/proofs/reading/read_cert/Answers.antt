@@ -11,6 +11,6 @@ returns c =
     record {
       choice = read_all spec text c.read.result told;
       right = right_all spec text c.read.result told;
-      only = only_all spec text c.args.graph.now c.requires.graph c.read.result told;
+      only = only_all spec text c.read.result told;
       fault = wrong_all spec text c.read.result told;
     }

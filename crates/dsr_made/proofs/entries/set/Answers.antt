@@ -17,7 +17,7 @@ returns-then-write-clause-set c =
     c.written_cell-cell.ensures.cell (sym c.picked_number.ensures ∙ c.in-Some.is) c.get-old.ensures.value
     (sym (ap (λ b. if b then c.args.step.now.index else 0) c.if-write.true))
     (not_from_Decides c.is_wanted.result c.is_wanted.ensures c.if-is_wanted.false)
-    (record { puts = c.put.ensures.put; beside = c.put.ensures.beside })
+    (record { puts = c.put.ensures.put; beside = c.put.ensures.beside; bytes = c.put.ensures.bytes })
 
 pub returns-else-write-clause-set : goal.returns-else-write-clause-set
 returns-else-write-clause-set c =
@@ -26,4 +26,4 @@ returns-else-write-clause-set c =
     c.written_cell-cell.ensures.cell (sym c.picked_number.ensures ∙ c.in-Some.is) c.get-old.ensures.value
     (sym (ap (λ b. if b then c.args.step.now.index else 0) c.if-write.false))
     (not_from_Decides c.is_wanted.result c.is_wanted.ensures c.if-is_wanted.false)
-    (record { puts = c.put.ensures.put; beside = c.put.ensures.beside })
+    (record { puts = c.put.ensures.put; beside = c.put.ensures.beside; bytes = c.put.ensures.bytes })

@@ -38,3 +38,10 @@ returns c = λ owner in_graph many conj_is n literal there.
     let long = ap length c.items-literal-items.ensures in
     let below = place_below c.args.conj.now.literals n literal there in
     c.loop-place.invariant.1 owner in_graph many conj_is n literal (omega (arith, past, long, below)) there
+
+pub way-requires-clause-there : goal.way-requires-clause-there
+way-requires-clause-there c =
+    let place = c.loop-place.place in
+    let here = sym (ap (λ xs. slice_get xs place) c.items-literal-items.ensures) ∙ item_got c.items-literal-items.result.now place _ c.loop-place-test.true in
+    let its = c.requires.there in
+    record { its = its.its; in_graph = its.in_graph; literal_is = ap (option_and_then (λ l. slice_get l.literals place)) its.conj_is ∙ here }

@@ -35,3 +35,10 @@ returns c = λ owner in_graph many same conj n literal literal_is.
     let long = ap length c.items-conj-items.ensures in
     let below = place_below c.args.constraint.now.conjs conj parts.0 there in
     c.loop-place.invariant.1 owner in_graph many same conj parts.0 (omega (arith, past, long, below)) there n literal parts.2
+
+pub conj_tests-requires-clause-there : goal.conj_tests-requires-clause-there
+conj_tests-requires-clause-there c =
+    let place = c.loop-place.place in
+    let conjs = c.args.constraint.now.conjs in
+    let here : slice_get conjs place ≡ Some c.conj-item.result = subst (λ xs. slice_get xs place ≡ Some c.conj-item.result) c.items-conj-items.ensures (item_at c.items-conj-items.result.now place c.conj-item.result c.loop-place-test.true c.conj-item.is) in
+    record { its = c.args.constraint.now; in_graph = c.requires.there; conj_is = here }

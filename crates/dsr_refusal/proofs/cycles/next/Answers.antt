@@ -4,14 +4,14 @@ use Rattle.dsr_compensate.proofs.Each.{each_ends, each_more, item_at}
 use Rattle.dsr_refusal.proofs.Items.{member_of}
 use Rattle.dsr_refusal.specs.Members.{WaitsAmong}
 use Rattle.dsr_refusal.proofs.cycles.next.Goals as goal
-use Rattle.dsr_meaning.proofs.Items.{item_at, place_of}
+use Rattle.dsr_meaning.proofs.Items.{item_at as stands_among, place_of}
 
 pub returns-then-member-number : goal.returns-then-member-number
 returns-then-member-number c = λ waits among.
     let members = c.args.members.now in
     let member = c.member-item.result in
     let here = item_at members c.loop-member.member-index member c.loop-member-test.true c.member-item.is in
-    let there = item_at members c.loop-member.member-index member here in
+    let there = stands_among members c.loop-member.member-index member here in
     let its = waits member there in
     subst (λ found. IsSomeAnd found (WaitsAmong members c.args.number)) (sym (c.awaited.ensures ∙ its.1))
     (record {

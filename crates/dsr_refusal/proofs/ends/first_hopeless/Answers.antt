@@ -38,3 +38,16 @@ returns c = λ m its.
     let long = ap length c.items-constraint-items.ensures in
     let below = place_below c.args.spec.now.constraints m its.constraint its.constraint_is in
     c.loop-number.invariant m (omega (arith, past, long, below)) its
+
+pub is_hopeless-requires-clause-there : goal.is_hopeless-requires-clause-there
+is_hopeless-requires-clause-there c =
+    let i = c.loop-number.number in
+    let constraint = c.constraint-item.result in
+    let marks : c.in_ok-nobody.nobody.items ≡ replicate (length c.args.left.now) false = grind (arith, common_steps) in
+    let long = ap length (c.deref.ensures.value ∙ marks) ∙ length-replicate (length c.args.left.now) false in
+    record {
+      spec = c.args.spec.now;
+      graph_is = c.requires.graph;
+      constraint_is = subst (λ xs. slice_get xs i ≡ Some constraint) c.items-constraint-items.ensures (item_at c.items-constraint-items.result.now i constraint c.loop-number-test.true c.constraint-item.is);
+      as_many = sym (long ∙ c.requires.as_many);
+    }

@@ -11,7 +11,7 @@ pub returns-then-relies_left : goal.returns-then-relies_left
 returns-then-relies_left c = λ owner in_graph many.
     let less = c.loop-who-test.true in
     let its = item_there owner.spec.constraints c.loop-who.who (omega (arith, less, many)) in
-    let r = (c.relies_left.ensures (owner_at owner.spec c.loop-who.who its.0) (record { graph_is = in_graph.graph_is; number_is = refl; constraint_is = its.1 })).0 c.if-relies_left.true in
+    let r = (c.relies_left.ensures.relies (owner_at owner.spec c.loop-who.who its.0) (record { graph_is = in_graph.graph_is; number_is = refl; constraint_is = its.1 })).0 c.if-relies_left.true in
     record { is = record { member = r.member; relies = r.relies }; none_before = c.loop-who.invariant owner in_graph many }
 
 pub loop-who-preserved : goal.loop-who-preserved
@@ -19,7 +19,7 @@ loop-who-preserved c = λ owner in_graph many.
     let less = c.loop-who-test.true in
     let its = item_there owner.spec.constraints c.loop-who.who (omega (arith, less, many)) in
     none_more (λ m. MemberRelies owner.spec (IsLeft c.args.left.now) c.args.on m) c.loop-who.who
-    (λ r. false≢true (sym c.if-relies_left.false ∙ (c.relies_left.ensures (owner_at owner.spec c.loop-who.who its.0) (record { graph_is = in_graph.graph_is; number_is = refl; constraint_is = its.1 })).1 (record { member = r.member; relies = r.relies })))
+    (λ r. false≢true (sym c.if-relies_left.false ∙ (c.relies_left.ensures.relies (owner_at owner.spec c.loop-who.who its.0) (record { graph_is = in_graph.graph_is; number_is = refl; constraint_is = its.1 })).1 (record { member = r.member; relies = r.relies })))
     (c.loop-who.invariant owner in_graph many)
 
 pub returns : goal.returns

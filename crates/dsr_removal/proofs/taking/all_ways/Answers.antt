@@ -22,3 +22,13 @@ returns c = λ owner in_graph many same.
     let left = IsLeft c.args.left.now in
     subst (λ xs. ArePaired (λ n conj ways. AreTakenIn owner left n conj ways) xs c.loop-place.rows.items) (sym (ap (λ x. x.conjs) same))
     (paired_whole (λ n conj ways. AreTakenIn owner left n conj ways) c.args.constraint.now.conjs c.loop-place.rows.items c.loop-place.place (omega (arith, past, long)) (c.loop-place.invariant owner in_graph many same))
+
+pub conj_ways-requires-clause-there : goal.conj_ways-requires-clause-there
+conj_ways-requires-clause-there c =
+    let conjs = c.args.constraint.now.conjs in
+    let place = c.loop-place.place in
+    record {
+      its = c.args.constraint.now;
+      in_graph = c.requires.there;
+      conj_is = subst (λ xs. slice_get xs place ≡ Some c.conj-item.result) c.items-conj-items.ensures (item_at c.items-conj-items.result.now place c.conj-item.result c.loop-place-test.true c.conj-item.is);
+    }

@@ -1,61 +1,30 @@
--- A whole repair.
-use Rattle.std.proofs.Common.{[], refl, sym, subst}
-use Rattle.dsr_fixpoint.specs.Models.{IsLaidOut, IsModelOf, IsPreparedFor}
-use Rattle.dsr_meaning.specs.Consistency.{IsConsistent}
-use Rattle.dsr_repair.proofs.RunOn.{run_on, run_same}
-use Rattle.dsr_repair.proofs.StepMade.{laid_out}
-use Rattle.dsr_repair.specs.Stepping.{IsTaken}
-use Rattle.dsr_repairing.specs.Runs.IsPartRun.{begins}
-use Rattle.dsr_repairing.specs.Turns.{IsTurn}
-use Rattle.dsr_resolved.proofs.AcceptedLayouts.{legal_of}
+-- A whole repair is one run, of which laws tell the rest.
+use Rattle.std.proofs.Common.{subst}
+use Rattle.dsr_bound_laws.proofs.Runs.{run_bounded}
+use Rattle.dsr_planning.specs.Plans.{IsPlan}
+use Rattle.dsr_run_laws.proofs.RunOnce.{run_keeps, run_keeps_fixed}
 use Rattle.dsr_repair.proofs.repairs.repair.Goals as goal
 
-pub prepare-requires-clause-legal : goal.prepare-requires-clause-legal
-prepare-requires-clause-legal g c =
-    legal_of c.args.plan.now.0 (g.I.ImageBytes.bytes c.args.image.now) c.args.layout.now c.requires.image.layout_is
-    c.requires.image.typed c.requires.image.small
+pub make_steps-requires-clause-planned : goal.make_steps-requires-clause-planned
+make_steps-requires-clause-planned g c = subst (λ s. IsPlan s c.args.plan.now.1) c.spec-spec.ensures.is c.spec-spec.ensures.plan
 
-pub returns-in_err-model-clause-steps : goal.returns-in_err-model-clause-steps
-returns-in_err-model-clause-steps g c =
-    let old = g.I.ImageBytes.bytes c.args.image.now in
-    run_same c.args.plan.now.0 c.args.plan.now.1 c.args.layout.now old old old [] c.args.log.now.entries begins refl
-    c.requires.empty
+pub returns-clause-short : goal.returns-clause-short
+returns-clause-short g c =
+    run_bounded c.args.plan.now.0 c.args.plan.now.1 c.args.layout.now
+    (subst (λ s. IsPlan s c.args.plan.now.1) c.spec-spec.ensures.is c.spec-spec.ensures.plan)
+    (g.I.ImageBytes.bytes c.args.image.now) (g.I.ImageBytes.bytes c.make_steps.new.image) c.make_steps.new.log.entries
+    c.requires.image c.make_steps.ensures.steps
 
-pub rebuild-requires-clause-laid_out : goal.rebuild-requires-clause-laid_out
-rebuild-requires-clause-laid_out g c =
-    subst (λ s. IsLaidOut s c.args.layout.now (g.I.ImageBytes.bytes c.args.image.now)) (sym c.spec-2.ensures.is)
-    (laid_out c.args.plan.now.0 c.args.layout.now (g.I.ImageBytes.bytes c.args.image.now) c.requires.image)
+pub returns-clause-image : goal.returns-clause-image
+returns-clause-image g c =
+    run_keeps c.args.plan.now.0 c.args.plan.now.1 c.args.layout.now
+    (subst (λ s. IsPlan s c.args.plan.now.1) c.spec-spec.ensures.is c.spec-spec.ensures.plan)
+    (g.I.ImageBytes.bytes c.args.image.now) (g.I.ImageBytes.bytes c.make_steps.new.image) c.make_steps.new.log.entries
+    c.requires.image c.make_steps.ensures.steps
 
-pub loop-init : goal.loop-init
-loop-init g c =
-    let old = g.I.ImageBytes.bytes c.args.image.now in
-    record {
-      steps = run_same c.args.plan.now.0 c.args.plan.now.1 c.args.layout.now old old old [] c.args.log.now.entries begins refl
-          c.requires.empty;
-      modelled = record {
-        image = c.requires.image;
-        prepared = subst (λ s. IsPreparedFor s c.args.layout.now c.rebuild.new.model) c.spec-2.ensures.is c.rebuild.ensures.prepared;
-        model = subst (λ s. IsModelOf s c.args.layout.now old c.rebuild.new.model) c.spec-2.ensures.is c.rebuild.ensures.model;
-      };
-    }
-
-pub returns-in-Done-clause-ends : goal.returns-in-Done-clause-ends
-returns-in-Done-clause-ends g c =
-    let old = g.I.ImageBytes.bytes c.loop.image in
-    let new = g.I.ImageBytes.bytes c.step.new.image in
-    let taken = subst (IsTaken c.args.plan.now.0 c.args.plan.now.1 c.args.layout.now old new c.loop.log.entries c.step.new.log.entries)
-    c.in-Done.is c.in_ok-step.ensures.taken in
-    subst (IsConsistent c.args.plan.now.0 c.args.layout.now) (sym taken.bytes)
-    (subst (IsTurn c.args.plan.now.0 c.args.plan.now.1 c.args.layout.now old) c.in-Done.is c.in_ok-step.ensures.turn)
-
-pub loop-preserved : goal.loop-preserved
-loop-preserved g c =
-    let old = g.I.ImageBytes.bytes c.loop.image in
-    let new = g.I.ImageBytes.bytes c.step.new.image in
-    let taken = subst (IsTaken c.args.plan.now.0 c.args.plan.now.1 c.args.layout.now old new c.loop.log.entries c.step.new.log.entries)
-    c.in-Step.is c.in_ok-step.ensures.taken in
-    record {
-      steps = run_on c.args.plan.now.0 c.args.plan.now.1 c.args.layout.now (g.I.ImageBytes.bytes c.args.image.now) old new
-          c.loop.log.entries c.step.new.log.entries taken.entry c.loop.invariant.steps taken.made taken.pushed;
-      modelled = c.step.ensures.modelled;
-    }
+pub returns-clause-fixed : goal.returns-clause-fixed
+returns-clause-fixed g c =
+    run_keeps_fixed c.args.plan.now.0 c.args.plan.now.1 c.args.layout.now
+    (subst (λ s. IsPlan s c.args.plan.now.1) c.spec-spec.ensures.is c.spec-spec.ensures.plan)
+    (g.I.ImageBytes.bytes c.args.image.now) (g.I.ImageBytes.bytes c.make_steps.new.image) c.make_steps.new.log.entries
+    c.requires.image c.make_steps.ensures.steps

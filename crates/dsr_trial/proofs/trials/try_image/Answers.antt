@@ -22,7 +22,7 @@ returns-in-Consistent c =
     (trial_done c.args.number c.args.plan.now.0 c.args.plan.now.1 c.args.layout.now c.args.image.items
     c.requires.made c.requires.meant c.requires.taken c.requires.image run.log.entries run.image run.outcome
     (subst (λ b. IsRun c.args.plan.now.0 c.args.plan.now.1 c.args.layout.now b run.log.entries run.image run.outcome)
-    c.new-image.ensures c.in_ok-run.ensures)
+    c.new-image.ensures c.in_ok-run.ensures.run)
     c.in_ok-violated.violated.items _ _ _
     (subst (λ b. AreViolations (IsFact c.args.plan.now.0 c.args.layout.now b) c.args.plan.now.0 vs) c.new-image.ensures
     (subst (λ s. AreViolations (IsFact s c.args.layout.now c.new-image.result) s vs) c.spec.ensures.is
@@ -38,5 +38,5 @@ returns c =
     (trial_stopped c.args.number c.args.plan.now.0 c.args.plan.now.1 c.args.layout.now c.args.image.items
     c.requires.made c.requires.meant c.requires.taken c.requires.image run.log.entries run.image run.outcome
     (subst (λ b. IsRun c.args.plan.now.0 c.args.plan.now.1 c.args.layout.now b run.log.entries run.image run.outcome)
-    c.new-image.ensures c.in_ok-run.ensures)
+    c.new-image.ensures c.in_ok-run.ensures.run)
     c.in-Empty.need c.in-Empty.is)

@@ -28,7 +28,7 @@ pub loop-index-preserved : goal.loop-index-preserved
 loop-index-preserved g c =
     put_one c.cell.result c.args.value c.loop-index.invariant
     (entries_next c.args.layout.now c.args.elem c.args.field c.args.value c.loop-index.index c.args.count c.cell.result c.loop-index-test.true c.cell.ensures.cell)
-    (record { puts = c.put.ensures.put; beside = c.put.ensures.beside }) c.put.ensures.kept
+    (record { puts = c.put.ensures.put; beside = c.put.ensures.beside; bytes = c.put.ensures.bytes }) c.put.ensures.kept
 
 pub returns-clause-put : goal.returns-clause-put
 returns-clause-put g c =

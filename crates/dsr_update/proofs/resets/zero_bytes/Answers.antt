@@ -29,7 +29,7 @@ put-requires-clause-claimed g c j from before =
 
 pub loop-byte-preserved : goal.loop-byte-preserved
 loop-byte-preserved g c =
-    put_one (byte_cell c.loop-byte.byte) 0 c.loop-byte.invariant (zeros_next c.loop-byte.byte (c.args.at + c.args.count) c.loop-byte-test.true) (record { puts = c.put.ensures.put; beside = c.put.ensures.beside }) c.put.ensures.kept
+    put_one (byte_cell c.loop-byte.byte) 0 c.loop-byte.invariant (zeros_next c.loop-byte.byte (c.args.at + c.args.count) c.loop-byte-test.true) (record { puts = c.put.ensures.put; beside = c.put.ensures.beside; bytes = c.put.ensures.bytes }) c.put.ensures.kept
 
 pub returns-clause-put : goal.returns-clause-put
 returns-clause-put g c =

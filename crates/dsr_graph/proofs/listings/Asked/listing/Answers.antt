@@ -1,8 +1,9 @@
 use Rattle.std.proofs.Common.{◌≡◌, sym, ap, subst, ◌∙◌}
 use Rattle.dsr_compensate.specs.Taking.{templates_of}
 use Rattle.dsr_graph.proofs.Growing.{alike_turned}
-use Rattle.dsr_graph.proofs.Unique.{listed_alike, listed_one}
+use Rattle.dsr_graph.proofs.Unique.{listed_alike}
 use Rattle.dsr_graph.specs.Graphs.{AreOutcomesOf}
+use Rattle.dsr_listing.proofs.Unique.{listed_one}
 use Rattle.dsr_listing.specs.Lists.{AreListedOf}
 use Rattle.dsr_sides.specs.Owned.{owner_of}
 use Rattle.dsr_graph.proofs.listings.Asked.listing.Goals as goal
@@ -16,7 +17,7 @@ returns c =
     let here : AreListedOf owner first.conj first.place found = subst (AreListedOf owner first.conj first.place) (sym are) c.in_ok-judged.ensures.listed in
     record {
       listed = λ conj place its is alike. listed_alike owner first.conj first.place first.literal conj place its found c.requires.first is alike here;
-      only = λ conj place its others is alike theirs. listed_one owner _ c.requires.asked.sound.known first.conj first.place first.literal others found c.requires.first
+      only = λ conj place its others is alike theirs. listed_one owner first.conj first.place others found
           (listed_alike owner conj place its first.conj first.place first.literal others is c.requires.first (alike_turned first.literal its alike) theirs) here;
       outcomes = subst (λ ts. AreOutcomesOf owner c.args.self.now.firsts.now ts c.in_ok-outcomes.outcomes.items) (ap templates_of c.deref.ensures.value ∙ sym are) c.in_ok-outcomes.ensures;
     }

@@ -22,3 +22,15 @@ loop-number-preserved c =
     (subst (λ b. IsNext spec (IsLeftAt rounds turn.number) turn.number i constraint b c.in_ok-next.field-0) c.round_at-before.ensures
     (next_same (IsLeft left) (IsLeftAt rounds turn.number) (λ n. subst IsTrue (told n)) (λ n. subst IsTrue (sym (told n))) spec turn.number i constraint c.round_at-before.result c.in_ok-next.field-0 its))
     c.loop-number.invariant
+
+pub next-requires-clause-there : goal.next-requires-clause-there
+next-requires-clause-there c =
+    let spec = c.args.spec.now in
+    let i = c.loop-number.number in
+    let constraint = c.constraint-item.result in
+    record {
+      spec = spec;
+      graph_is = c.requires.graph;
+      constraint_is = subst (λ xs. slice_get xs i ≡ Some constraint) c.items-constraint-items.ensures (item_at c.items-constraint-items.result.now i constraint c.loop-number-test.true c.constraint-item.is);
+      as_many = sym (left_many c.args.self.now.left.now c.args.rounds.now c.args.self.now.number c.requires.left ∙ c.requires.as_many);
+    }

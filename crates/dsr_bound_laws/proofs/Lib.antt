@@ -1,0 +1,15 @@
+pub mod Bindings
+pub mod Falls
+pub mod Fewer
+pub mod Helped
+pub mod Instances
+pub mod Left
+pub mod Levels
+pub mod Promised
+pub mod RuleSizes
+pub mod Same
+pub mod Sizes
+pub mod Sublists
+pub mod There
+pub mod Whole
+pub mod Runs

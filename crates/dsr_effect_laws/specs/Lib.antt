@@ -1,0 +1,4 @@
+pub mod Allowed
+pub mod Fitting
+pub mod Judged
+pub mod Leaving

@@ -1,0 +1,3 @@
+pub mod FirstKept
+pub mod KnownSets
+pub mod Unique

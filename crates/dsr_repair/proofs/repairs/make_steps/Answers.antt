@@ -1,0 +1,74 @@
+-- The steps of a repair.
+use Rattle.std.proofs.Common.{[], length, refl, sym, ap, subst, arith}
+use Rattle.dsr_fixpoint.specs.Models.{IsLaidOut, IsModelOf, IsPreparedFor}
+use Rattle.dsr_meaning.specs.Consistency.{IsConsistent}
+use Rattle.dsr_repair.proofs.RunOn.{less_left, run_on, run_same}
+use Rattle.dsr_repair.proofs.StepMade.{laid_out}
+use Rattle.dsr_repair.specs.Stepping.{IsTaken, State, state}
+use Rattle.dsr_repairing.specs.Runs.IsPartRun.{begins}
+use Rattle.dsr_repairing.specs.Turns.{IsTurn}
+use Rattle.dsr_resolved.proofs.AcceptedLayouts.{legal_of}
+use Rattle.dsr_repair.proofs.repairs.make_steps.Goals as goal
+
+pub prepare-requires-clause-legal : goal.prepare-requires-clause-legal
+prepare-requires-clause-legal g c =
+    legal_of c.args.plan.now.0 (g.I.ImageBytes.bytes c.args.image.now) c.args.layout.now c.requires.image.layout_is
+    c.requires.image.typed c.requires.image.small
+
+pub returns-in_err-model-clause-steps : goal.returns-in_err-model-clause-steps
+returns-in_err-model-clause-steps g c =
+    let old = g.I.ImageBytes.bytes c.args.image.now in
+    run_same c.args.plan.now.0 c.args.plan.now.1 c.args.layout.now old old old [] c.args.log.now.entries begins refl
+    c.requires.empty
+
+pub rebuild-requires-clause-laid_out : goal.rebuild-requires-clause-laid_out
+rebuild-requires-clause-laid_out g c =
+    subst (λ s. IsLaidOut s c.args.layout.now (g.I.ImageBytes.bytes c.args.image.now)) (sym c.requires.spec)
+    (laid_out c.args.plan.now.0 c.args.layout.now (g.I.ImageBytes.bytes c.args.image.now) c.requires.image)
+
+pub steps-init : goal.steps-init
+steps-init g c =
+    let old = g.I.ImageBytes.bytes c.args.image.now in
+    record {
+      steps = run_same c.args.plan.now.0 c.args.plan.now.1 c.args.layout.now old old old [] c.args.log.now.entries begins refl
+          c.requires.empty;
+      modelled = record {
+        image = c.requires.image;
+        prepared = subst (λ s. IsPreparedFor s c.args.layout.now c.rebuild.new.model) c.requires.spec c.rebuild.ensures.prepared;
+        model = subst (λ s. IsModelOf s c.args.layout.now old c.rebuild.new.model) c.requires.spec c.rebuild.ensures.model;
+      };
+    }
+
+pub returns-in-Done-clause-ends : goal.returns-in-Done-clause-ends
+returns-in-Done-clause-ends g c =
+    let old = g.I.ImageBytes.bytes c.steps.image in
+    let new = g.I.ImageBytes.bytes c.step.new.image in
+    let taken = subst (IsTaken c.args.plan.now.0 c.args.plan.now.1 c.args.layout.now (state old c.steps.log.entries c.steps.model) (state new c.step.new.log.entries c.step.new.model))
+    c.in-Done.is c.in_ok-step.ensures.taken in
+    subst (IsConsistent c.args.plan.now.0 c.args.layout.now) (sym (ap (λ (s : State). s.bytes) taken))
+    (subst (IsTurn c.args.plan.now.0 c.args.plan.now.1 c.args.layout.now old) c.in-Done.is c.in_ok-step.ensures.turn)
+
+pub steps-preserved : goal.steps-preserved
+steps-preserved g c =
+    let old = g.I.ImageBytes.bytes c.steps.image in
+    let new = g.I.ImageBytes.bytes c.step.new.image in
+    let taken = subst (IsTaken c.args.plan.now.0 c.args.plan.now.1 c.args.layout.now (state old c.steps.log.entries c.steps.model) (state new c.step.new.log.entries c.step.new.model))
+    c.in-Step.is c.in_ok-step.ensures.taken in
+    record {
+      steps = run_on c.args.plan.now.0 c.args.plan.now.1 c.args.layout.now (g.I.ImageBytes.bytes c.args.image.now) old new
+          c.steps.log.entries c.step.new.log.entries taken.entry c.steps.invariant.steps taken.made taken.pushed;
+      modelled = c.step.ensures.modelled;
+    }
+
+pub steps-smaller : goal.steps-smaller
+steps-smaller g c =
+    let first = g.I.ImageBytes.bytes c.args.image.now in
+    let old = g.I.ImageBytes.bytes c.steps.image in
+    let new = g.I.ImageBytes.bytes c.step.new.image in
+    let taken = subst (IsTaken c.args.plan.now.0 c.args.plan.now.1 c.args.layout.now (state old c.steps.log.entries c.steps.model) (state new c.step.new.log.entries c.step.new.model))
+    c.in-Step.is c.in_ok-step.ensures.taken in
+    less_left c.args.plan.now.0 c.args.plan.now.1 c.args.layout.now
+    c.requires.planned first c.requires.image
+    new c.steps.log.entries c.step.new.log.entries taken.entry taken.pushed
+    (run_on c.args.plan.now.0 c.args.plan.now.1 c.args.layout.now first old new
+    c.steps.log.entries c.step.new.log.entries taken.entry c.steps.invariant.steps taken.made taken.pushed)

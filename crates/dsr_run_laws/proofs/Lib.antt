@@ -1,0 +1,4 @@
+pub mod Again
+pub mod RulesOnce
+pub mod StepOnce
+pub mod RunOnce

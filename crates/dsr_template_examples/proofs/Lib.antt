@@ -1,0 +1,3 @@
+pub mod KeptSymbols
+pub mod TriedExamples
+pub mod ListedExamples

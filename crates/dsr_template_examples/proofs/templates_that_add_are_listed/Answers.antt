@@ -1,0 +1,11 @@
+use Rattle.dsr_template_examples.proofs.ListedExamples.{added_member, added_pair, supplied_pair}
+use Rattle.dsr_template_examples.proofs.templates_that_add_are_listed.Goals as goal
+
+pub returns-clause-member : goal.returns-clause-member
+returns-clause-member c = added_member
+
+pub returns-clause-pair : goal.returns-clause-pair
+returns-clause-pair c = added_pair
+
+pub returns-clause-fresh : goal.returns-clause-fresh
+returns-clause-fresh c = supplied_pair

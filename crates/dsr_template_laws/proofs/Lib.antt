@@ -1,0 +1,16 @@
+pub mod KnownMembers
+pub mod ExclusiveSets
+pub mod TriedApplications
+pub mod FitWrites
+pub mod FitUpdates
+pub mod IndexedWrites
+pub mod AlwaysMade
+pub mod SilentRules
+pub mod FreshRecords
+pub mod MadeAsJudged
+pub mod ListedTemplates
+pub mod FewerActive
+pub mod CountedFacts
+pub mod AddedFacts
+pub mod SetValues
+pub mod Helped

@@ -1,7 +1,7 @@
 #!/usr/bin/env python3
 """Gives this checkout the libraries that `rt ci` proved and keeps, so that `rt check`, `rt try` and `rt plant` begin over them.
 
-    bench/adopt.py [CRATE ..]
+    tools/adopt.py [CRATE ..]
 
 Without it each of these proves, in a new checkout, all that stands below a crate, whatever a gate has proved. With words only these
 crates and those below them are given. A library is taken only under the key by which `rt ci` itself would take it, so one whose

@@ -1,5 +1,5 @@
 #!/usr/bin/env bash
-# Tries what a save leaves under a name: bench/saves.sh PROGRAM [SPEC]
+# Tries what a save leaves under a name: tools/saves.sh PROGRAM [SPEC]
 # Runs `PROGRAM certify SPEC CERT` where the save is killed, fails or ends well, and prints a line for each case. After each
 # run CERT has to hold its old bytes, or all of the new ones. The status is 0 if no case failed. Kills and failures
 # of system calls want strace; a full disk, other users and a device of its own want root.

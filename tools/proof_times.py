@@ -1,6 +1,6 @@
 """Where the time of a check went: seconds for each function's proof, by when its files were written.
 
-  rm -rf CRATE/out; rt check --jobs 1 (in CRATE); python3 bench/proof_times.py CRATE [COUNT]
+  rm -rf CRATE/out; rt check --jobs 1 (in CRATE); python3 tools/proof_times.py CRATE [COUNT]
 
 Only the files of one check from nothing by one job tell it.
 """

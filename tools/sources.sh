@@ -1,9 +1,9 @@
-# Functions for ./dsr, .ci/run and dist/refresh.
+# Functions for ./dsr, tools/shipped and tools/refresh.
 
 # The checksum of all that the program is proved and built from, in the tree at $1.
 sources() {
     (cd -- "$1" &&
-        find crates.txt HANDLES crates/*/{src,specs,proofs} -type f -print0 2>/dev/null | LC_ALL=C sort -z |
+        find crates.txt HANDLES crates/*/{src,specs,proofs} -type f -print0 | LC_ALL=C sort -z |
         xargs -0 sha256sum | sha256sum | cut -c 1-64)
 }
 

@@ -12,7 +12,8 @@ use Rattle.dsr_meaning.specs.Counting.{IsIn}
 use Rattle.dsr_stepping.specs.declared.steps.Step.{Step}
 use Rattle.dsr_updating.specs.Templates.{AreRawOf}
 
--- an update of a template that is tried for a literal, for the goal, is applied, and some fact is gained or lost
+-- an update of a template that is tried for a literal, for the goal, is applied, and some fact is
+-- gained or lost
 pub record Example (goal : Goal) : Type 0 where
   pub spec : Spec
   pub template : Template

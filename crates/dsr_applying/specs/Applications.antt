@@ -24,9 +24,11 @@ FactsHold spec layout bytes constraint =
     (giver : ℕ) (b : Binding) → IsIn giver (from spec constraint)
     → IsViolated (IsFact spec layout bytes) spec (record { constraint = giver; binding = b }) → ⊥
 
--- An update of a template is applied at a violated binding of a constraint, under which the template's literal is false:
--- one update is chosen with all that it leaves open, and its step makes the old bytes the new ones. The facts that
--- the constraint uses hold before.
+-- An update of a template is applied at a violated binding of a constraint, under which the
+-- template's literal is false: one update is chosen with all that it leaves open, and its step
+-- makes the old bytes the new ones. The facts that the constraint uses hold before. That the
+-- template is one that is tried for the literal stands apart, so that this serves templates with
+-- compensations as well.
 pub record IsApplied (spec : Spec) (template : Template) (update : Update) (layout : Layout) (step : Step)
     (old new : List ℕ) : Type 0 where
   pub image : IsImageOf spec layout old

@@ -1,5 +1,5 @@
--- What is chosen where a literal is false and a template is to make it true: one of its updates, the record and
--- the entry that are written, the number, and the fresh record.
+-- What is chosen where a literal is false and a template is to make it true: one of its updates,
+-- the record and the entry that are written, the number, and the fresh record.
 use Rattle.std.specs.Prelude.{◌≡◌, ℕ, zero, List, [], ◌∷◌, Option, None, Some, IsSomeAnd, MatchOption, slice_get}
 use Rattle.dsr_ir.specs.declared.constraints.Atom.{Atom}
 use Rattle.dsr_ir.specs.declared.constraints.Atom.TheVariants as atoms
@@ -60,7 +60,8 @@ Adds is_fact b atom goals.Supply = Unit {0}
 Adds is_fact b atom goals.ExactlyOne = CountsNothing is_fact b atom
 Adds is_fact b atom _ = ⊥
 
--- the update is one that takes facts away: behind that which supplies one, where there is such a one
+-- the update is one that takes facts away: behind that which supplies one, where there is such a
+-- one
 abbrev pub TakesAway : Goal → ℕ → Type 0
 TakesAway goals.RemoveSet n = Unit {0}
 TakesAway goals.RemoveTuple n = Unit {0}
@@ -69,8 +70,9 @@ TakesAway goals.ExactlyOne zero = ⊥
 TakesAway goals.ExactlyOne n = Unit {0}
 TakesAway _ n = ⊥
 
--- The update of the template, by its place, with the instance that it is to stop, if any: where the template adds or sets
--- its first; where it takes a fact away that of the rule of the first instance which gives the fact.
+-- The update of the template, by its place, with the instance that it is to stop, if any: where the
+-- template adds or sets its first; where it takes a fact away that of the rule of the first
+-- instance which gives the fact.
 pub data IsUpdateAt (spec : Spec) (layout : Layout) (bytes : List ℕ) (b : Binding) (atom : Atom)
     (template : Template) : ℕ → Update → Option Instance → Type 0 where
   adds :
@@ -85,7 +87,8 @@ pub data IsUpdateAt (spec : Spec) (layout : Layout) (bytes : List ℕ) (b : Bind
 
 -- ---- where it writes, and what
 
--- the record that is written: the head, that of a variable, or that of the instance which is stopped
+-- the record that is written: the head, that of a variable, or that of the instance which is
+-- stopped
 abbrev pub IsPlace : Binding → Option Instance → Place → Element → Type 0
 IsPlace b stopped places.Head e = e ≡ head
 IsPlace b stopped (places.Of v) e = element_of b v ≡ Some e

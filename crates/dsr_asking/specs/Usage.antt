@@ -41,7 +41,8 @@ pub data SavesOverSpec : List (List ℕ) → Type 0 where
   certificate : (spec : List ℕ) → SavesOverSpec (codes "certify" ∷ spec ∷ spec ∷ [])
   repaired : (spec image : List ℕ) → SavesOverSpec (codes "repair" ∷ spec ∷ image ∷ spec ∷ [])
 
--- the word is the number of a trial: one to five decimal digits, zeros in front included, up to 65,535
+-- the word is the number of a trial: one to five decimal digits, zeros in front included, up to
+-- 65,535
 pub record IsTrialNumber (word : List ℕ) : Type 0 where
   pub digits : (byte : ℕ) → IsIn byte word → (48 ≤ byte) × (byte ≤ 57)
   pub some : 1 ≤ length word

@@ -63,9 +63,9 @@ abbrev pub with_three : (command spec image out : List ℕ) → Option Asked
 with_three command spec image out =
     if bytes_eq command (codes "repair") then to_repair spec image out else None
 
--- What the words ask for. None where they are no command: there is no word, the first one is none of the
--- commands, not so many words stand behind it as it takes, one of these is an odd word, something is to be
--- saved over its specification, or there is no trial of the number.
+-- What the words ask for. None where they are no command: there is no word, the first one is none
+-- of the commands, not so many words stand behind it as it takes, one of these is an odd word,
+-- something is to be saved over its specification, or there is no trial of the number.
 abbrev pub command_of : List (List ℕ) → Option Asked
 command_of (command ∷ word ∷ []) = if is_odd word then None else with_one command word
 command_of (command ∷ spec ∷ file ∷ []) =

@@ -3,7 +3,8 @@
 /// The bytes before anything is put.
 pub const BYTES: [u8; 10] = [0x01, 0x23, 0x45, 0x67, 0x89, 0xab, 0xcd, 0xef, 0xf0, 0x5a];
 
-/// A cell's first bit and its width; its value; a value to put; and the bytes after that, as the digits of one number.
+/// A cell's first bit and its width; its value; a value to put; and the bytes after that, as the
+/// digits of one number.
 pub type Row = (u64, u8, u64, u64, u128);
 
 /// Whole bytes, the lowest first.

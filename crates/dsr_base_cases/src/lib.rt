@@ -1,5 +1,9 @@
-//! What the lowest crates do: plain data, cells of an image and dense rows, apart from those crates, so that they are
-//! proved without their tests. One function does the work for a row of a table.
+//! What the lowest crates do: plain data, cells of an image and dense rows, apart from those
+//! crates, so that they are proved without their tests. One function does the work for a row of a
+//! table.
+//!
+//! What is tested is owned and dropped by one function; the others ask by reference, and tell
+//! whether all is right. Each assertion is a way out, at which all that is alive has to be dropped.
 #![tactic(auto)]
 
 #[cfg(test)]

@@ -89,7 +89,8 @@ fn answers(pairs: &Pairs, question: Question) -> bool
     }
 }
 
-// Whether all is answered once the pairs are in order, and nothing is left of them when they are taken away.
+// Whether all is answered once the pairs are in order, and nothing is left of them when they are
+// taken away.
 fn all_answer(pairs: &mut Pairs, pushed: &[(u32, u64)], asked: &[Question]) -> bool {
     for (first, second) in pushed {
         push(pairs, *first, *second);

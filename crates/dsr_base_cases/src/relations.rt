@@ -81,8 +81,8 @@ fn two(alloc: Global) -> Result<Relation, AllocError>
     Ok(relation)
 }
 
-// (0, 2), (3, 0), (3, 2) and (7, 2), not in order, and one of them twice. The sources of the first targets are
-// counted, three or none.
+// (0, 2), (3, 0), (3, 2) and (7, 2), not in order, and one of them twice. The sources of the first
+// targets are counted, three or none.
 fn many(alloc: Global, is_counted: bool) -> Result<Relation, AllocError>
     ensures { IfOk result (λ relation. relation.pairs.ordered ≡ true) }
 {
@@ -96,8 +96,8 @@ fn many(alloc: Global, is_counted: bool) -> Result<Relation, AllocError>
     Ok(relation)
 }
 
-// (0, 2), (3, 0) and (7, 2), where each source has one target at most. The sources of the first targets are counted,
-// three or none.
+// (0, 2), (3, 0) and (7, 2), where each source has one target at most. The sources of the first
+// targets are counted, three or none.
 fn one(alloc: Global, is_counted: bool) -> Result<Relation, AllocError>
     ensures { IfOk result (λ relation. relation.pairs.ordered ≡ true) }
 {
@@ -127,8 +127,8 @@ fn answers(relation: &Relation, question: Question) -> bool
     }
 }
 
-// Whether all is answered, and nothing is left of the pairs when they are taken away. The one function that drops a
-// relation, since that costs most to prove.
+// Whether all is answered, and nothing is left of the pairs when they are taken away. The one
+// function that drops a relation, since that costs most to prove.
 fn all_answer(related: Result<Relation, AllocError>, asked: &[Question]) -> bool
     requires { IfOk related (λ relation. relation.pairs.ordered ≡ true) }
 {

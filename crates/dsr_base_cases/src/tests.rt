@@ -1,4 +1,5 @@
-// One test without `?`, since a test costs more to prove than what it calls. A failure tells which call it was.
+// One test without `?`, since a test costs more to prove than what it calls. A failure tells which
+// call it was.
 use crate::{cells, copies, functional, layouts, marks, numbers, orders, pairs, relations};
 
 #[test]

@@ -23,7 +23,8 @@ use Rattle.dsr_bound_laws.specs.Bounds.{binding_cost, conj_cost, constraint_cost
 
 -- ---- what a template takes away
 
--- so many active instances of rules that give facts of the symbol are left to be stopped; none where the template adds, sets or supplies
+-- so many active instances of rules that give facts of the symbol are left to be stopped; none
+-- where the template adds, sets or supplies
 abbrev pub AreToStop : Spec → Layout → List ℕ → Symbol → Goal → ℕ → Type 0
 AreToStop spec layout bytes symbol goals.RemoveSet n = AreMany (IsActiveFor spec layout bytes symbol) n
 AreToStop spec layout bytes symbol goals.RemoveTuple n = AreMany (IsActiveFor spec layout bytes symbol) n
@@ -62,9 +63,9 @@ higher_cost m level _ _ = 0
 
 -- ---- all of it
 
--- What remains where this literal of this constraint is due at this binding: what is to be stopped for the literal, the other
--- false literals of its conjunction, the conjunctions before that, the other violated bindings of the level, and
--- all that constraints on higher levels may come to.
+-- What remains where this literal of this constraint is due at this binding: what is to be stopped
+-- for the literal, the other false literals of its conjunction, the conjunctions before that, the
+-- other violated bindings of the level, and all that constraints on higher levels may come to.
 pub record IsLeft (spec : Spec) (choice : Choice) (layout : Layout) (bytes : List ℕ) (m : ℕ) (v : BoundConstraint)
     (constraint : Constraint) (row : Row) (conj literal : ℕ) (its : Literal) (template : Template) (n : ℕ) : Type 0 where
   pub binding_is : IsDueBinding (IsFact spec layout bytes) spec choice v constraint row

@@ -1,4 +1,5 @@
--- Which constraints a template may break, which literal it may falsify, and on which constraints one relies.
+-- Which constraints a template may break, which literal it may falsify, and on which constraints
+-- one relies.
 use Rattle.std.specs.Prelude.{◌≡◌, ◌≢◌, ◌<◌, ℕ, nat_eq, List, [], ◌∷◌, Option, None, Some, MatchOption}
 use Rattle.dsr_ir.specs.declared.constraints.Literal.{Literal}
 use Rattle.dsr_ir.specs.declared.declarations.Spec.{Spec}
@@ -24,7 +25,8 @@ pub record MayBreakBy (owner other : Owner) (cause : Cause) (c : Change) : Type 
   pub happens : MayHappen c cause.reason
   pub not_excused : IsExcused owner other c cause → ⊥
 
--- the reason of the first such cause, if there is one
+-- the reason of the first such cause, if there is one; of a template with several updates the first
+-- cause in order counts, whichever of them it comes from
 pub data IsFirstReason (Such : Cause → Type 0) : List Cause → Option Reason → Type 0 where
   none : IsFirstReason Such [] None
   first : {causes : List Cause} → (cause : Cause) → Such cause → IsFirstReason Such (cause ∷ causes) (Some cause.reason)
@@ -32,7 +34,8 @@ pub data IsFirstReason (Such : Cause → Type 0) : List Cause → Option Reason 
       {causes : List Cause} {reason : Option Reason} → (cause : Cause) → (Such cause → ⊥)
       → IsFirstReason Such causes reason → IsFirstReason Such (cause ∷ causes) reason
 
--- the first reason for which the template of the one constraint breaks the other; none where it can't
+-- the first reason for which the template of the one constraint breaks the other; none where it
+-- can't
 abbrev pub Breaks : Owner → Owner → Template → Option Reason → Type 0
 Breaks owner other template reason =
     IsFirstReason (λ cause. SomeUpdate owner template (MayBreakBy owner other cause))

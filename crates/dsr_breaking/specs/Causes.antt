@@ -40,7 +40,8 @@ loss symbol at = record { reason = Loss symbol; at = at }
 
 -- ---- sizes
 
--- the targets of a variable are read at its record; members, and the sources of a variable, are counted of all records
+-- the targets of a variable are read at its record; members, and the sources of a variable, are
+-- counted of all records
 abbrev pub read_at : Measure → Option Var
 read_at (Whole set) = None
 read_at (Out v rel) = Some v
@@ -101,8 +102,9 @@ abbrev pub is_once : Quant → Bool
 is_once Once = true
 is_once _ = false
 
--- What may break the constraint, in order: more bindings, and then what may turn one of its literals false. Its own updates are
--- made where it is violated, so that without a quantifier, where there is one binding, they break nothing.
+-- What may break the constraint, in order: more bindings, and then what may turn one of its
+-- literals false. Its own updates are made where it is violated, so that without a quantifier,
+-- where there is one binding, they break nothing.
 abbrev pub constraint_causes : Bool → Constraint → List Cause
 constraint_causes its_own c =
     quantifier_causes c.quant

@@ -1,5 +1,5 @@
--- Changes by which an update can't break a constraint, since they are of other records than the constraint reads, or of the
--- binding alone for which the update is made.
+-- Changes by which an update can't break a constraint, since they are of other records than the
+-- constraint reads, or of the binding alone for which the update is made.
 use Rattle.std.specs.Prelude.{◌≡◌, ℕ, IsSomeAnd, IsTrue}
 use Rattle.dsr_ir.specs.declared.constraints.Quant.{Quant}
 use Rattle.dsr_ir.specs.declared.constraints.Quant.TheVariants.{Once, Each, Pairs}
@@ -26,20 +26,23 @@ use Rattle.dsr_breaking.specs.declared.causes.Reason.{Reason}
 abbrev pub MayHappen : Change → Reason → Type 0
 MayHappen c reason = (tag : Tag) × InTable c (direction_of reason) (symbol_of reason) tag
 
--- it does so at this record alone, if at all
+-- it does so at this record alone, if at all; it is said of the least table, and so asks nothing of
+-- an image
 abbrev pub HappensOnlyAt : Change → Reason → Tag → Type 0
 HappensOnlyAt c reason tag =
     (other : Tag) → InTable c (direction_of reason) (symbol_of reason) other → other ≡ tag
 
 -- ---- what is known of the variables of two constraints, by the facts that the first one uses
 
--- each record is the source of one pair at most, where the relation is functional, or the target, where each has one source
+-- each record is the source of one pair at most, where the relation is functional, or the target,
+-- where each has one source
 abbrev pub IsEndOnce : Owner → ℕ → Var → Type 0
 IsEndOnce owner rel Head = ⊥
 IsEndOnce owner rel First = IsTrue (is_functional owner.spec rel)
 IsEndOnce owner rel Second = IsIn rel (injective owner.spec owner.number)
 
--- each record is bound to the variable in one binding at most; the head is where there is no quantifier
+-- each record is bound to the variable in one binding at most; the head is where there is no
+-- quantifier
 abbrev pub IsBoundOnce : Owner → Quant → Var → Type 0
 IsBoundOnce owner Once Head = Unit {0}
 IsBoundOnce owner (Each set) First = Unit {0}
@@ -76,7 +79,8 @@ pub record AreSecondsApart (owner other : Owner) (v at : Var) : Type 0 where
   pub other_second : at ≡ Second
   pub apart : AreTargetsApart owner other
 
--- what happens at the record of the one constraint's variable doesn't bear on what the other reads at its own
+-- what happens at the record of the one constraint's variable doesn't bear on what the other reads
+-- at its own
 pub data IsExcusedAtRecord (owner other : Owner) (v at : Var) : Type 0 where
   own : IsSameBinding owner other v at → IsExcusedAtRecord owner other v at
   different : AreDifferentRecords owner other v at → IsExcusedAtRecord owner other v at
@@ -88,7 +92,8 @@ IsExcusedAtPlace owner other places.Head at = IsSameBinding owner other Head at
 IsExcusedAtPlace owner other (places.Of v) at = IsExcusedAtRecord owner other v at
 IsExcusedAtPlace owner other places.Deriver at = ⊥
 
--- nor what happens at the slot of the entry that is written; in the first version only its own binding excuses it
+-- nor what happens at the slot of the entry that is written; in the first version only its own
+-- binding excuses it
 pub data IsExcusedAtSlot (owner other : Owner) (v at : Var) : Type 0 where
   own : IsSameBinding owner other v at → IsExcusedAtSlot owner other v at
   different :

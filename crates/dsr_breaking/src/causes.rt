@@ -10,7 +10,8 @@ pub enum Reason {
     Loss(Symbol),
 }
 
-/// A reason, with the variable at whose record the set or the relation is read.
+/// A reason, with the variable at whose record the set or the relation is read. So the gain of a
+/// quantifier, which nothing excuses, is a cause like the others.
 #[derive(Clone, Copy, PartialEq, Eq)]
 pub struct Cause {
     pub reason: Reason,

@@ -83,7 +83,8 @@ certificate_text spec choice = ended_lines (certificate_lines spec choice)
 
 -- ---- which text is that of a choice
 
--- the levels that a certificate may say are below this: no plan has more levels than there may be constraints
+-- the levels that a certificate may say are below this: no plan has more levels than there may be
+-- constraints, so every plan that is taken can be written and read back
 abbrev pub level_bound : Spec → ℕ
 level_bound spec = if nat_eq spec.base.version 2 then 128 else 64
 
@@ -113,7 +114,8 @@ NamesWays owner row =
     → literal_at owner.constraint conj literal ≡ Some its → way_at row conj literal ≡ Some way
     → NamesWay owner conj literal its way
 
--- the text is that of the choice, line by line, which has no level that is too high and no template that isn't listed
+-- the text is that of the choice, line by line, which has no level that is too high and no template
+-- that isn't listed
 pub record IsReadAs (spec : Spec) (text : List ℕ) (choice : Choice) : Type 0 where
   pub fits : Fits spec choice
   pub text_is : text ≡ certificate_text spec choice

@@ -35,7 +35,8 @@ constraint_forms n constraint = OfConstraint n ∷ conjs_forms n constraint
 abbrev pub constraints_forms : Spec → List Form
 constraints_forms spec = each_at constraint_forms 0 spec.constraints
 
--- those of all lines
+-- Those of all lines. They follow from the specification alone, so the first line that is wrong is
+-- one definition, and a text that ends early is wrong at the line that isn't there.
 abbrev pub forms : Spec → List Form
 forms spec = Heading ∷ (constraints_forms spec ++ Ending ∷ [])
 
@@ -66,7 +67,8 @@ pub data IsOfForm (spec : Spec) : Form → List ℕ → Type 0 where
 
 -- ---- templates
 
--- no template has this number among those that are listed
+-- No template has this number among those that are listed. `way 0`, or any number for which no
+-- template is listed, of however many digits, is of the form; one with a zero in front isn't.
 abbrev pub NamesNone : Owner → ℕ → ℕ → List ℕ → Type 0
 NamesNone owner conj literal digits =
     (number : ℕ) (template : Template) → IsListedAt owner conj literal number template

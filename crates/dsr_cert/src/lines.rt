@@ -24,7 +24,8 @@ pub fn behind<'a>(text: &'a [u8], front: &[u8]) -> Option<&'a [u8]>
     text.strip_prefix(front)
 }
 
-/// The line with this place, without its line feed; none where there is no such line, or it has none.
+/// The line with this place, without its line feed; none where there is no such line, or it has
+/// none.
 pub fn line_at<'a>(lines: &[&'a [u8]], at: usize) -> Option<&'a [u8]>
     ensures { MatchOption result
         ((line : List ℕ) → slice_get (texts_of lines.now) at ≡ Some (ended line) → ⊥)

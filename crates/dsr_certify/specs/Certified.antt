@@ -20,7 +20,8 @@ certified_answer choice = record {
   text = codes "certified " ++ decimal (level_count choice.rows) ++ codes "\n";
 }
 
--- the certificate of the plan that is taken, with what is told of it; or the answer that there is no plan
+-- the certificate of the plan that is taken, with what is told of it; or the answer that there is
+-- no plan
 abbrev pub IsCertified : Spec → Certified → Type 0
 IsCertified spec (Certificate bytes told) =
     (choice : Choice) × IsTaken spec choice × (bytes.items ≡ certificate_text spec choice)

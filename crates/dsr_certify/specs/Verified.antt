@@ -26,7 +26,8 @@ pub record IsReadOnce (spec : Spec) (text : List ℕ) (choice : Choice) : Type 0
 abbrev pub valid_answer : Answer
 valid_answer = record { verdict = verdicts.Ok; text = codes "valid\n" }
 
--- the text is a certificate; or its first line that is wrong is told; or it is that of a choice whose first flaw is told
+-- the text is a certificate; or its first line that is wrong is told; or it is that of a choice
+-- whose first flaw is told
 pub data IsVerifyAnswer (spec : Spec) (text : List ℕ) : Answer → Type 0 where
   valid : IsCertificate spec text → IsVerifyAnswer spec text valid_answer
   wrong :

@@ -19,7 +19,8 @@ fn push_named(text: &mut Vec<u8>, word: &[u8], spec: &Spec, constraint: u32) -> 
     push(text, constraint_name(spec, constraint))
 }
 
-// Appends a word, a constraint's name, and the numbers of a conjunction and a literal, counted from 1.
+// Appends a word, a constraint's name, and the numbers of a conjunction and a literal, counted from
+// 1.
 fn push_literal(
     text: &mut Vec<u8>,
     word: &[u8],

@@ -8,7 +8,8 @@ use Rattle.dsr_meaning.specs.Models.{IsFact}
 use Rattle.dsr_meaning.specs.Refusals.{IsLayoutOf, Refusal, first_of, refusals}
 use Rattle.dsr_script.specs.Scripts.{Answer}
 
--- the image has no layout, and the first reason is told; or it has one, and exactly the violated bindings are told
+-- the image has no layout, and the first reason is told; or it has one, and exactly the violated
+-- bindings are told
 pub data IsCheckAnswer (spec : Spec) (image : List ℕ) : Answer → Type 0 where
   refused : (refusal : Refusal) → first_of (refusals spec image) ≡ Some refusal
       → IsCheckAnswer spec image (layout_answer spec refusal)

@@ -9,11 +9,11 @@ use Rattle.dsr_script.specs.Outside.{Outside}
 use Rattle.dsr_script.specs.Runs.{Runs}
 use Rattle.dsr_script.specs.declared.status.Status.{Status}
 
--- What is so of the words of the command line, of what stands outside before and after (files, output, and the calls that
--- failed), and of the status with which the program ends.
+-- What is so of the words of the command line, of what stands outside before and after (files,
+-- output, and the calls that failed), and of the status with which the program ends.
 pub record Headline (words : List (List ℕ)) (before after : Outside) (status : Status) : Type 0 where
-  -- files are loaded and saved, and the answer is put, just as the script of the command that the words ask for says, up to
-  -- the first call that fails
+  -- files are loaded and saved, and the answer is put, just as the script of the command that the
+  -- words ask for says, up to the first call that fails
   pub runs : Runs (asked words) before after status
   -- each way to end tells what it says of the outside: no file is changed but what the script saves
   pub causes : Causes (asked words) before after status
@@ -22,21 +22,22 @@ pub record Headline (words : List (List ℕ)) (before after : Outside) (status :
   -- `check` calls an image consistent exactly where it is, and tells exactly its violated bindings
   pub images : ChecksImages words before after status
   pub nothing_else : ChecksNothingElse words before after status
-  -- `plan` accepts a specification exactly where it has a plan, and tells the levels of the one that is taken, or the largest
-  -- set of constraints that are stuck
+  -- `plan` accepts a specification exactly where it has a plan, and tells the levels of the one
+  -- that is taken, or the largest set of constraints that are stuck
   pub plans : FindsPlans words before after status
   pub no_other_plans : FindsNothingElse words before after status
   -- `certify` saves the certificate of that plan, which is valid, or nothing where there is none
   pub certificates : CertifiesPlans words before after status
   pub no_other_certificates : CertifiesNothingElse words before after status
-  -- `verify` calls a certificate valid exactly where it is that of a plan, and tells its first fault otherwise
+  -- `verify` calls a certificate valid exactly where it is that of a plan, and tells its first
+  -- fault otherwise
   pub verified : VerifiesCertificates words before after status
   pub no_others_verified : VerifiesNothingElse words before after status
   -- `text` prints the canonical text of the specification that was asked for
   pub texts : PrintsTexts words before after status
-  -- `repair` saves exactly what the due steps by the plan that is taken lead to, within the bound, which is consistent and has
-  -- the layout; or tells that there is no plan, no layout, or nothing in the supply that the next step needs, exactly where
-  -- that is so
+  -- `repair` saves exactly what the due steps by the plan that is taken lead to, within the bound,
+  -- which is consistent and has the layout; or tells that there is no plan, no layout, or nothing
+  -- in the supply that the next step needs, exactly where that is so
   pub repairs : RepairsImages words before after status
   pub no_other_repairs : RepairsNothingElse words before after status
   -- what it saved is consistent by every `check` under the same specification

@@ -31,8 +31,8 @@ left (stages.Damaged spec choice out) = 0
 left (stages.Verify certificate) = 1
 left (stages.Certificate spec) = 0
 
--- an image and a certificate are waited for with a typed specification, and an image that is to be repaired
--- with the plan that is taken; an image isn't longer than any may be
+-- an image and a certificate are waited for with a typed specification, and an image that is to be
+-- repaired with the plan that is taken; an image isn't longer than any may be
 abbrev pub is_ready : Waiting → List ℕ → Type 0
 is_ready stages.Text bytes = ⊤
 is_ready stages.Plan bytes = ⊤

@@ -47,7 +47,8 @@ pub enum Waiting<'a> {
         image: &'a str,
         out: &'a str,
     },
-    /// `repair`, for the image, with the specification that the text means and the choice that is its plan.
+    /// `repair`, for the image, with the specification that the text means and the choice that is
+    /// its plan.
     Damaged {
         spec: Spec,
         choice: Choice,
@@ -286,7 +287,8 @@ impl<'a> Stage<'a> for Waiting<'a> {
     }
 }
 
-// What a command does first: a trial is told, and each other one loads the text of its specification.
+// What a command does first: a trial is told, and each other one loads the text of its
+// specification.
 fn first_move<'a>(alloc: Global, command: Command<'a>) -> Result<Move<'a, Waiting<'a>>, NoMemory>
     ensures ready { IfOk result (λ move. IsReady is_ready move) }
     ensures follows { IfOk result (λ move. Follows due (script_of (Some (asked_of command.entry))) move) }

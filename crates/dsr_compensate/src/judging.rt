@@ -26,7 +26,8 @@ impl Drop for Judged {
     }
 }
 
-// What the update with this place is for: of a template for exactly one the first supplies, and the others trim.
+// What the update with this place is for: of a template for exactly one the first supplies, and the
+// others trim.
 fn goal_at(goal: Goal, place: usize) -> Goal
     ensures { result ≡ owners.goal_at goal place }
 {

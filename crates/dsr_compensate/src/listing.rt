@@ -28,7 +28,8 @@ fn is_among(listed: &[Judged], template: &Template) -> bool
     false
 }
 
-/// Puts the template behind those that are listed, where there is room for it, it is none of them, and it is kept.
+/// Puts the template behind those that are listed, where there is room for it, it is none of them,
+/// and it is kept.
 pub fn take(
     alloc: Global,
     owner: &Owner,

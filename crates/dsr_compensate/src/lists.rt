@@ -19,8 +19,8 @@ fn literal_at(constraint: &Constraint, conj: u32, literal: u32) -> Option<Litera
     conj.literals.items().get(literal as usize).copied()
 }
 
-/// The templates that are listed for the literal with these numbers of the constraint, at most 64, each with what its
-/// updates may change; none where there is no such literal.
+/// The templates that are listed for the literal with these numbers of the constraint, at most 64,
+/// each with what its updates may change; none where there is no such literal.
 pub fn listed(
     alloc: Global,
     owner: &Owner,

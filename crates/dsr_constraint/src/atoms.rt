@@ -99,7 +99,8 @@ impl Scope<'_> {
         }
     }
 
-    // Whether a relation has another source than the first variable, or other targets than the second.
+    // Whether a relation has another source than the first variable, or other targets than the
+    // second.
     fn pairs_others(&self, first: &Var, second: &Var, rel: Option<&Rel>) -> bool
         ensures { result ≡ pairs_others (scope_told self.now) first.now second.now
             (option_map (λ r. r.now) rel.entry) }

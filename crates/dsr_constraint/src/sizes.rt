@@ -28,7 +28,8 @@ impl Scope<'_> {
         self.relation_of(var).is_some() && self.named_variable(&part.name).is_some()
     }
 
-    // Where a size of two names is told that it counts nothing: at the second one where the first is known.
+    // Where a size of two names is told that it counts nothing: at the second one where the first
+    // is known.
     fn unknown_place(&self, first: &PlacedName, part: &PlacedName) -> u64
         ensures { result ≡ unknown_place (scope_told self.now) first.now part.now }
     {

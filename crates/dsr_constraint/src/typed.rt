@@ -219,7 +219,8 @@ fn constraints_among(
 /// declarations; complements have given way to their bases. `At` tells the fault with the least
 /// place, and of several there the one of the least condition; the conditions are those of a name
 /// that is declared twice or stands for nothing, of a limit, of pools and kinds that disagree, of a
-/// constant that is too wide, of `not` over a size or a value, and of a normal form that is too large.
+/// constant that is too wide, of `not` over a size or a value, and of a normal form that is too
+/// large.
 pub fn constraints(
     alloc: Global,
     tree: &Tree,

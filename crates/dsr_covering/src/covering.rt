@@ -33,7 +33,10 @@ fn covers_from(
     covers_from(atoms, constraint, tests, truths, place + 1)
 }
 
-/// Whether some conjunction passes its tests, whatever is true; a mark tells of each literal whether it is tested.
+/// Whether some conjunction passes its tests, whatever is true; a mark tells of each literal
+/// whether it is tested. It goes through the truth values of the different atoms, of which a
+/// constraint has eight at most, and not over literals, which conjunctions repeat: 256 looks at
+/// most.
 pub fn covers(alloc: Global, constraint: &Constraint, tests: &[Seq<bool>]) -> Result<bool, NoMemory>
     ensures { IfOk result (λ covered. Decides covered (Covers constraint.now (said.IsTested tests.now))) }
 {

@@ -19,7 +19,8 @@ Tests rule path = (guard : Guard) × IsIn guard rule.guards × (guard.path ≡ p
 abbrev pub Reads : Rule → Path → Type 0
 Reads rule path = Tests rule path ⊎ (target_of rule.inc ≡ Some path)
 
--- at each instance of a rule, each path that the rule reads has the same value in both images, or none in both
+-- at each instance of a rule, each path that the rule reads has the same value in both images, or
+-- none in both
 abbrev pub ReadTheSame : Spec → Layout → List ℕ → List ℕ → Type 0
 ReadTheSame spec layout a b =
     (rule : Rule) (i : Instance) (path : Path) → IsIn rule spec.rules

@@ -1,4 +1,5 @@
--- The conjunction and its literal that are to be repaired, found by going over them with the ways of a row.
+-- The conjunction and its literal that are to be repaired, found by going over them with the ways
+-- of a row.
 use Rattle.std.specs.Prelude.{◌≡◌, ◌<◌, ℕ, List, [], Some, slice_get}
 use Rattle.std.specs.Option.{option_map_or}
 use Rattle.dsr_ir.specs.declared.constraints.Conj.{Conj}

@@ -15,7 +15,8 @@ use Rattle.dsr_repairing.specs.Due.{IsDueBinding}
 abbrev pub bound_of : Violation → BoundConstraint
 bound_of found = record { constraint = found.constraint; binding = found.binding }
 
--- of the violated bindings of the first constraints, so many of them, the one that is to be repaired first
+-- of the violated bindings of the first constraints, so many of them, the one that is to be
+-- repaired first
 pub record IsBest (is_fact : Fact → Type 0) (spec : Spec) (choice : Choice) (count : ℕ) (found : Violation) : Type 0 where
   pub row : Row
   pub row_is : slice_get choice.rows found.constraint ≡ Some row

@@ -1,4 +1,5 @@
-//! Which step is due on an image by a plan: exactly the one that the definitions choose, without memory.
+//! Which step is due on an image by a plan: exactly the one that the definitions choose, without
+//! memory.
 #![tactic(auto)]
 
 mod bindings;

@@ -68,7 +68,8 @@ fn ways_of(row: &Row, conj: usize) -> &[Way]
     }
 }
 
-/// The first conjunction whose tested literals are true, with its place and the ways of its literals.
+/// The first conjunction whose tested literals are true, with its place and the ways of its
+/// literals.
 pub fn first_passing<'a>(
     model: &Model,
     constraint: &'a Constraint,

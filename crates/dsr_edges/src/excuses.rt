@@ -32,7 +32,8 @@ pub struct Excuses {
 }
 
 impl Excuses {
-    /// Of the constraint whose updates are made, which uses these facts, and the one that they may break.
+    /// Of the constraint whose updates are made, which uses these facts, and the one that they may
+    /// break.
     pub fn new(facts: &Facts, owner: &Owner, other: &Owner) -> Excuses
         requires sound { IsSound owner.now }
         requires other_sound { IsSound other.now }
@@ -57,7 +58,8 @@ impl Excuses {
         self.is_same
     }
 
-    // Whether what happens at a variable's record is read in the binding alone for which the update is made.
+    // Whether what happens at a variable's record is read in the binding alone for which the update
+    // is made.
     fn excuses_binding(&self, var: Var, at: Var) -> bool
         ensures { (owner other : OwnerOf) → TellsExcuses owner other self.now
             → Decides result (IsSameBinding owner other var at) }
@@ -133,7 +135,8 @@ impl Excuses {
         }
     }
 
-    // Whether it does so at the written record alone, where that doesn't bear on what is read at the variable.
+    // Whether it does so at the written record alone, where that doesn't bear on what is read at
+    // the variable.
     fn excuses_written(&self, place: Place, tags: Tags, at: Var) -> bool
         ensures { (owner other : OwnerOf) (c : ChangeOf) (reason : ReasonOf)
             → TellsExcuses owner other self.now → AreTagsOf c reason tags

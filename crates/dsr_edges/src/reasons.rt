@@ -37,7 +37,8 @@ fn some_may_break(owner: &Owner, excuses: &Excuses, judged: &Judged, cause: &Cau
     false
 }
 
-/// The first reason for which the template breaks the other constraint, which may be broken by these causes.
+/// The first reason for which the template breaks the other constraint, which may be broken by
+/// these causes.
 pub fn first_reason(
     owner: &Owner,
     excuses: &Excuses,

@@ -12,7 +12,8 @@ use Rattle.dsr_meaning.specs.Typed.{IsTyped, IsTypedQuant}
 use Rattle.dsr_updating.specs.Changes.{Change}
 use Rattle.dsr_updating.specs.Known.{IsKnown}
 
--- the variable's record is known to be a member of a set with which this one has no member in common
+-- the variable's record is known to be a member of a set with which this one has no member in
+-- common
 abbrev pub IsApartFrom : Spec → Quant → List (ℕ × ℕ) → Var → ℕ → Type 0
 IsApartFrom spec quant exclusive v set =
     (other : ℕ) × IsKnown spec quant v other × IsIn (set, other) exclusive

@@ -19,7 +19,8 @@ use Rattle.dsr_updating.specs.Changes.{Change}
 use Rattle.dsr_updating.specs.Together.{MayStandTogether}
 use Rattle.dsr_updating.specs.Touching.{is_removal}
 
--- what is picked is of the field's kind: a number, or none or a slot of the pool to which the field refers
+-- what is picked is of the field's kind: a number, or none or a slot of the pool to which the field
+-- refers
 abbrev pub IsPickFor : Layout → Step → Field → Pick → Type 0
 IsPickFor layout step field (Num n) = kind_pool field.kind ≡ None
 IsPickFor layout step field NoneCode = IsSome (kind_pool field.kind)

@@ -35,7 +35,8 @@ pub record IsTaken (c : Change) (layout : Layout) (old : List ℕ) (e : Element)
   pub outside :
       (set : ℕ) → IsIn set (named_by (fresh_pool c)) → IsDerived c.spec layout old (Member set e) → ⊥
 
--- what must be so of a step and of the bytes before it, for the update to change no more than it is judged to
+-- what must be so of a step and of the bytes before it, for the update to change no more than it is
+-- judged to
 pub record IsMadeAsJudged (c : Change) (layout : Layout) (step : Step) (old new : List ℕ) : Type 0 where
   pub typed : IsTyped c.spec
   pub legal : IsLegalLayout layout

@@ -1,7 +1,6 @@
-//! What a step may change in the model of an image lies in the table of its update: laws on steps. Each is the
-//! contract of a function that does nothing when it runs.
-//! What a step leaves of the cells that instances read: laws on steps. Each is the contract of a function that does
-//! nothing when it runs.
+//! Laws on steps: that what a step may change in the model of an image lies in the table of its
+//! update, and what a step leaves of the cells that instances read. Each is the contract of a
+//! function that does nothing when it runs.
 #![tactic(auto)]
 
 ghost use Rattle.dsr_applying.specs.Changed.{IsGained, IsLost};
@@ -24,8 +23,8 @@ ghost use Rattle.dsr_updating.specs.Changes.{Change};
 ghost use Rattle.dsr_updating.specs.declared.effects.Direction.TheVariants.{Gain, Loss};
 ghost use Rattle.std.specs.Prelude.{List, ℕ, length};
 
-/// Where a step is made as its update is judged, each fact that is gained or lost lies in the table,
-/// under its symbol, with a tag that allows its record.
+/// Where a step is made as its update is judged, each fact that is gained or lost lies in the
+/// table, under its symbol, with a tag that allows its record.
 pub fn changes_lie_in_the_table()
     ensures gains { (c : Change) (layout : Layout) (step : Step) (old new : List ℕ)
         → IsMadeAsJudged c layout step old new → (fact : Fact) → IsGained c.spec layout old new fact
@@ -45,8 +44,9 @@ pub fn facts_that_change_lie_in_the_table()
         → (IsFact c.spec layout new fact → ⊥) → Lies c step Loss fact }
 {}
 
-/// What no tag of its symbol allows among the gains is there afterwards only where it was, and given
-/// only by what gave it; what none allows among the losses stays, and is given by what gave it.
+/// What no tag of its symbol allows among the gains is there afterwards only where it was, and
+/// given only by what gave it; what none allows among the losses stays, and is given by what gave
+/// it.
 pub fn what_no_tag_allows_stays()
     ensures gains { (c : Change) (layout : Layout) (step : Step) (old new : List ℕ)
         → IsMadeAsJudged c layout step old new → (fact : Fact) → (Lies c step Gain fact → ⊥)
@@ -62,8 +62,8 @@ pub fn what_no_tag_allows_stays()
         → IsDerivedBy c.spec layout old i fact → IsDerivedBy c.spec layout new i fact }
 {}
 
-/// A step that can be made as its update is judged leaves all that instances read as the update is judged
-/// to leave it.
+/// A step that can be made as its update is judged leaves all that instances read as the update is
+/// judged to leave it.
 pub fn steps_leave_what_is_judged()
     ensures { (c : Change) (layout : Layout) (step : Step) (old new : List ℕ)
         → IsFitStep c layout step old new → IsLeftAs c layout step old new }

@@ -7,7 +7,8 @@ use Rattle.dsr_text.specs.Faults.{IsToldOf}
 use Rattle.dsr_faults.specs.declared.refusals.SpecFault.{SpecFault}
 use Rattle.dsr_faults.specs.declared.refusals.SpecFault.TheVariants as spec_faults
 
--- the refusal tells the kind and the place of the fault of a list that is told; want of memory says nothing
+-- the refusal tells the kind and the place of the fault of a list that is told; want of memory says
+-- nothing
 abbrev pub Tells : List Fault → SpecFault → Type 0
 Tells faults (spec_faults.At kind place) =
     (c : Condition) × (kind ≡ kind_number c)

@@ -1,4 +1,5 @@
-//! The fault that is told of a specification, among all that hold in it, and the refusal that says it.
+//! The fault that is told of a specification, among all that hold in it, and the refusal that says
+//! it.
 #![tactic(auto)]
 
 mod refusals;

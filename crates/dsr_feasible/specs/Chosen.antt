@@ -9,8 +9,8 @@ use Rattle.dsr_ir.specs.declared.updates.Update.{Update}
 use Rattle.dsr_meaning.specs.Truth.{HasVariable}
 use Rattle.dsr_meaning.specs.Typed.{pool_at}
 
--- the record and the entry that the update writes are there, the variable whose size it writes is bound, and the pool of
--- its fresh record has a supply
+-- the record and the entry that the update writes are there, the variable whose size it writes is
+-- bound, and the pool of its fresh record has a supply
 pub record IsComplete (spec : Spec) (b : Binding) (stopped : Option Instance) (update : Update) : Type 0 where
   pub elem : Element
   pub place : IsPlace b stopped update.place elem

@@ -16,8 +16,8 @@ ghost use Rattle.dsr_planning.specs.declared.choices.Choice.{Choice};
 ghost use Rattle.dsr_repairing.specs.Due.{IsDue};
 ghost use Rattle.dsr_stepping.specs.Images.{IsImageOf};
 
-/// Where the template of the literal that is to become true next adds nothing, there is a fact that is to go, and
-/// a chain of instances gives it.
+/// Where the template of the literal that is to become true next adds nothing, there is a fact that
+/// is to go, and a chain of instances gives it.
 pub fn facts_to_go_are_there()
     ensures { (spec : Spec) (choice : Choice) (layout : Layout) (bytes : List ℕ) (v : BoundConstraint)
         (conj literal : ℕ) (its : Literal) (template : Template) → IsImageOf spec layout bytes
@@ -27,8 +27,8 @@ pub fn facts_to_go_are_there()
         × IsDerived spec layout bytes fact }
 {}
 
-/// Where it adds, it has a first update; and where it takes a fact away, an update by the rule of each
-/// instance that gives the fact.
+/// Where it adds, it has a first update; and where it takes a fact away, an update by the rule of
+/// each instance that gives the fact.
 pub fn updates_are_there()
     ensures adds { (spec : Spec) (choice : Choice) (layout : Layout) (bytes : List ℕ) (v : BoundConstraint)
         (conj literal : ℕ) (its : Literal) (template : Template) → IsImageOf spec layout bytes
@@ -45,8 +45,8 @@ pub fn updates_are_there()
         × (slice_get template.updates n ≡ Some update) × (update.rule ≡ i.rule) }
 {}
 
-/// Of the update that is chosen, the record and the entry are there, the variable whose size is written is bound, and
-/// the pool of the fresh record has a supply.
+/// Of the update that is chosen, the record and the entry are there, the variable whose size is
+/// written is bound, and the pool of the fresh record has a supply.
 pub fn choices_are_complete()
     ensures { (spec : Spec) (choice : Choice) (layout : Layout) (bytes : List ℕ) (v : BoundConstraint)
         (conj literal : ℕ) (its : Literal) (template : Template) (n : ℕ) (update : Update)

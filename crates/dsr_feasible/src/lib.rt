@@ -1,4 +1,5 @@
-//! What a repair chooses next can always be chosen and made: laws on the steps that are due by a plan.
+//! What a repair chooses next can always be chosen and made: laws on the steps that are due by a
+//! plan.
 //!
 //! The functions do nothing when they run. Each carries its law as its contract.
 #![tactic(auto)]

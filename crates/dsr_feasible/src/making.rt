@@ -10,7 +10,8 @@ ghost use Rattle.dsr_repairing.specs.Turns.{IsDueStep};
 ghost use Rattle.dsr_stepping.specs.Steps.{CanStep};
 ghost use Rattle.dsr_stepping.specs.declared.steps.Step.{Step};
 
-/// A step that is due by a plan can be made: each field that it writes is there, and each number fits.
+/// A step that is due by a plan can be made: each field that it writes is there, and each number
+/// fits.
 pub fn due_steps_can_be_made()
     ensures { (spec : Spec) (choice : Choice) (layout : Layout) (bytes : List ℕ) (step : Step)
         (update : Update) → IsImageOf spec layout bytes → IsPlan spec choice

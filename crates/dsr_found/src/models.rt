@@ -22,8 +22,8 @@ pub struct Found {
     pub model: Model,
 }
 
-/// An image with its layout, and a model in which nothing is given yet; none where the specification
-/// has no layout on the image, or memory runs out.
+/// An image with its layout, and a model in which nothing is given yet; none where the
+/// specification has no layout on the image, or memory runs out.
 pub fn prepared(alloc: Global, spec: &Spec, image: Vec<u8>) -> Option<Found>
     requires typed { IsTyped spec.now }
     ensures laid_out { IfSome result (λ found. IsLaidOut spec.now found.layout found.image) }

@@ -14,7 +14,8 @@ abbrev pub only : {T : Type 0} → List T → Option T
 only (x ∷ []) = Some x
 only _ = None
 
--- the templates of a literal of the constraint with this number; none where there is no such constraint
+-- the templates of a literal of the constraint with this number; none where there is no such
+-- constraint
 abbrev pub AreRawAt : Spec → ℕ → ℕ → ℕ → List Template → Type 0
 AreRawAt spec constraint conj literal templates =
     MatchOption (slice_get spec.constraints constraint) (templates ≡ [])

@@ -17,7 +17,8 @@ use dsr_ir::{
 };
 use std::alloc::Global;
 
-/// The rule that alone gives facts of the symbol, with its number; none where no rule or several do.
+/// The rule that alone gives facts of the symbol, with its number; none where no rule or several
+/// do.
 pub fn only_giver(spec: &Spec, symbol: Symbol) -> Option<(u32, &Rule)>
     requires typed { IsTyped spec.now }
     ensures { option_map (λ r. (r.0, r.1.now)) result ≡ only (givers spec.now symbol) }

@@ -147,7 +147,8 @@ pub record IsOwnerIn (graph : Graph) (number : ℕ) (owner : Owner) : Type 0 whe
   pub number_is : owner.number ≡ number
   pub constraint_is : slice_get owner.spec.constraints number ≡ Some owner.constraint
 
--- the template has this number among those that are listed for the constraint's literal with these numbers
+-- the template has this number among those that are listed for the constraint's literal with these
+-- numbers
 pub record IsWayOf (graph : Graph) (constraint conj literal way : ℕ) (owner : Owner) (template : Template) : Type 0 where
   pub owner_in : IsOwnerIn graph constraint owner
   pub template_is : slice_get (ways_of graph constraint conj literal) way ≡ Some template

@@ -7,7 +7,9 @@ use Rattle.dsr_graph.specs.Paired.{ArePaired}
 use Rattle.dsr_graph.specs.declared.kinds.First.{First}
 use Rattle.dsr_graph.specs.declared.kinds.Kinds.{Kinds}
 
--- they differ in `given` alone, or not at all
+-- They differ in `given` alone, or not at all. Such literals have the same list, since neither what
+-- is tried nor what may turn them false asks for more; plain distribution repeats literals many
+-- times, and each kind is judged once.
 pub record AreAlike (a b : Literal) : Type 0 where
   pub atom : a.atom ≡ b.atom
   pub negated : a.negated ≡ b.negated

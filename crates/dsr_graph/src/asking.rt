@@ -56,8 +56,8 @@ fn templates(listing: Option<&Listing>) -> &[Template]
     }
 }
 
-/// The templates that are listed for the literal with these numbers, in their order; none where there is no such
-/// literal.
+/// The templates that are listed for the literal with these numbers, in their order; none where
+/// there is no such literal.
 pub fn ways(graph: &Graph, constraint: u32, conj: u32, literal: u32) -> &[Template]
     ensures ways { result.now ≡ ways_of graph.now constraint conj literal }
     ensures listed { (owner : OwnerOf) → IsOwnerIn graph.now constraint owner
@@ -92,8 +92,8 @@ fn broken_in(
     reason(outcome, other)
 }
 
-/// Why the template with this number among the listed ones, counted from 0, breaks the other constraint; none where it
-/// doesn't.
+/// Why the template with this number among the listed ones, counted from 0, breaks the other
+/// constraint; none where it doesn't.
 pub fn breaks(
     graph: &Graph,
     constraint: u32,
@@ -158,8 +158,8 @@ fn falsified_in(graph: &Graph, constraint: u32, conj: u32, literal: u32, way: u3
     first_marked(outcome, literal as usize, kinds_in(graph, constraint, conj))
 }
 
-/// The first other literal of the conjunction that the template with this number may turn false; none where it may
-/// turn none so.
+/// The first other literal of the conjunction that the template with this number may turn false;
+/// none where it may turn none so.
 pub fn falsifies(graph: &Graph, constraint: u32, conj: u32, literal: u32, way: u32) -> Option<u32>
     ensures told { (owner : OwnerOf) → IsOwnerIn graph.now constraint owner
         → result ≡ said.falsified_in graph.now constraint conj literal way }

@@ -8,7 +8,8 @@ ghost use Rattle.dsr_updating.specs.Effects.{IsDeclared};
 use dsr_breaking::Reason;
 use dsr_ir::{Structures, Symbol};
 
-/// Why a template breaks a constraint, if it does; there are at most 64 sets and relations, by whose numbers it is told.
+/// Why a template breaks a constraint, if it does; there are at most 64 sets and relations, by
+/// whose numbers it is told.
 #[derive(Clone, Copy)]
 pub enum Edge {
     None,

@@ -22,8 +22,10 @@ impl Drop for Node {
     }
 }
 
-/// The repair dependence graph of a specification: what may come of each template that is listed for a
-/// literal, and which constraint relies on which.
+/// The repair dependence graph of a specification: what may come of each template that is listed
+/// for a literal, and which constraint relies on which. It keeps no effects: what comes of a
+/// template is told once, while it is judged, as a row with an entry for each constraint and for
+/// each kind of its own literals.
 pub struct Graph {
     pub(crate) nodes: Vec<Node>,
 }

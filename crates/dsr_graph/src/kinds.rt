@@ -14,7 +14,8 @@ pub struct First {
     pub literal: Literal,
 }
 
-/// The kinds of a constraint's literals: two are of one kind where they differ in `given` alone, or not at all.
+/// The kinds of a constraint's literals: two are of one kind where they differ in `given` alone, or
+/// not at all.
 pub struct Kinds {
     pub firsts: Vec<First>,
     /// For each conjunction the kind of each of its literals.

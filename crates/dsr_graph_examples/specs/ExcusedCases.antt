@@ -19,14 +19,14 @@ use Rattle.dsr_template_laws.specs.Tried.{IsTried}
 use Rattle.dsr_updating.specs.Changes.{Change}
 use Rattle.dsr_updating.specs.declared.effects.Tag.TheVariants.{Written, Entry}
 
--- Why a change is excused: it is at the record of the binding for which the update is made, which no other binding has;
--- at another record than the one that is read; at a target of one relation, where a target of another is read; or at the
--- entry of another record's slot.
+-- Why a change is excused: it is at the record of the binding for which the update is made, which
+-- no other binding has; at another record than the one that is read; at a target of one relation,
+-- where a target of another is read; or at the entry of another record's slot.
 pub data Kind : Type 0 where
   own_binding different_records targets_apart other_entry : Kind
 
--- such an excuse, where the change is at the record of the variable `v`, or at the entry of its slot, and the other
--- constraint reads at its variable `at`
+-- such an excuse, where the change is at the record of the variable `v`, or at the entry of its
+-- slot, and the other constraint reads at its variable `at`
 abbrev pub IsExcuseOf : Kind → Owner → Owner → Change → Cause → Var → Var → Type 0
 IsExcuseOf own_binding owner other c cause v at =
     HappensOnlyAt c cause.reason Written × (c.update.place ≡ Of v) × IsSameBinding owner other v at
@@ -38,8 +38,9 @@ IsExcuseOf other_entry owner other c cause v at =
     HappensOnlyAt c cause.reason Entry × (c.update.at ≡ SlotOf v) × (owner.spec.base.version ≡ 2)
     × AreDifferentRecords owner other v at
 
--- An update is applied that may do what breaks the constraint with this number, but for an excuse of the kind. So the
--- template breaks it for no reason, and another binding of it, which isn't violated, isn't so afterwards.
+-- An update is applied that may do what breaks the constraint with this number, but for an excuse
+-- of the kind. So the template breaks it for no reason, and another binding of it, which isn't
+-- violated, isn't so afterwards.
 pub record ExcusedCase (kind : Kind) : Type 0 where
   pub application : Application
   pub tried : IsTried application

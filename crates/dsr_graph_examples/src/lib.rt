@@ -1,5 +1,5 @@
-//! That the laws on what the repair dependence graph names speak of something. The law is the contract of a function
-//! that does nothing when it runs.
+//! That the laws on what the repair dependence graph names speak of something. The law is the
+//! contract of a function that does nothing when it runs.
 #![tactic(auto)]
 
 ghost use Rattle.dsr_graph_examples.specs.ExcusedCases.{ExcusedCase, Kind};

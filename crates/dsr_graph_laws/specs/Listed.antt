@@ -10,8 +10,8 @@ use Rattle.dsr_meaning.specs.Models.{IsFact}
 use Rattle.dsr_meaning.specs.Truth.{LiteralHolds}
 use Rattle.dsr_template_laws.specs.Judging.{Application}
 
--- the template is the one of this number, counted from 0, among those that are listed for the literal of a declared
--- constraint
+-- the template is the one of this number, counted from 0, among those that are listed for the
+-- literal of a declared constraint
 pub record IsListedWay (owner : Owner) (conj literal way : ℕ) (template : Template) : Type 0 where
   pub declared : slice_get owner.spec.constraints owner.number ≡ Some owner.constraint
   pub templates : List Template

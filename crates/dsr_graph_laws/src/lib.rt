@@ -1,4 +1,5 @@
-//! That the repair dependence graph names whatever a template may break or falsify: laws on applications.
+//! That the repair dependence graph names whatever a template may break or falsify: laws on
+//! applications.
 //!
 //! The functions do nothing when they run. Each carries its law as its contract.
 #![tactic(auto)]
@@ -59,8 +60,9 @@ pub fn listed_updates_break_and_falsify_nothing()
         → IsViolated (IsFact a.spec a.layout a.old) a.spec (record { constraint = broken; binding = b }) }
 {}
 
-/// Whoever asked of a listed template why it breaks the other constraint, and was told that it doesn't, has this of each
-/// application of its updates: no binding of that constraint is violated afterwards that wasn't before.
+/// Whoever asked of a listed template why it breaks the other constraint, and was told that it
+/// doesn't, has this of each application of its updates: no binding of that constraint is violated
+/// afterwards that wasn't before.
 pub fn ways_that_break_nothing_violate_no_more()
     ensures { (owner : Owner) (conj literal way : ℕ) (template : Template)
         → IsListedWay owner conj literal way template
@@ -69,8 +71,8 @@ pub fn ways_that_break_nothing_violate_no_more()
         → (a : Application) → IsApplicationOf owner conj literal template a → ViolatesNoMore a other }
 {}
 
-/// Whoever asked which other literal of the conjunction it may falsify, and was told that there is none, has this: each
-/// of them stays true where it was.
+/// Whoever asked which other literal of the conjunction it may falsify, and was told that there is
+/// none, has this: each of them stays true where it was.
 pub fn ways_that_falsify_nothing_keep_literals()
     ensures { (owner : Owner) (conj literal way : ℕ) (template : Template)
         → IsListedWay owner conj literal way template → Falsifies owner conj literal template None

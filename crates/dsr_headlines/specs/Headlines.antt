@@ -24,8 +24,8 @@ use Rattle.dsr_asking.specs.Commands.{image_limit, spec_limit, usage}
 use Rattle.dsr_asking.specs.Usage.{AskForNothing}
 use Rattle.dsr_asking.specs.Words.{Check, Text, command_of}
 
--- the words ask to check an image under a specification: their files are within their limits, the text means the
--- specification, and the image has the layout
+-- the words ask to check an image under a specification: their files are within their limits, the
+-- text means the specification, and the image has the layout
 pub record IsChecked (files : Files) (words : List (List ℕ)) (spec : Spec) (layout : Layout)
     (image : List ℕ) : Type 0 where
   pub spec_name : List ℕ
@@ -49,7 +49,8 @@ pub record IsVerdictOn (spec : Spec) (layout : Layout) (image : List ℕ) (befor
   pub ok : (verdict ≡ verdicts.Ok) ↔ IsConsistent spec layout image
   pub inconsistent : (verdict ≡ verdicts.Inconsistent) ↔ (IsConsistent spec layout image → ⊥)
 
--- where the shelf tells its files and they can be checked, a command that speaks gives the verdict on the image
+-- where the shelf tells its files and they can be checked, a command that speaks gives the verdict
+-- on the image
 abbrev pub ChecksImages : List (List ℕ) → Outside → Outside → Status → Type 0
 ChecksImages words before after status =
     (files : Files) (spec : Spec) (layout : Layout) (image : List ℕ) (verdict : Verdict)
@@ -88,7 +89,8 @@ PrintsTexts words before after status =
     → (tree : TreeShape) × IsPrinted files words tree
     × (after.output.written ≡ appended before.output.written (canonical tree))
 
--- words that ask for nothing are told so, with no call of the shelf; and of no other words is that told
+-- words that ask for nothing are told so, with no call of the shelf; and of no other words is that
+-- told
 pub record TellsUsage (words : List (List ℕ)) (before after : Outside) (status : Status) : Type 0 where
   pub told : AskForNothing words → Halts before after status (Tell usage)
   pub nothing_else : status ≡ Said verdicts.Usage → AskForNothing words

@@ -1,5 +1,5 @@
-//! What a run says of words that ask for nothing, and of images and texts, by the files that a shelf tells.
-//! Each law is the contract of a function that does nothing when it runs.
+//! What a run says of words that ask for nothing, and of images and texts, by the files that a
+//! shelf tells. Each law is the contract of a function that does nothing when it runs.
 #![tactic(auto)]
 
 ghost use Rattle.std.specs.Prelude.{ℕ, List};

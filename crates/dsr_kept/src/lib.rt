@@ -1,5 +1,6 @@
-//! What steps leave: laws on steps. No step changes the layout or a fixed field, and what a step leaves is determined. Each
-//! function does nothing when it runs, and carries its law as its contract.
+//! What steps leave: laws on steps. No step changes the layout or a fixed field, and what a step
+//! leaves is determined. Each function does nothing when it runs, and carries its law as its
+//! contract.
 #![tactic(auto)]
 
 mod laws;

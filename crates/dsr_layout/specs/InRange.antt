@@ -29,7 +29,8 @@ pub record IsMemberInRange (spec : Spec) (layout : Layout) (set : ℕ) (e : Elem
   pub declared : slice_get spec.base.sets set ≡ Some decl
   pub member : IsRecordOf layout decl.pool e
 
--- the source is a record of the relation's source pool, and the target one of its target pool or a number
+-- the source is a record of the relation's source pool, and the target one of its target pool or a
+-- number
 pub record IsPairInRange (spec : Spec) (layout : Layout) (rel : ℕ) (e : Element) (target : Target) : Type 0 where
   pub decl : Rel
   pub declared : slice_get spec.base.rels rel ≡ Some decl

@@ -123,7 +123,8 @@ abbrev pub CodesFitReferences : Spec → List ℕ → Layout → Type 0
 CodesFitReferences spec bytes layout =
     (pool slot value : ℕ) → IsCodeOf layout pool slot value → FitsReferences spec.base pool value
 
--- some constraint compares values of the relation with the size, by a comparison that they may meet by being as large
+-- some constraint compares values of the relation with the size, by a comparison that they may meet
+-- by being as large
 pub record ComparesWithSize (spec : Spec) (rel : ℕ) (measure : Measure) : Type 0 where
   pub constraint : Constraint
   pub var : Var

@@ -9,7 +9,9 @@ use Rattle.dsr_meaning.specs.Places.{lineage, end_of}
 abbrev pub known : {T : Type 0} → List (Option T) → ℕ → Option T
 known table k = option_and_then (λ v. v) (slice_get table k)
 
--- sums and products stop at the last number of 64 bits, which stands for every greater one, too
+-- Sums and products stop at the last number of 64 bits, which stands for every greater one, too.
+-- While bits are counted nothing is refused: a bit that stands there is behind every image, and in
+-- no structure with a size, so one kind of arithmetic serves fixed fields, sizes and places.
 abbrev pub clip : ℕ → ℕ
 clip n = min n (2 ^ 64 - 1)
 

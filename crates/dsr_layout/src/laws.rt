@@ -1,5 +1,6 @@
-// Laws on layouts, each the contract of a function. With them, those who use a layout show that
-// a record has a field's entry, as `cell` requires, and what follows where no kind of refusal applies.
+// Laws on layouts, each the contract of a function. With them, those who use a layout show that a
+// record has a field's entry, as `cell` requires, and what follows where no kind of refusal
+// applies.
 ghost use Rattle.std.specs.Prelude.{◌≡◌, ◌↔◌, ◌≤◌, [], ℕ, List, length, Option, IfSome, IsTrue};
 ghost use Rattle.dsr_ir.specs.declared.declarations.Spec.{Spec};
 ghost use Rattle.dsr_ir.specs.declared.declarations.Structure.{Structure};

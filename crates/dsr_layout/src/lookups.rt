@@ -1,4 +1,5 @@
-// What a specification and a layout have under a number.
+// What a specification and a layout have under a number. The look-ups are public, since models ask
+// the same questions.
 ghost use Rattle.std.specs.Prelude.{◌≡◌};
 ghost use Rattle.dsr_ir.specs.Layouts.{pool_numbers, field_place};
 ghost use Rattle.dsr_meaning.specs.Instances.{record_count, set_pool};

@@ -1,8 +1,9 @@
-// Calls that nothing else makes, each once, and the copy of a specification: whether they answer as they should, of a
-// specification with a pool and two rules, whose first set has two members and whose first relation gives the second
-// the number 9.
+// Calls that nothing else makes, each once, and the copy of a specification: whether they answer as
+// they should, of a specification with a pool and two rules, whose first set has two members and
+// whose first relation gives the second the number 9.
 //
-// A line `=== NAME HEX` begins a case, with the bytes of its image; the lines below it are its specification's text.
+// A line `=== NAME HEX` begins a case, with the bytes of its image; the lines below it are its
+// specification's text.
 ghost use Rattle.std.specs.Prelude.{◌≡◌, true, IfOk, IfSome};
 ghost use Rattle.std.specs.Bool.{OnTrue};
 ghost use Rattle.dsr_given.specs.Shapes.{Gives, rule_shapes};

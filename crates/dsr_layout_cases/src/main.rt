@@ -1,7 +1,7 @@
 //! Reads cases from the standard input and prints what is told of each text with an image.
 //!
-//! A line `##### NAME` begins a section, and the lines below it, up to the next such line, are its cases: `layouts`,
-//! `models`, `updates` or `calls`, each as the file of that name says.
+//! A line `##### NAME` begins a section, and the lines below it, up to the next such line, are its
+//! cases: `layouts`, `models`, `updates` or `calls`, each as the file of that name says.
 #![tactic(auto)]
 
 mod bytes;

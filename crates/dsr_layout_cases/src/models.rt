@@ -1,14 +1,17 @@
-// What the instances of the rules of specifications give on images: rule, record, entry of the index, the fact, and
-// behind `by` the first instance that gives it; then the members of each set, and what look-ups tell.
+// What the instances of the rules of specifications give on images: rule, record, entry of the
+// index, the fact, and behind `by` the first instance that gives it; then the members of each set,
+// and what look-ups tell.
 //
-// Of each set it prints the number of its members, behind `to` the greatest of them, and all of them. Of each
-// relation it prints the number of targets of `head` and behind `of` that of its sources, each with the greatest,
-// and then on a line each source with its targets; numbers stand behind `by` as well, as they follow each other.
-// Of the signs behind a member or a target the first says whether the model has the fact (`+`), the second
-// whether it has that with the next slot or number in its place.
+// Of each set it prints the number of its members, behind `to` the greatest of them, and all of
+// them. Of each relation it prints the number of targets of `head` and behind `of` that of its
+// sources, each with the greatest, and then on a line each source with its targets; numbers stand
+// behind `by` as well, as they follow each other. Of the signs behind a member or a target the
+// first says whether the model has the fact (`+`), the second whether it has that with the next
+// slot or number in its place.
 //
-// A line `=== NAME HEX` begins a case, with the bytes of its image; the lines below it, up to the next such line,
-// are its specification's text. A line `+++ NAME HEX` begins a case with the text of the last `===`.
+// A line `=== NAME HEX` begins a case, with the bytes of its image; the lines below it, up to the
+// next such line, are its specification's text. A line `+++ NAME HEX` begins a case with the text
+// of the last `===`.
 mod facts;
 mod lookups;
 mod tuples;

@@ -4,8 +4,8 @@ use itoa::Buffer;
 use std::alloc::{AllocError, Global};
 use std::str;
 
-/// Text that grows by words. Where memory runs out, what is added from then on is left out, and that
-/// is told in the end.
+/// Text that grows by words. Where memory runs out, what is added from then on is left out, and
+/// that is told in the end.
 #[derive(Drop)]
 pub struct Lines {
     text: String,

@@ -48,8 +48,8 @@ pub data AreCompensable (owner : Owner) : List Template → List Compensable →
       → AreCompensations owner template writes → AreCompensable owner rest pairs
       → AreCompensable owner (template ∷ rest) ((template, writes) ∷ pairs)
 
--- The first so many of the templates in a list that are kept, each once: those that were taken before are not taken again, and
--- those that are not kept are left out.
+-- The first so many of the templates in a list that are kept, each once: those that were taken
+-- before are not taken again, and those that are not kept are left out.
 pub data AreTaken (owner : Owner) (atom : Atom) : ℕ → List Template → List Template → List Template → Type 0 where
   no_more : {n : ℕ} {before : List Template} → AreTaken owner atom n before [] []
   enough : {before all : List Template} → AreTaken owner atom zero before all []
@@ -77,8 +77,8 @@ pub record StandsBefore (all : List Template) (template other : Template) : Type
   pub other_first : StandsFirstAt all other other_place
   pub before : place < other_place
 
--- The templates that are listed for the literal with these numbers: of those that are tried for it, without and with
--- compensations, the first 64 that are kept, of equal ones the first.
+-- The templates that are listed for the literal with these numbers: of those that are tried for it,
+-- without and with compensations, the first 64 that are kept, of equal ones the first.
 pub record AreListed (owner : Owner) (conj literal : ℕ) (atom : Atom) (templates : List Template) : Type 0 where
   pub tried : List Template
   pub are_tried : AreRawOf owner.spec owner.constraint conj literal tried

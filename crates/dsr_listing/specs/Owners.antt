@@ -21,7 +21,8 @@ pub record Owner : Type 0 where
   pub number : ℕ
   pub constraint : Constraint
 
--- the goal of an update of a template, by the update's place: what is for exactly one supplies first, and then trims
+-- the goal of an update of a template, by the update's place: what is for exactly one supplies
+-- first, and then trims
 abbrev pub goal_at : Goal → ℕ → Goal
 goal_at goals.ExactlyOne zero = goals.Supply
 goal_at goals.ExactlyOne (suc n) = goals.Trim

@@ -60,15 +60,17 @@ KeepsBound c (atoms.Value v rel op (bounds.Size measure)) =
     Keeps c Gain (counted_symbol measure) × Keeps c Loss (counted_symbol measure)
 KeepsBound c _ = Unit {0}
 
--- no more than one is supplied: of a set's members the fresh record alone joins, and of a variable's targets only
--- one can be there
+-- no more than one is supplied: of a set's members the fresh record alone joins, and of a
+-- variable's targets only one can be there
 abbrev pub SuppliesOne : Change → Atom → Type 0
 SuppliesOne c (atoms.Count (Whole set) op k) =
     (tag : Tag) → InTable c Gain (symbols.Set set) tag → tag ≡ Fresh
 SuppliesOne c (atoms.Count (Out v rel) op k) = IsTrue (is_functional c.spec rel)
 SuppliesOne c _ = ⊥
 
--- the update, by its place in a template for the goal, changes nothing that would undo what it is for
+-- The update, by its place in a template for the goal, changes nothing that would undo what it is
+-- for. That `SetValue` asks for no gain of the premise isn't needed for a repair to end. It stays,
+-- since the lists of templates that users see, and their certificates, are those with it.
 abbrev pub MayServe : Goal → Atom → ℕ → Change → Type 0
 MayServe goals.AddSet atom n c = KeepsPremise c Loss
 MayServe goals.AddTuple atom n c = KeepsPremise c Loss

@@ -7,9 +7,10 @@ ghost use Rattle.dsr_listing.specs.Owners.{Owner};
 ghost use Rattle.dsr_listing.specs.Sides.{IsKept};
 ghost use Rattle.dsr_meaning.specs.Counting.{IsDistinct, IsIn};
 
-/// Templates that are taken are kept, are among those of which they are taken, stand once and in their order, and are
-/// no more than were asked for. Each one that is kept and stands before one that is taken is taken too, or was before.
-/// Where they are fewer than were asked for, so is each one that is kept.
+/// Templates that are taken are kept, are among those of which they are taken, stand once and in
+/// their order, and are no more than were asked for. Each one that is kept and stands before one
+/// that is taken is taken too, or was before. Where they are fewer than were asked for, so is each
+/// one that is kept.
 pub fn the_first_kept_are_taken()
     ensures kept { (owner : Owner) (atom : Atom) (n : ℕ) (before all listed : List Template)
         → AreTaken owner atom n before all listed → (t : Template) → IsIn t listed → IsKept owner atom t }

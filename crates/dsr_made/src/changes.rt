@@ -52,7 +52,8 @@ fn byte_cell(place: u64) -> Cell
     }
 }
 
-/// Claims the bytes of all changes; answers `NoMemory` only where not all of them were claimed before.
+/// Claims the bytes of all changes; answers `NoMemory` only where not all of them were claimed
+/// before.
 pub fn claim_changes<I: ImageBytes>(changes: &[ByteChange], image: &mut I) -> Result<(), NoMemory>
     requires within { AreWithin changes.now (I.ImageBytes.bytes image.old) }
     ensures bytes { I.ImageBytes.bytes image.new ≡ I.ImageBytes.bytes image.old }

@@ -1,4 +1,5 @@
-//! Steps made on images: what a step changes is found on a copy, and then the same changes are made on the image itself.
+//! Steps made on images: what a step changes is found on a copy, and then the same changes are made
+//! on the image itself.
 #![tactic(auto)]
 
 mod changes;

@@ -15,7 +15,8 @@ use std::alloc::Global;
 
 /// Makes a step by this update: resets its fresh record, and then makes the writes of the update,
 /// each unless what it wants holds already. No write names a fixed field, on which the layout may
-/// rest. What is told of the step is returned. Where memory is wanting, the bytes are as before, but that more of them may be claimed.
+/// rest. What is told of the step is returned. Where memory is wanting, the bytes are as before,
+/// but that more of them may be claimed.
 pub fn make<I: ImageBytes>(
     alloc: Global,
     spec: &Spec,

@@ -1,4 +1,5 @@
--- When all constraints are satisfied, by what is a fact, and which bindings are violated where they aren't.
+-- When all constraints are satisfied, by what is a fact, and which bindings are violated where they
+-- aren't.
 use Rattle.std.specs.Prelude.{◌≡◌, ◌<◌, ◌⊎◌, ℕ, List, [], ◌∷◌, Some, All, slice_get}
 use Rattle.dsr_ir.specs.declared.constraints.Conj.{Conj}
 use Rattle.dsr_ir.specs.declared.constraints.Constraint.{Constraint}

@@ -51,7 +51,9 @@ abbrev pub places_of : (ℕ → Option ℕ) → List Structure → Option (List 
 places_of fixed structures =
     collect_at (λ i _. own_places fixed (lineage structures i)) 0 structures
 
--- the layout, by the values of the fixed fields; none where some expression has no value
+-- the layout, by the values of the fixed fields; none where some expression has no value, used or
+-- not: a specification that has no meaning on an image is refused even where nothing would read the
+-- part in question
 abbrev pub layout_with : (ℕ → Option ℕ) → Structures → ℕ → Option Layout
 layout_with fixed base length =
     option_and_then (λ fields. option_map (λ pools.

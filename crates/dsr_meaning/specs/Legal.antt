@@ -45,13 +45,15 @@ pub record IsLegalLayout (layout : Layout) : Type 0 where
 abbrev pub entry_count : FieldPlace → ℕ
 entry_count place = unwrap_or place.length 1
 
--- so many bits from the start of a record on are its own: those of a slot, or the image's where it is the head
+-- so many bits from the start of a record on are its own: those of a slot, or the image's where it
+-- is the head
 abbrev pub HasBits : Layout → Element → ℕ → Type 0
 HasBits layout e bits =
     MatchBool (nat_eq e.pool 0) (bits ≤ 8 * layout.length)
     (IsSomeAnd (pool_numbers layout e.pool) (λ n. (e.slot < n.count) × (bits ≤ 8 * n.slot)))
 
--- the record has an entry of the field
+-- the record has an entry of the field, by the layout alone; that it has follows from the
+-- specification, by laws of `dsr_layout`
 pub record HasEntry (layout : Layout) (e : Element) (field : FieldRef) (index : ℕ) : Type 0 where
   pub place : FieldPlace
   pub place_is : field_place layout field ≡ Some place

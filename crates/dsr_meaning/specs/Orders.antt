@@ -22,7 +22,8 @@ TargetPrecedes (Elem a) (Num n) = Unit {0}
 TargetPrecedes (Num m) (Elem b) = ⊥
 TargetPrecedes (Num m) (Num n) = m < n
 
--- members come before pairs; each by its symbol, then its element or its source, and pairs then by their targets
+-- members come before pairs; each by its symbol, then its element or its source, and pairs then by
+-- their targets
 abbrev pub FactPrecedes : Fact → Fact → Type 0
 FactPrecedes (Member s a) (Member t b) = (s < t) ⊎ ((s ≡ t) × Precedes a b)
 FactPrecedes (Member s a) (Pair r b y) = Unit {0}

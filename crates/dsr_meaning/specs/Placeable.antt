@@ -21,7 +21,8 @@ HasLegalWidth f = IsLegalWidth f.width
 abbrev pub begins_byte : Field → Bool
 begins_byte f = is_bytewise f.width || is_some f.len
 
--- what a field takes up; how many entries an array has is no matter for where a byte begins, since behind it one does
+-- what a field takes up; how many entries an array has is no matter for where a byte begins, since
+-- behind it one does
 abbrev pub plain_extent : Field → Extent
 plain_extent f = record { bits = width_bits f.width; entries = option_map (λ _. 0) f.len }
 

@@ -1,4 +1,5 @@
--- Where the fields of a structure stand, and how large structures are, by the values of the fixed fields.
+-- Where the fields of a structure stand, and how large structures are, by the values of the fixed
+-- fields.
 use Rattle.std.specs.Prelude.{ℕ, nat_eq, List, [], ◌∷◌, length, reverse, Option, None, Some, option_map, option_and_then, if◌then◌else◌}
 use Rattle.std.specs.Option.{option_map_or}
 use Rattle.dsr_ir.specs.Exprs.{ExprShape}
@@ -9,8 +10,9 @@ use Rattle.dsr_meaning.specs.Cells.{width_bits}
 use Rattle.dsr_meaning.specs.Expressions.{in_range, value_of}
 use Rattle.dsr_meaning.specs.Extents.{Extent, up_to_byte, bit_behind}
 
--- a structure by its number and its ancestors, the nearest first,
--- among structures of which the last declared comes first
+-- A structure by its number and its ancestors, the nearest first, among structures of which the
+-- last declared comes first. A parent counts where it is declared before its structure, so that
+-- this ends on every table; in a typed specification each parent is.
 abbrev pub lineage_in : List Structure → ℕ → List Structure
 lineage_in [] i = []
 lineage_in (s ∷ earlier) i =

@@ -67,7 +67,7 @@ abbrev pub head_refusals : (ℕ → Option ℕ) → ℕ → ℕ → List Refusal
 head_refusals size head bytes =
     refused_when (option_map_or (ends_behind bytes 0) (size head) false) Short
 
--- ---- 2: an expression, a structure's size in bits, the end of a pool or its last code has no value
+-- ---- 2: an expression, a structure's size in bits, a pool's end or its last code has no value
 
 -- whether the end of a pool has a value, and its last code where it has a slot
 abbrev pub is_computable : PoolNumbers → Bool
@@ -277,7 +277,8 @@ abbrev pub refusals_by : (ℕ → Option ℕ) → Spec → Structures → ℕ �
 refusals_by fixed spec base bytes =
     refusals_with fixed (size_of fixed base.structures) spec base bytes
 
--- all reasons to refuse an image, in the order of kinds and, in each, of declarations; the first one is told
+-- all reasons to refuse an image, in the order of kinds and, in each, of declarations; the first
+-- one is told
 abbrev pub refusals : Spec → List ℕ → List Refusal
 refusals spec bytes = refusals_by (fixed_value spec.base bytes) spec spec.base (length bytes)
 
@@ -285,7 +286,8 @@ abbrev pub first_of : {T : Type 0} → List T → Option T
 first_of [] = None
 first_of (x ∷ xs) = Some x
 
--- the layout of a specification on an image: the numbers that its expressions have there, where nothing is refused
+-- the layout of a specification on an image: the numbers that its expressions have there, where
+-- nothing is refused
 pub record IsLayoutOf (spec : Spec) (bytes : List ℕ) (layout : Layout) : Type 0 where
   pub numbers : layout_of spec.base bytes ≡ Some layout
   pub accepted : refusals spec bytes ≡ []

@@ -22,7 +22,9 @@ use Rattle.dsr_meaning.specs.Instances.{Compares}
 abbrev pub head : Element
 head = record { pool = 0; slot = 0 }
 
--- the element that a variable names; none where the binding hasn't got the variable
+-- The element that a variable names; none where the binding hasn't got the variable. Of a variable
+-- that names nothing nothing holds: no membership, no size, no value. In a typed constraint no such
+-- variable stands.
 abbrev pub element_of : Binding → Var → Option Element
 element_of b Head = Some head
 element_of bindings.Once First = None
@@ -38,8 +40,8 @@ HasVariable b (Whole set) = Unit {0}
 HasVariable b (Out v rel) = IsSome (element_of b v)
 HasVariable b (Into rel v) = IsSome (element_of b v)
 
--- In what follows, `is_fact` says what a fact is: in the model of an image, or in any other set of facts. Nothing
--- holds of a variable that names no element.
+-- In what follows, `is_fact` says what a fact is: in the model of an image, or in any other set of
+-- facts.
 
 -- the size of a set is the number of its members, and that of a variable
 -- under a relation the number of its different targets or sources
@@ -55,7 +57,8 @@ abbrev pub HasBound : (Fact → Type 0) → Binding → Bound → ℕ → Type 0
 HasBound is_fact b (bounds.Num k) n = n ≡ k
 HasBound is_fact b (bounds.Size measure) n = HasSize is_fact b measure n
 
--- the atom is true
+-- The atom is true. A value meets a bound where every value that the relation gives does; where it
+-- gives none, every bound is met.
 abbrev pub AtomHolds : (Fact → Type 0) → Binding → Atom → Type 0
 AtomHolds is_fact b (atoms.Member v set) =
     IsSomeAnd (element_of b v) (λ x. is_fact (facts.Member set x))

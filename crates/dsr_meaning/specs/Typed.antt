@@ -1,5 +1,5 @@
--- When a specification is typed: each number in it names an entry of the table for which it is used, and no condition
--- under which a specification is refused holds, as far as tables tell it.
+-- When a specification is typed: each number in it names an entry of the table for which it is
+-- used, and no condition under which a specification is refused holds, as far as tables tell it.
 use Rattle.std.specs.Prelude.{◌≡◌, ◌≢◌, ◌≤◌, ◌<◌, ◌+◌, ◌-◌, ◌^◌, ◌++◌, ℕ, suc, true, false, nat_eq, IsTrue, IsSome, List, [], ◌∷◌, map, reverse, length, take, codes, All, Option, None, Some, IfSome, IsSomeAnd, option_map, option_and_then, MatchBool, if◌then◌else◌, slice_get}
 use Rattle.std.specs.Option.{option_map_or}
 use Rattle.dsr_ir.specs.Exprs.{ExprShape, NumOf, FixedOf, SumOf, LessOf, TimesOf, OverOf}
@@ -66,7 +66,8 @@ AreDifferent names =
 
 -- ---- structures that descend from others
 
--- the numbers of a structure's ancestors, the nearest first, among structures of which the last declared comes first
+-- the numbers of a structure's ancestors, the nearest first, among structures of which the last
+-- declared comes first
 abbrev pub ancestors_among : List Structure → ℕ → List ℕ
 ancestors_among [] i = []
 ancestors_among (s ∷ earlier) i =
@@ -167,7 +168,8 @@ pub record IsTypedPool (base : Structures) (p : ℕ) (d : Pool) : Type 0 where
 abbrev pub pool_at : Structures → ℕ → Option Pool
 pool_at base p = if nat_eq p 0 then None else slice_get base.pools (p - 1)
 
--- a set is read by its pool's structure or one that descends from it, and a complement by its pool's
+-- a set is read by its pool's structure or one that descends from it, and a complement by its
+-- pool's
 pub record IsTypedSet (base : Structures) (s : SetDecl) : Type 0 where
   pub pool : IsPoolNumber base s.pool
   pub structure : IsOtherStructure base s.structure
@@ -266,8 +268,8 @@ pub record GivesTarget (base : Structures) (rule : Rule) (rel source : ℕ) (pat
   pub relates : Relates base rel source target
   pub reads : Reads base rule path target
 
--- what a rule gives: a member of a plain set of its pool, or a pair of a relation of its pools; the target of a pair
--- whose source is the index's slot is read at that index
+-- what a rule gives: a member of a plain set of its pool, or a pair of a relation of its pools; the
+-- target of a pair whose source is the index's slot is read at that index
 abbrev pub IsTypedInc : Structures → Rule → Inc → Type 0
 IsTypedInc base rule (Own set) = IsPlainSetOf base (pool_of_premise base rule.premise) set
 IsTypedInc base rule (Target set path) =
@@ -382,6 +384,8 @@ constraint_limit version = if nat_eq version 2 then 128 else 64
 
 -- ---- a whole specification
 
+-- Two conditions can't be read on tables, and are no part of it: how names are spelled, and that
+-- complements stand in texts of version 2 alone. Both are the grammar's.
 pub record IsTyped (spec : Spec) : Type 0 where
   pub base : AreTyped spec.base
   pub few_rules : length spec.rules ≤ 128

@@ -103,7 +103,8 @@ fn enter(
     Ok(())
 }
 
-/// For each name the number of the first item that has it, where the first of all has a number that is given.
+/// For each name the number of the first item that has it, where the first of all has a number that
+/// is given.
 pub fn numbers_from<T: Named>(
     alloc: Global,
     first: u32,

@@ -8,7 +8,8 @@ ghost use Rattle.dsr_typing.specs.Constraints.{has_other_source, has_other_targe
 use crate::comparing::{disagree, is_other_target};
 use dsr_ir::{Quant, Rel, Structures};
 
-/// The pool of the first variable of a quantifier: that of a set's members, or of a relation's sources.
+/// The pool of the first variable of a quantifier: that of a set's members, or of a relation's
+/// sources.
 pub fn first_pool(base: &Structures, quant: Quant) -> Option<u32>
     ensures { result ≡ pool_of_var base.now quant vars_of.First }
 {

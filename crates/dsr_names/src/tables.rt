@@ -26,7 +26,8 @@ pub struct NameTables {
     pub ancestors: Vec<Vec<u32>>,
 }
 
-// Dropped by a call of its own, so that each caller has one step for it, and not one for each table.
+// Dropped by a call of its own, so that each caller has one step for it, and not one for each
+// table.
 impl Drop for NameTables {
     fn drop(self) {
         let NameTables {

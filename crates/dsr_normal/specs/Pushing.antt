@@ -1,4 +1,5 @@
--- The normal form in two steps: `not` and `given` are pushed down to the atoms, and what is left is distributed.
+-- The normal form in two steps: `not` and `given` are pushed down to the atoms, and what is left is
+-- distributed.
 use Rattle.std.specs.Prelude.{if◌then◌else◌, Bool, true, not, List, [], ◌∷◌, ◌++◌}
 use Rattle.dsr_ir.specs.declared.constraints.Literal.{Literal}
 use Rattle.dsr_ir.specs.Formulas.{FormulaShape, AnyOf, EveryOf, NotOf, GivenOf, LeafOf, FormulaShapes, NoneOf, MoreOf}
@@ -15,7 +16,8 @@ mutual
     NonePlain : Plains
     MorePlain : (first : Plain) (rest : Plains) → Plains
 
--- under `not`, `Any` and `Every` change places, and `not` of `not` is nothing; `given` goes on through `not`
+-- under `not`, `Any` and `Every` change places, and `not` of `not` is nothing; `given` goes on
+-- through `not`
 abbrev mutual
   pub pushed : (negated given : Bool) → FormulaShape → Plain
   pushed negated given (AnyOf parts) = if negated then EveryPlain (pushed_row negated given parts)

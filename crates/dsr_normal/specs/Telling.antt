@@ -12,7 +12,8 @@ refusal_told faults.TooManyConjunctions = Some too_many_conjunctions
 refusal_told faults.TooManyAtoms = Some too_many_atoms
 refusal_told faults.NoMemory = None
 
--- the fault is the first one of the formula; want of memory is met only where the first two faults are not there
+-- the fault is the first one of the formula; want of memory is met only where the first two faults
+-- are not there
 abbrev pub IsTold : FormulaShape → NormalFault → Type 0
 IsTold formula faults.NoMemory =
     (negates false formula ≡ false) × (is_too_large (distributed false false formula) ≡ false)

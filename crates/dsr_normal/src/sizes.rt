@@ -1,4 +1,5 @@
-// The size of a normal form, counted before it is made.
+// The size of a normal form, counted before it is made: a formula whose form would have 2^60
+// conjunctions is refused at once.
 ghost use Rattle.std.specs.Prelude.{◌≡◌, map};
 ghost use Rattle.dsr_ir.specs.Formulas.{formula_shape, in_row};
 ghost use Rattle.dsr_typing.specs.NormalForms.{distributed, any_row, every_row};

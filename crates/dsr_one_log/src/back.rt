@@ -17,8 +17,9 @@ fn many(log: &Log) -> usize
     log.entries().len()
 }
 
-/// The log that is read from the report of this one: the same. Names have to be spelled as the grammar spells them,
-/// since one that holds a blank, a bracket or a line feed may end at several places: then two logs may have one report.
+/// The log that is read from the report of this one: the same. Names have to be spelled as the
+/// grammar spells them, since one that holds a blank, a bracket or a line feed may end at several
+/// places: then two logs may have one report.
 pub fn read_back(alloc: Global, spec: &Spec, log: &Log) -> Result<Log, ReadFault>
     requires typed { IsTyped spec.now }
     requires spelled { HasSpelledNames spec.now }

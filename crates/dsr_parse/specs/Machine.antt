@@ -53,7 +53,8 @@ first (The p) = first_of p
 abbrev pub may_begin : Syntax → Token → Bool
 may_begin a t = among (first a) t
 
--- where the machine goes: whether the token goes over a limit, what is counted behind it, and what has to come then
+-- where the machine goes: whether the token goes over a limit, what is counted behind it, and what
+-- has to come then
 pub record Move : Type 0 where
   pub over : Bool
   pub count : ℕ

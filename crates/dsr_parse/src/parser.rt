@@ -77,7 +77,8 @@ fn fault_of(text: &[u8], lexemes: &[Lexeme], fault: Option<u64>, stop: Stop) -> 
 pub fn parse(alloc: Global, text: &[u8]) -> Result<Tree, SyntaxFault>
     ensures tree { IfOk result (λ tree. IsTreeOf text.now (tree_shape tree)) }
     ensures fault { IfErr result (λ e. (e ≡ faults.NoMemory) ⊎ HasFault text.now e) }
-    // Each text of the grammar within its limits is read, and each fault is told, unless memory runs out.
+    // Each text of the grammar within its limits is read, and each fault is told, unless memory
+    // runs out.
     ensures read { IsSpecText text.now → MatchResult result (λ _. Unit {0}) (λ e. e ≡ faults.NoMemory) }
     ensures told { (fault : SyntaxFault) → HasFault text.now fault →
         IsErrAnd result (λ e. (e ≡ fault) ⊎ (e ≡ faults.NoMemory)) }

@@ -74,7 +74,8 @@ impl<'a> Model for Reader<'a> {
     ghost view = { λ r. record { rest = r.rest.now; counted = r.counted } };
 }
 
-// What was read before, with what is read behind it. All that a failure has to drop is dropped here.
+// What was read before, with what is read behind it. All that a failure has to drop is dropped
+// here.
 fn both<A: Drop, B: Drop>(first: A, second: Result<B, Stop>) -> Result<(A, B), Stop>
     ensures ok { IfOk result (λ r. (r.0 ≡ first) × (second ≡ Ok r.1)) }
     ensures err { IfErr result (λ e. second ≡ Err e) }

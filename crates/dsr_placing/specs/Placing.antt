@@ -85,7 +85,8 @@ AreTests owner Member rows =
     (conj n : ℕ) (literal : Literal) → literal_at owner.constraint conj n ≡ Some literal
     → IsTested rows conj n ↔ MustTest owner Member conj n
 
--- the constraint is left, and relies on the other one by the graph, in which one that it hasn't relies on none
+-- the constraint is left, and relies on the other one by the graph, in which one that it hasn't
+-- relies on none
 pub record TellsRelies (graph : Graph) (left : List Bool) (who on : ℕ) : Type 0 where
   pub is_left : IsLeft left who
   pub relies : IsIn on (from_in graph who)

@@ -40,8 +40,9 @@ fn is_relied_on(graph: &Graph, on: u32, left: &[bool]) -> bool
     false
 }
 
-/// Whether the constraint may be repaired before those that are left: none of them relies on it, and its tests cover it
-/// where each literal that can be made true without breaking one of them isn't tested.
+/// Whether the constraint may be repaired before those that are left: none of them relies on it,
+/// and its tests cover it where each literal that can be made true without breaking one of them
+/// isn't tested.
 pub fn may_be_first(
     alloc: Global,
     graph: &Graph,

@@ -87,7 +87,8 @@ fn is_usable_below(graph: &Graph, at: Position, way: u32, count: usize, left: &[
     is_usable(graph, at, way, left)
 }
 
-/// The number of the first such template of the literal, counted from 0.
+/// The number of the first such template of the literal, counted from 0. At most `MOST_WAYS` are
+/// listed, so it counts to that, and asks of each number whether there is one.
 pub fn first_usable(graph: &Graph, at: Position, left: &[bool]) -> Option<u32>
     requires few { length left.now ≤ 2 ^ 32 }
     ensures { (owner : OwnerOf) → IsOwnerIn graph.now at.constraint owner

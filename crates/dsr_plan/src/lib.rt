@@ -1,5 +1,5 @@
-//! Whether a specification has a plan, with the answer that tells it: the levels of the plan that is
-//! taken, or what stands in the way of one.
+//! Whether a specification has a plan, with the answer that tells it: the levels of the plan that
+//! is taken, or what stands in the way of one.
 #![tactic(auto)]
 
 mod levels;

@@ -33,8 +33,8 @@ pub record IsPlanned (files : Files) (words : List (List ℕ)) (spec : Spec) : T
   pub short_text : length text ≤ spec_limit
   pub means : IsSpecificationOf text spec
 
--- a verdict on a specification: it says exactly whether it has a plan, and the text tells the plan that is taken, or
--- what stands in the way of one
+-- a verdict on a specification: it says exactly whether it has a plan, and the text tells the plan
+-- that is taken, or what stands in the way of one
 pub record IsPlanVerdict (spec : Spec) (before after : Outside) (verdict : Verdict) : Type 0 where
   pub found : Found
   pub is : IsFound spec found
@@ -42,7 +42,8 @@ pub record IsPlanVerdict (spec : Spec) (before after : Outside) (verdict : Verdi
   pub ok : (verdict ≡ verdicts.Ok) ↔ HasPlan spec
   pub refused : (verdict ≡ verdicts.PlanRefused) ↔ HasNoPlan spec
 
--- where the shelf tells its files and they can be planned for, a command that speaks gives the verdict
+-- where the shelf tells its files and they can be planned for, a command that speaks gives the
+-- verdict
 abbrev pub FindsPlans : List (List ℕ) → Outside → Outside → Status → Type 0
 FindsPlans words before after status =
     (files : Files) (spec : Spec) (verdict : Verdict) → before.held ≡ Some files → status ≡ Said verdict
@@ -72,8 +73,8 @@ pub record IsToCertify (files : Files) (words : List (List ℕ)) (spec : Spec) (
   pub short_text : length text ≤ spec_limit
   pub means : IsSpecificationOf text spec
 
--- the certificate of the plan that is taken is saved, which is valid, and the number of its levels told; or nothing is saved, and
--- what stands in the way of a plan is told
+-- the certificate of the plan that is taken is saved, which is valid, and the number of its levels
+-- told; or nothing is saved, and what stands in the way of a plan is told
 abbrev pub IsCertifiedBy : Spec → List ℕ → Outside → Outside → Found → Type 0
 IsCertifiedBy spec name before after (Plan choice) =
     IsSaved before after name (certificate_text spec choice)
@@ -82,7 +83,8 @@ IsCertifiedBy spec name before after (Plan choice) =
 IsCertifiedBy spec name before after (Stuck set) =
     Stands before after × (after.output.written ≡ appended before.output.written (refused_answer spec set).text)
 
--- a verdict says exactly whether the specification has a plan, and its certificate is saved exactly where it has one
+-- a verdict says exactly whether the specification has a plan, and its certificate is saved exactly
+-- where it has one
 pub record IsCertifyVerdict (spec : Spec) (name : List ℕ) (before after : Outside) (verdict : Verdict) : Type 0 where
   pub found : Found
   pub is : IsFound spec found
@@ -90,7 +92,8 @@ pub record IsCertifyVerdict (spec : Spec) (name : List ℕ) (before after : Outs
   pub ok : (verdict ≡ verdicts.Ok) ↔ HasPlan spec
   pub refused : (verdict ≡ verdicts.PlanRefused) ↔ HasNoPlan spec
 
--- where the shelf tells its files and the words ask for a certificate, a command that speaks does so
+-- where the shelf tells its files and the words ask for a certificate, a command that speaks does
+-- so
 abbrev pub CertifiesPlans : List (List ℕ) → Outside → Outside → Status → Type 0
 CertifiesPlans words before after status =
     (files : Files) (spec : Spec) (name : List ℕ) (verdict : Verdict) → before.held ≡ Some files

@@ -42,7 +42,9 @@ pub record SomeConjPasses (constraint : Constraint) (Tested : ℕ → ℕ → Ty
   pub conj_is : slice_get constraint.conjs number ≡ Some conj
   pub passes : PassesTests (Tested number) truth conj
 
--- whatever is true, some conjunction's tests are passed
+-- Whatever is true, some conjunction's tests are passed. An assignment is a function, and which
+-- literals are tested is a kind of literal, so that plans, stuck sets and certificates use this one
+-- definition.
 abbrev pub Covers : Constraint → (ℕ → ℕ → Type 0) → Type 0
 Covers constraint Tested = (truth : Truth) → SomeConjPasses constraint Tested truth
 
@@ -55,7 +57,8 @@ pub record IsListedAt (owner : Owner) (conj literal number : ℕ) (template : Te
   pub from_one : 1 ≤ number
   pub template_is : slice_get templates (number - 1) ≡ Some template
 
--- a literal that is repaired isn't `given`, and its template is listed and falsifies no other literal of its conjunction
+-- a literal that is repaired isn't `given`, and its template is listed and falsifies no other
+-- literal of its conjunction
 pub record MayRepair (owner : Owner) (conj literal : ℕ) (its : Literal) (number : ℕ) (template : Template) : Type 0 where
   pub free : its.given ≡ false
   pub listed : IsListedAt owner conj literal number template
@@ -94,7 +97,8 @@ pub record IsRowOf (spec : Spec) (choice : Choice) (n : ℕ) (constraint : Const
   pub constraint_is : slice_get spec.constraints n ≡ Some constraint
   pub row_is : slice_get choice.rows n ≡ Some row
 
--- a template that breaks a constraint stands on a lower level, and so does a constraint whose fact is used
+-- a template that breaks a constraint stands on a lower level, and so does a constraint whose fact
+-- is used
 pub record IsPlan (spec : Spec) (choice : Choice) : Type 0 where
   pub as_many : length choice.rows ≡ length spec.constraints
   pub ways :

@@ -1,4 +1,5 @@
--- What stands in the way of a plan: the largest stuck set, what each of its members waits for, and where that ends.
+-- What stands in the way of a plan: the largest stuck set, what each of its members waits for, and
+-- where that ends.
 use Rattle.std.specs.Prelude.{◌≡◌, ◌<◌, ◌⊎◌, ◌++◌, ℕ, List, [], ◌∷◌, Option, None, Some, MatchOption, map, slice_get}
 use Rattle.dsr_breaking.specs.Breaks.{Breaks, Falsifies, Relies}
 use Rattle.dsr_breaking.specs.declared.causes.Reason.{Reason}
@@ -48,7 +49,9 @@ pub record BreaksMember (owner : Owner) (Member : ℕ → Type 0) (template : Te
   pub reason : Reason
   pub breaks : BreaksFor owner template n reason
 
--- a listed template of the literal falsifies nothing and breaks a member, and this is the first one that it breaks
+-- A listed template of the literal falsifies nothing and breaks a member, and this is the first one
+-- that it breaks. A literal that is `given` has such ways too: they are told to the reader, though
+-- no plan uses them.
 pub record IsStuckWay (owner : Owner) (Member : ℕ → Type 0) (way : StuckWay) : Type 0 where
   pub template : Template
   pub listed : IsListedAt owner way.conj way.literal way.way template
@@ -78,14 +81,16 @@ pub record IsStuckMember (spec : Spec) (Member : ℕ → Type 0) (member : Stuck
 
 -- ---- where that ends
 
--- a member isn't covered even where each literal that isn't `given` gets any listed template that falsifies nothing
+-- a member isn't covered even where each literal that isn't `given` gets any listed template that
+-- falsifies nothing
 pub record IsHopeless (spec : Spec) (Member : ℕ → Type 0) (n : ℕ) : Type 0 where
   pub member : Member n
   pub constraint : Constraint
   pub constraint_is : slice_get spec.constraints n ≡ Some constraint
   pub uncovered : Covers constraint (MustTest (owner_at spec n constraint) (λ _. ⊥)) → ⊥
 
--- a member waits for the one that relies on it, and otherwise for the one that its first template breaks
+-- a member waits for the one that relies on it, and otherwise for the one that its first template
+-- breaks
 abbrev pub awaited_by : Option ℕ → List StuckWay → Option ℕ
 awaited_by (Some who) ways = Some who
 awaited_by None [] = None
@@ -103,7 +108,8 @@ AreWaiting members [] = Unit {0}
 AreWaiting members (n ∷ []) = Unit {0}
 AreWaiting members (n ∷ next ∷ rest) = AwaitsMember members n next × AreWaiting members (next ∷ rest)
 
--- the walk from the first member to what each waits for, from the first number to which it comes twice
+-- The walk from the first member to what each waits for, from the first number to which it comes
+-- twice. It is a walk, so there is one answer. It may go over the way of a `given` literal.
 pub record IsCycle (members : List StuckMember) (numbers : List ℕ) : Type 0 where
   pub before : List ℕ
   pub between : List ℕ
@@ -115,6 +121,8 @@ pub record IsCycle (members : List StuckMember) (numbers : List ℕ) : Type 0 wh
   pub waiting : AreWaiting members (before ++ numbers)
   pub distinct : IsDistinct (before ++ again ∷ between)
 
+-- a constraint that nothing can repair is told before any cycle, since its author has to mend it
+-- first, whatever the order
 abbrev pub IsEnd : Spec → (ℕ → Type 0) → List StuckMember → StuckEnd → Type 0
 IsEnd spec Member members (Unrepairable n) = IsFirst (IsHopeless spec Member) n
 IsEnd spec Member members (Cycle numbers) =

@@ -31,7 +31,9 @@ pub record CanRepair (owner : Owner) (Member : ℕ → Type 0) (conj literal : �
 abbrev pub MustTest : Owner → (ℕ → Type 0) → ℕ → ℕ → Type 0
 MustTest owner Member conj literal = CanRepair owner Member conj literal → ⊥
 
--- a constraint that may be repaired before all members: none of them relies on it, and its tests cover it
+-- A constraint that may be repaired before all members: none of them relies on it, and its tests
+-- cover it. Members are any kind of number: a list, marks, or those that no round placed before. So
+-- the law on stuck sets and the search for a plan speak of one thing.
 pub record MayBeFirst (spec : Spec) (Member : ℕ → Type 0) (n : ℕ) (constraint : Constraint) : Type 0 where
   pub relied_by_none : (m : ℕ) → Member m → Relies spec m n → ⊥
   pub covered : Covers constraint (MustTest (owner_at spec n constraint) Member)

@@ -40,8 +40,8 @@ pub record HasLevel (choice : Choice) (level : ℕ) : Type 0 where
   pub row_is : slice_get choice.rows number ≡ Some row
   pub level_is : row.level ≡ level
 
--- no constraint may have a higher level that others have, its ways are first by those on its level and below, and no
--- level is empty below one that isn't
+-- no constraint may have a higher level that others have, its ways are first by those on its level
+-- and below, and no level is empty below one that isn't
 pub record IsTaken (spec : Spec) (choice : Choice) : Type 0 where
   pub plan : IsPlan spec choice
   pub ways :

@@ -1,8 +1,9 @@
-//! When a choice of templates is a plan for a specification, and which sets of constraints leave none.
+//! When a choice of templates is a plan for a specification, and which sets of constraints leave
+//! none.
 //!
-//! The definitions stand in `specs/`. That a repair dependence graph accepts a specification where its
-//! nodes can be put in order is after ICSE 2005; levels, and the choice of one template or test for
-//! each literal, are this project's own.
+//! The definitions stand in `specs/`. That a repair dependence graph accepts a specification where
+//! its nodes can be put in order is after ICSE 2005; levels, and the choice of one template or test
+//! for each literal, are this project's own.
 #![tactic(auto)]
 
 mod choices;

@@ -2,7 +2,8 @@
 use dsr_breaking::Reason;
 use dsr_ir::Seq;
 
-/// A template that would make a literal true, falsifies nothing, and breaks a member of a stuck set.
+/// A template that would make a literal true, falsifies nothing, and breaks a member of a stuck
+/// set.
 #[derive(Drop)]
 pub struct StuckWay {
     /// The number of the conjunction, counted from 0.

@@ -52,7 +52,8 @@ fn add_order(text: &mut Vec<u8>, order: Order) -> Result<(), NoMemory>
 }
 
 /// The canonical text of a tree: a line for each declaration, its tokens joined by single spaces,
-/// with numbers in decimal.
+/// with numbers in decimal. It isn't cut to the limit of a text: of a tree whose text is longer
+/// than a specification may be, the whole canonical text is printed.
 pub fn print(alloc: Global, tree: &Tree) -> Result<Vec<u8>, NoMemory>
     ensures canonical { IfOk result (λ text. text.items ≡ canonical (tree_shape tree.now)) }
     // Where the tree is one that was read, its text is read again as this tree but for places.

@@ -64,8 +64,8 @@ fn closed(alloc: Global, path: &[u32], place: usize, number: u32) -> Result<Vec<
     Ok(numbers)
 }
 
-/// The members that wait for each other, to which the walk from the first one comes; the last is the
-/// first once more.
+/// The members that wait for each other, to which the walk from the first one comes; the last is
+/// the first once more.
 pub fn cycle(alloc: Global, members: &[StuckMember]) -> Result<Vec<u32>, NoMemory>
     requires some { 0 < length members.now }
     requires waits { EachWaits members.now }

@@ -44,7 +44,8 @@ AreNext spec rounds number next =
 
 -- ---- all rounds
 
--- so many rounds: each places those that may be first among the ones that are left, and no others, and none is idle
+-- so many rounds: each places those that may be first among the ones that are left, and no others,
+-- and none is idle
 pub record AreRounds (spec : Spec) (rounds : List (Option ℕ)) (count : ℕ) : Type 0 where
   pub as_many : length rounds ≡ length spec.constraints
   pub below : (n round : ℕ) → IsPlacedIn rounds round n → round < count

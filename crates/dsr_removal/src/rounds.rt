@@ -119,7 +119,8 @@ impl Turn<'_> {
     }
 }
 
-// All constraints' rounds, after the one with this number.
+// All constraints' rounds, after the one with this number. They are a new list, so that each
+// constraint is judged by what was left before the round.
 fn next_rounds(
     alloc: Global,
     graph: &Graph,

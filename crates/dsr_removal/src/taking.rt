@@ -17,7 +17,8 @@ use dsr_placing::{Position, way};
 use dsr_planning::{Choice, Row, Way};
 use std::alloc::Global;
 
-// The first template by which the literal can be made true where these are left; a test where there is none.
+// The first template by which the literal can be made true where these are left; a test where there
+// is none.
 fn literal_way(
     alloc: Global,
     graph: &Graph,

@@ -44,7 +44,8 @@ IsTaken spec choice layout old new turns.Done = new ≡ old
 IsTaken spec choice layout old new (turns.Step step) = IsLogged spec choice layout step old new
 IsTaken spec choice layout old new (turns.Empty need) = new ≡ old
 
--- less remains than before, and bindings are newly violated of constraints on levels above the one alone for which the step was made
+-- less remains than before, and bindings are newly violated of constraints on levels above the one
+-- alone for which the step was made
 pub record IsNearer (spec : Spec) (choice : Choice) (layout : Layout) (old new : List ℕ) (constraint : ℕ) : Type 0 where
   pub falls : (n m : ℕ) → IsRemaining spec choice layout old n → IsRemaining spec choice layout new m → m < n
   pub above :

@@ -1,7 +1,8 @@
-//! Repair of an image by a plan: one step after the other, each the one that is due, until the image is consistent or a
-//! supply is empty, and a log of them.
+//! Repair of an image by a plan: one step after the other, each the one that is due, until the
+//! image is consistent or a supply is empty, and a log of them.
 //!
-//! That a violated constraint is repaired by making the literals of one conjunction true is after OOPSLA 2003.
+//! That a violated constraint is repaired by making the literals of one conjunction true is after
+//! OOPSLA 2003.
 #![tactic(auto)]
 
 mod repairs;

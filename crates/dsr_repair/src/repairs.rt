@@ -44,9 +44,10 @@ fn make_steps<I: ImageBytes>(
     }
 }
 
-/// Makes the steps that are due, one after the other, until none is left: the image is consistent, or the supply of a
-/// fresh record that the next step needs is empty. The log has all steps that were made, also where memory is wanting.
-/// There are no more of them than the specification and the image's length bound.
+/// Makes the steps that are due, one after the other, until none is left: the image is consistent,
+/// or the supply of a fresh record that the next step needs is empty. The log has all steps that
+/// were made, also where memory is wanting. There are no more of them than the specification and
+/// the image's length bound.
 pub fn repair<I: ImageBytes>(
     alloc: Global,
     plan: &Plan,

@@ -29,9 +29,9 @@ fn update_of<'a>(plan: &'a Plan, step: &Step) -> Option<&'a Update>
     }
 }
 
-/// Makes the step that is due, pushes its entry, and builds the model anew. Where nothing is due, or a supply is empty,
-/// all stays as it is; so it does where memory is wanting, but that more bytes may be claimed. Nothing can fail once a
-/// byte is written.
+/// Makes the step that is due, pushes its entry, and builds the model anew. Where nothing is due,
+/// or a supply is empty, all stays as it is; so it does where memory is wanting, but that more
+/// bytes may be claimed. Nothing can fail once a byte is written.
 pub fn step<I: ImageBytes>(
     alloc: Global,
     plan: &Plan,

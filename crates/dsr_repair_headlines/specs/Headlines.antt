@@ -17,8 +17,8 @@ use Rattle.dsr_store.specs.Files.{Files}
 use Rattle.dsr_trial.specs.Trials.{IsTrial}
 use Rattle.dsr_typing.specs.Specifications.{IsSpecificationOf}
 
--- the words ask to repair this image under this specification, and to save it under the name: their files
--- are within their limits, and the text means the specification
+-- the words ask to repair this image under this specification, and to save it under the name: their
+-- files are within their limits, and the text means the specification
 pub record IsToRepair (files : Files) (words : List (List ℕ)) (spec : Spec) (image name : List ℕ) : Type 0 where
   pub spec_name : List ℕ
   pub image_name : List ℕ
@@ -30,7 +30,8 @@ pub record IsToRepair (files : Files) (words : List (List ℕ)) (spec : Spec) (i
   pub short_image : length image ≤ image_limit spec
   pub means : IsSpecificationOf text spec
 
--- where the shelf tells its files and the words ask for a repair, a command that speaks gives the verdict on it
+-- where the shelf tells its files and the words ask for a repair, a command that speaks gives the
+-- verdict on it
 abbrev pub RepairsImages : List (List ℕ) → Outside → Outside → Status → Type 0
 RepairsImages words before after status =
     (files : Files) (spec : Spec) (image name : List ℕ) (verdict : Verdict) → before.held ≡ Some files
@@ -42,7 +43,8 @@ abbrev pub IsOfSome : (Spec → List ℕ → Type 0) → Files → List (List �
 IsOfSome Is files words name =
     (spec : Spec) × (image : List ℕ) × IsToRepair files words spec image name × Is spec image
 
--- no image is said to be repaired, and no supply to be empty, unless due steps were made that come to this
+-- no image is said to be repaired, and no supply to be empty, unless due steps were made that come
+-- to this
 abbrev pub RepairsNothingElse : List (List ℕ) → Outside → Outside → Status → Type 0
 RepairsNothingElse words before after status =
     (files : Files) (spec_name image_name name : List ℕ) → before.held ≡ Some files
@@ -52,8 +54,8 @@ RepairsNothingElse words before after status =
     × (status ≡ Said verdicts.SupplyEmpty
     → IsOfSome (λ spec image. WasStopped spec image before after) files words name)
 
--- Where a repair saved an image, words that ask to check what stands under the name, under the same specification,
--- get the verdict that it is consistent.
+-- Where a repair saved an image, words that ask to check what stands under the name, under the same
+-- specification, get the verdict that it is consistent.
 abbrev pub RepairsLast : List (List ℕ) → Outside → Outside → Status → Type 0
 RepairsLast words before after status =
     (files saved : Files) (spec : Spec) (image name : List ℕ) → before.held ≡ Some files → after.held ≡ Some saved

@@ -41,9 +41,10 @@ pub record WasUnlaid (spec : Spec) (image : List ℕ) (before after : Outside) :
   pub stands : Stands before after
   pub told : IsTold before after (layout_answer spec refusal)
 
--- By the plan that is taken, due steps lead from the image to a consistent one of the same layout and with the
--- same bits of fixed fields, no more steps than the specification and the image's length bound. That alone is
--- saved, under the name, and the report of the steps is told. An image that was consistent before is left as it is.
+-- By the plan that is taken, due steps lead from the image to a consistent one of the same layout
+-- and with the same bits of fixed fields, no more steps than the specification and the image's
+-- length bound. That alone is saved, under the name, and the report of the steps is told. An image
+-- that was consistent before is left as it is.
 pub record WasRepaired (spec : Spec) (image name : List ℕ) (before after : Outside) : Type 0 where
   pub choice : Choice
   pub taken : IsTaken spec choice
@@ -60,8 +61,8 @@ pub record WasRepaired (spec : Spec) (image name : List ℕ) (before after : Out
   pub told : IsTold before after (repaired_answer spec entries)
   pub left : IsConsistent spec layout image → (entries ≡ []) × (new ≡ image)
 
--- By the plan that is taken, due steps, as few, lead to where a supply has nothing of what is needed next.
--- Nothing is saved, and the report of the steps is told with what is needed.
+-- By the plan that is taken, due steps, as few, lead to where a supply has nothing of what is
+-- needed next. Nothing is saved, and the report of the steps is told with what is needed.
 pub record WasStopped (spec : Spec) (image : List ℕ) (before after : Outside) : Type 0 where
   pub choice : Choice
   pub taken : IsTaken spec choice
@@ -79,7 +80,8 @@ pub record WasStopped (spec : Spec) (image : List ℕ) (before after : Outside) 
 abbrev pub HasLayout : Spec → List ℕ → Type 0
 HasLayout spec image = (layout : Layout) × IsLayoutOf spec image layout
 
--- by the plan that is taken, due steps lead from the image to where a supply has nothing of what is needed next
+-- by the plan that is taken, due steps lead from the image to where a supply has nothing of what is
+-- needed next
 pub record RunsDry (spec : Spec) (image : List ℕ) : Type 0 where
   pub choice : Choice
   pub taken : IsTaken spec choice
@@ -90,8 +92,9 @@ pub record RunsDry (spec : Spec) (image : List ℕ) : Type 0 where
   pub need : Need
   pub run : IsRun spec choice layout image entries new (Empty need)
 
--- A verdict on a repair. It says exactly whether there is a plan, and where there is one, whether the image
--- has a layout; where both are there, the image was repaired, or a supply was empty, exactly where the run ends so.
+-- A verdict on a repair. It says exactly whether there is a plan, and where there is one, whether
+-- the image has a layout; where both are there, the image was repaired, or a supply was empty,
+-- exactly where the run ends so.
 pub record IsRepairVerdict (spec : Spec) (image name : List ℕ) (before after : Outside)
     (verdict : Verdict) : Type 0 where
   pub no_plan : (verdict ≡ verdicts.PlanRefused) ↔ HasNoPlan spec

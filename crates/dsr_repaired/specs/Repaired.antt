@@ -35,13 +35,15 @@ empty_answer spec entries need = record {
   text = report_text spec entries ++ empty_line spec need;
 }
 
--- what comes of a repair: these bytes are to be saved and the answer told then, or it is told and nothing saved
+-- what comes of a repair: these bytes are to be saved and the answer told then, or it is told and
+-- nothing saved
 pub data Ending : Type 0 where
   Saves : (bytes : List ℕ) (answer : Answer) → Ending
   Tells : (answer : Answer) → Ending
 
--- The image has no layout, and the first reason is told. Or the steps that are due by the plan lead to a consistent image,
--- which is to be saved, with their report. Or they lead to where a supply is empty, and that is told.
+-- The image has no layout, and the first reason is told. Or the steps that are due by the plan lead
+-- to a consistent image, which is to be saved, with their report. Or they lead to where a supply is
+-- empty, and that is told.
 pub data IsRepairOf (spec : Spec) (choice : Choice) (image : List ℕ) : Ending → Type 0 where
   unlaid :
       (refusal : Refusal) → first_of (refusals spec image) ≡ Some refusal

@@ -16,8 +16,8 @@ use Rattle.dsr_updating.specs.Templates.{literal_at}
 
 -- In what follows, `is_fact` says what a fact is.
 
--- Of the violated bindings the one of the constraint that stands on the lowest level, of those on one level of the one that is
--- declared first, and of its own the least.
+-- Of the violated bindings the one of the constraint that stands on the lowest level, of those on
+-- one level of the one that is declared first, and of its own the least.
 pub record IsDueBinding (is_fact : Fact → Type 0) (spec : Spec) (choice : Choice) (v : BoundConstraint)
     (constraint : Constraint) (row : Row) : Type 0 where
   pub row_of : IsRowOf spec choice v.constraint constraint row
@@ -61,7 +61,8 @@ pub record IsDueLiteral (is_fact : Fact → Type 0) (b : Binding) (constraint : 
       (earlier : ℕ) (other : Literal) (by : Template) → earlier < literal
       → IsToRepair is_fact b constraint row conj earlier other by → ⊥
 
--- at this binding of this constraint the literal of the conjunction is to become true next, by this template
+-- at this binding of this constraint the literal of the conjunction is to become true next, by this
+-- template
 pub record IsDue (is_fact : Fact → Type 0) (spec : Spec) (choice : Choice) (v : BoundConstraint)
     (conj literal : ℕ) (its : Literal) (template : Template) : Type 0 where
   pub constraint : Constraint

@@ -24,7 +24,8 @@ set_by step write cell number old = record {
   new = number;
 }
 
--- the writes are made in order, and these values are set; a write is skipped where what it wants holds already
+-- the writes are made in order, and these values are set; a write is skipped where what it wants
+-- holds already
 pub data AreSet (spec : Spec) (layout : Layout) (step : Step) : List Write → List ℕ → List ℕ → List CellSet → Type 0 where
   done : {bytes : List ℕ} → AreSet spec layout step [] bytes bytes []
   skipped :
@@ -51,7 +52,8 @@ changes_from place _ _ = []
 abbrev pub changes : List ℕ → List ℕ → List ByteChange
 changes old new = changes_from 0 old new
 
--- the step makes the old bytes the new ones, and this tells it: the fresh record is reset, and then the writes are made
+-- the step makes the old bytes the new ones, and this tells it: the fresh record is reset, and then
+-- the writes are made
 pub record IsEntryOf (spec : Spec) (layout : Layout) (step : Step) (update : Update) (old new : List ℕ) (entry : Entry) : Type 0 where
   pub constraint : entry.constraint ≡ step.constraint
   pub binding : entry.binding ≡ step.binding

@@ -18,7 +18,8 @@ pub record IsDueEntry (spec : Spec) (choice : Choice) (layout : Layout) (old : L
   pub due : IsDueStep spec choice layout old step update
   pub made : IsEntryOf spec layout step update old new entry
 
--- steps lead from the first bytes to the last, each the one that is due on what the ones before left
+-- steps lead from the first bytes to the last, each the one that is due on what the ones before
+-- left
 pub data IsPartRun (spec : Spec) (choice : Choice) (layout : Layout) : List ℕ → List Entry → List ℕ → Type 0 where
   begins : {bytes : List ℕ} → IsPartRun spec choice layout bytes [] bytes
   goes_on :

@@ -48,8 +48,8 @@ IsUsedUp is_fact spec layout pool =
 abbrev pub needed_by : Need → BoundConstraint
 needed_by need = record { constraint = need.constraint; binding = need.binding }
 
--- the update that is chosen for the literal that is to become true next takes a fresh record of the pool, whose supply
--- has none
+-- the update that is chosen for the literal that is to become true next takes a fresh record of the
+-- pool, whose supply has none
 pub record IsNeed (spec : Spec) (choice : Choice) (layout : Layout) (bytes : List ℕ) (need : Need) : Type 0 where
   pub literal : Literal
   pub template : Template
@@ -62,8 +62,8 @@ pub record IsNeed (spec : Spec) (choice : Choice) (layout : Layout) (bytes : Lis
   pub fresh : update.fresh ≡ Some need.pool
   pub used_up : IsUsedUp (IsFact spec layout bytes) spec layout need.pool
 
--- what comes next on the image: nothing where it is consistent, and else the step that is due, unless
--- the supply of what it needs is empty
+-- what comes next on the image: nothing where it is consistent, and else the step that is due,
+-- unless the supply of what it needs is empty
 abbrev pub IsTurn : Spec → Choice → Layout → List ℕ → Turn → Type 0
 IsTurn spec choice layout bytes turns.Done = IsConsistent spec layout bytes
 IsTurn spec choice layout bytes (turns.Step step) =

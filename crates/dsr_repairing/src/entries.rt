@@ -40,7 +40,8 @@ pub struct Entry {
     pub rule: u32,
     /// The fresh record that was reset.
     pub reset: Option<Element>,
-    /// The values that were set, in the order of the update's writes. What had its value already is left out.
+    /// The values that were set, in the order of the update's writes. What had its value already is
+    /// left out.
     pub sets: Seq<CellSet>,
     /// Each byte that is another one afterwards, by rising place.
     pub bytes: Seq<ByteChange>,

@@ -1,7 +1,9 @@
-//! What a repair does next on an image, what is told of each step, and runs of steps from one image to another.
+//! What a repair does next on an image, what is told of each step, and runs of steps from one image
+//! to another.
 //!
-//! The definitions stand in `specs/`. That a violated constraint is repaired by making the literals of one of its
-//! conjunctions true is after OOPSLA 2003 and ICSE 2005; the order of all choices is this project's own.
+//! The definitions stand in `specs/`. That a violated constraint is repaired by making the literals
+//! of one of its conjunctions true is after OOPSLA 2003 and ICSE 2005; the order of all choices is
+//! this project's own.
 #![tactic(auto)]
 
 mod entries;

@@ -2,7 +2,8 @@
 use dsr_ir::Binding;
 use dsr_stepping::Step;
 
-/// A fresh record that is needed where the supply has none.
+/// A fresh record that is needed where the supply has none. It tells an author which supply is too
+/// small, and for what.
 #[derive(Clone, Copy, PartialEq, Eq)]
 pub struct Need {
     /// The pool of the record, counted from 1.

@@ -82,8 +82,10 @@ pub record IsSet (spec : Spec) (set : CellSet) : Type 0 where
   pub old : set.old < 2 ^ 64
   pub new : set.new < 2 ^ 64
 
--- the first field of its name in the pool, among those that are arrays or among those that are none: no structure that
--- is declared before has such a one
+-- The first field of its name in the pool, among those that are arrays or among those that are
+-- none: no structure that is declared before has such a one. Structures of one pool that aren't
+-- related may have fields of one name, and a line tells the name alone. A text that the first field
+-- doesn't give, none gives.
 pub record IsFirstNamed (base : Structures) (pool : ℕ) (place : FieldRef) (field : Field) : Type 0 where
   pub none_before :
       (other : FieldRef) (its : Field) → IsPoolField base pool other its → its.name ≡ field.name

@@ -1,4 +1,5 @@
--- A lenient reading of a line, which takes for granted of what form it is; then it is printed and compared.
+-- A lenient reading of a line, which takes for granted of what form it is; then it is printed and
+-- compared.
 use Rattle.std.specs.Prelude.{ℕ, ◌+◌, ◌-◌, ◌*◌, ◌%◌, ◌^◌, Bool, nat_lt, nat_eq, List, [], ◌∷◌, length, take, drop, slice_index, if◌then◌else◌, Result, Ok, Err}
 use Rattle.std.specs.Char.{is_ascii_digit}
 use Rattle.std.specs.List.{prefix_len}

@@ -38,7 +38,8 @@ fn descends(base: &Structures, structure: u32, other: u32) -> bool
     has_in_line(base, structure, other)
 }
 
-// Whether records of the pool are read by a set's structure that is the other one or descends from it.
+// Whether records of the pool are read by a set's structure that is the other one or descends from
+// it.
 fn is_viewed(base: &Structures, pool: u32, structure: u32) -> bool
     requires typed { AreTyped base.now }
     ensures { Decides result (IsViewed base.now pool structure) }

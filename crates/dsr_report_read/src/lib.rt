@@ -1,7 +1,7 @@
 //! The log that a report tells, read back from the text.
 //!
-//! A line is read leniently, for each constraint, pool or field whose name it may have; what was read is printed, and
-//! compared with the line.
+//! A line is read leniently, for each constraint, pool or field whose name it may have; what was
+//! read is printed, and compared with the line.
 #![tactic(auto)]
 
 mod bindings;

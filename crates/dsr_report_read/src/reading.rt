@@ -122,8 +122,9 @@ fn read_lines(alloc: Global, spec: &Spec, texts: &[&[u8]]) -> Result<Vec<Line>, 
     Ok(lines)
 }
 
-/// A log of which the text is the report. `Line` tells the number of the first line that isn't of the form, counted from 1; behind
-/// the last line it is one more, where the end is missing. `NoMemory` says that memory was wanting.
+/// A log of which the text is the report. `Line` tells the number of the first line that isn't of
+/// the form, counted from 1; behind the last line it is one more, where the end is missing.
+/// `NoMemory` says that memory was wanting.
 pub fn read(alloc: Global, spec: &Spec, text: &[u8]) -> Result<Log, ReadFault>
     requires typed { IsTyped spec.now }
     ensures text { IfOk result (λ log. text.now ≡ report_text spec.now log.entries) }

@@ -38,7 +38,8 @@ scope_told s = record {
 
 -- ---- guards
 
--- what a guard tests is no reference of the record, as far as is known; what it compares is no number
+-- what a guard tests is no reference of the record, as far as is known; what it compares is no
+-- number
 abbrev pub is_no_reference : Scope → Var → Option FieldRef → Bool
 is_no_reference scope var field =
     is_other_head scope var || field_is scope.known.base is_number field

@@ -106,7 +106,8 @@ impl Scope<'_> {
         index.is_some() && path.index.is_none() && self.known.is_scalar(field)
     }
 
-    // Whether `head` stands where the record has a name, or a slot before a field that isn't read at the index.
+    // Whether `head` stands where the record has a name, or a slot before a field that isn't read
+    // at the index.
     fn is_no_pair(&self, term: &Term, path: &Path, field: Option<FieldRef>) -> bool
         requires field { field ≡ path_field (scope_told self.now) path.now.var path.now.field }
         ensures { result ≡ is_no_pair (scope_told self.now) term.now path.now }

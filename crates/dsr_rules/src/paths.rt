@@ -75,7 +75,8 @@ impl Scope<'_> {
         }
     }
 
-    // Whether a field is known that the rule's index can't read: a scalar, or any under the slots of a pool.
+    // Whether a field is known that the rule's index can't read: a scalar, or any under the slots
+    // of a pool.
     fn is_unread(&self, field: Option<FieldRef>) -> bool
         ensures { result ≡ field_is self.now.known.base.now (λ f. is_scalar f || self.now.over_pool) field }
     {

@@ -33,7 +33,8 @@ fn rules_among(alloc: Global, tree: &Tree, known: &Known<'_>) -> Result<Vec<Rule
 /// The typed rules of a tree, in order, over the tables of its declarations. `At` tells the fault
 /// with the least place, and of several there the one of the least condition; the conditions are
 /// those of a name that is declared twice or stands for nothing, of a limit, of pools and kinds
-/// that disagree, of lengths that differ, of an index that is wrong, and of a constant that is too wide.
+/// that disagree, of lengths that differ, of an index that is wrong, and of a constant that is too
+/// wide.
 pub fn rules(alloc: Global, tree: &Tree, structures: &Structures) -> Result<Vec<Rule>, SpecFault>
     requires typed { AreTyped structures.now }
     ensures no_fault { IfOk result (λ _. rules_faults (known_in structures.now) tree.now.rules ≡ []) }

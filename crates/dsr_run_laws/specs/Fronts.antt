@@ -6,7 +6,8 @@ use Rattle.dsr_planning.specs.declared.choices.Choice.{Choice}
 use Rattle.dsr_repairing.specs.Runs.{IsPartRun}
 use Rattle.dsr_repairing.specs.declared.entries.Entry.{Entry}
 
--- these entries are the first of all, and the others tell a run from the bytes that they leave to the last
+-- these entries are the first of all, and the others tell a run from the bytes that they leave to
+-- the last
 pub record GoesOn (spec : Spec) (choice : Choice) (layout : Layout) (first : List Entry) (middle : List ℕ)
     (all : List Entry) (last : List ℕ) : Type 0 where
   pub rest : List Entry

@@ -1,5 +1,5 @@
-//! A repair of an image by a plan is one run: laws on what is due, and on runs. Each function does nothing when it runs, and
-//! carries its law as its contract.
+//! A repair of an image by a plan is one run: laws on what is due, and on runs. Each function does
+//! nothing when it runs, and carries its law as its contract.
 #![tactic(auto)]
 
 mod laws;

@@ -1,18 +1,21 @@
-//! Reads runs of the program from the standard input, does each over files in memory, and prints how it ended.
+//! Reads runs of the program from the standard input, does each over files in memory, and prints
+//! how it ended.
 //!
 //! A line `=== NAME WORD WORD ..` begins a run with these words. Below it may stand, in this order:
-//! - `--- CALL PUT`: which call of the shelf and which put fail, counted from 1; 0 for none. A third number is how many bytes a
-//!   failed save leaves, 0 where it isn't told;
-//! - `<<< WORD WORD ..`: these words run first, over a shelf that never fails, and the run begins with what they left;
+//! - `--- CALL PUT`: which call of the shelf and which put fail, counted from 1; 0 for none. A
+//!   third number is how many bytes a failed save leaves, 0 where it isn't told;
+//! - `<<< WORD WORD ..`: these words run first, over a shelf that never fails, and the run begins
+//!   with what they left;
 //! - `*** FIRST LAST`: a run of each of these numbers, with the number in place of each `#`;
-//! - its files: a line `+++ NAME` begins one, which is the text up to the next such line, without the line feed before that line.
-//!   Words behind its name go on with it: `HEX` appends these bytes, `HEX*COUNT` so often, `HEX*COUNT+HEX` with so much added to
-//!   them each time, as to a number whose least byte is the first; `trial:NUMBER` appends the image of that trial; `<COUNT` cuts
-//!   off what is behind so many bytes.
+//! - its files: a line `+++ NAME` begins one, which is the text up to the next such line, without
+//!   the line feed before that line. Words behind its name go on with it: `HEX` appends these
+//!   bytes, `HEX*COUNT` so often, `HEX*COUNT+HEX` with so much added to them each time, as to a
+//!   number whose least byte is the first; `trial:NUMBER` appends the image of that trial; `<COUNT`
+//!   cuts off what is behind so many bytes.
 //!
-//! Of each run is printed `=== NAME STATUS`, what it put, `--- load NAME` or `--- save NAME` for the call that failed, and
-//! `+++ NAME HEX` for each file that it saved, or `+++ NAME = OTHER` for one of more than 4,096 bytes which are those that the
-//! file OTHER had before.
+//! Of each run is printed `=== NAME STATUS`, what it put, `--- load NAME` or `--- save NAME` for
+//! the call that failed, and `+++ NAME HEX` for each file that it saved, or `+++ NAME = OTHER` for
+//! one of more than 4,096 bytes which are those that the file OTHER had before.
 #![tactic(auto)]
 
 mod failing;

@@ -63,7 +63,8 @@ abbrev pub AllLoaded : Outside → List Came → Type 0
 AllLoaded before [] = ⊤
 AllLoaded before (came ∷ more) = IsLoaded before came × AllLoaded before more
 
--- the run of a script: files came whole as it says, and the run ended by what is next; or memory ran out
+-- the run of a script: files came whole as it says, and the run ended by what is next; or memory
+-- ran out
 abbrev pub Runs : Script → Outside → Outside → Status → Type 0
 Runs script before after status =
     Stops before after status

@@ -1,4 +1,5 @@
--- What a command does, as a script: which file it loads first, and what follows from the bytes that came.
+-- What a command does, as a script: which file it loads first, and what follows from the bytes that
+-- came.
 use Rattle.std.specs.Prelude.{◌≡◌, ℕ, List, [], ◌∷◌, Bool, true, false}
 use Rattle.dsr_script.specs.declared.status.Verdict.{Verdict}
 
@@ -9,14 +10,16 @@ pub record Answer : Type 0 where
 
 -- what a command does next
 pub data Next : Type 0 where
-  -- loads the file of this name, which may have so many bytes: the long text is told where it has more
+  -- loads the file of this name, which may have so many bytes: the long text is told where it has
+  -- more
   Load : (name : List ℕ) (limit : ℕ) (long : List ℕ) → Next
   -- saves these bytes under the name, and tells the answer once that is done
   Save : (name bytes : List ℕ) (answer : Answer) → Next
   -- tells the answer
   Tell : (answer : Answer) → Next
 
--- a file that was loaded: its name and limit, what is told where it is longer, and the bytes that came
+-- a file that was loaded: its name and limit, what is told where it is longer, and the bytes that
+-- came
 pub record Came : Type 0 where
   pub name : List ℕ
   pub limit : ℕ

@@ -1,5 +1,5 @@
-//! What a model that was built of an image's bytes tells of the image: laws, each the contract of a function that
-//! does nothing when it runs.
+//! What a model that was built of an image's bytes tells of the image: laws, each the contract of a
+//! function that does nothing when it runs.
 #![tactic(auto)]
 
 mod laws;

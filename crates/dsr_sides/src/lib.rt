@@ -1,5 +1,5 @@
-//! Whether an update of a template can be made as it is judged, and whether it changes nothing that would undo what
-//! it is for.
+//! Whether an update of a template can be made as it is judged, and whether it changes nothing that
+//! would undo what it is for.
 #![tactic(auto)]
 
 mod making;

@@ -50,7 +50,8 @@ fn may_stand_together(base: &Structures, writes: &[Write]) -> bool
 }
 
 impl Owner<'_> {
-    // Whether the variable is known to be a member of a set of which no fresh record of such a supply is one.
+    // Whether the variable is known to be a member of a set of which no fresh record of such a
+    // supply is one.
     fn is_known_avoided(&self, var: Var, avoid: &[u32]) -> bool
         requires sound { IsSound self.now }
         ensures { Decides result ((set : ℕ) × IsKnown self.now.spec.now self.now.constraint.now.quant var set
@@ -77,7 +78,8 @@ impl Owner<'_> {
         }
     }
 
-    // Whether there is a supply of the pool, and the record that is written isn't one of its fresh ones.
+    // Whether there is a supply of the pool, and the record that is written isn't one of its fresh
+    // ones.
     fn may_supply(&self, update: &Update, pool: u32) -> bool
         requires sound { IsSound self.now }
         requires fresh { update.now.fresh ≡ Some pool }
@@ -94,8 +96,9 @@ impl Owner<'_> {
             || self.is_no_fresh_one(update.place, avoid.items())
     }
 
-    /// Whether the update can be made as it is judged: its writes may stand together, and where it asks for a fresh
-    /// record, there is a supply, and the record that is written isn't a fresh one.
+    /// Whether the update can be made as it is judged: its writes may stand together, and where it
+    /// asks for a fresh record, there is a supply, and the record that is written isn't a fresh
+    /// one.
     pub fn may_be_made(&self, update: &Update) -> bool
         requires sound { IsSound self.now }
         ensures { (goal : GoalOf) → Decides result

@@ -18,7 +18,9 @@ use dsr_ir::{Constraint, Goal, NoMemory, Spec, Template, Update};
 use dsr_updating::Effect;
 use std::alloc::Global;
 
-/// A constraint of a specification, with what is found once for all updates of its literals.
+/// A constraint of a specification, with what is found once for all updates of its literals. These
+/// are the facts that it uses, the sets of which its variables' records are known to be members,
+/// and for each set whether it has no member in common with these.
 #[derive(Drop)]
 pub struct Owner<'a> {
     pub(crate) spec: &'a Spec,
@@ -113,8 +115,8 @@ impl<'a> Owner<'a> {
         self.context.gaining_rules(goal, update)
     }
 
-    /// What an update of the constraint may change, for this goal; that of an update of a template for exactly one
-    /// is to supply for the first one and to trim for the others.
+    /// What an update of the constraint may change, for this goal; that of an update of a template
+    /// for exactly one is to supply for the first one and to trim for the others.
     pub fn effect(&self, alloc: Global, goal: Goal, update: &Update) -> Result<Effect, NoMemory>
         requires sound { IsSound self.now }
         ensures { IfOk result (IsEffectOf (change_of (owner_of self.now) goal update.now)) }

@@ -152,8 +152,8 @@ impl Owner<'_> {
         self.keeps_premise(update, effect, Direction::Loss) && self.supplies_one(atom, effect)
     }
 
-    /// Whether an update, by its place in a template for the goal of the literal, changes nothing that would undo what
-    /// the template is for; the effect is the update's.
+    /// Whether an update, by its place in a template for the goal of the literal, changes nothing
+    /// that would undo what the template is for; the effect is the update's.
     pub fn may_serve(
         &self,
         goal: Goal,

@@ -1,4 +1,5 @@
-//! The typed specification of a tree: declarations, rules and constraints, or the first fault in them.
+//! The typed specification of a tree: declarations, rules and constraints, or the first fault in
+//! them.
 #![tactic(auto)]
 
 mod laws;

@@ -1,13 +1,14 @@
-// What is found out about specifications, in steps: what updates there are, what they may change, which of them are
-// listed, and what the graph over them is.
+// What is found out about specifications, in steps: what updates there are, what they may change,
+// which of them are listed, and what the graph over them is.
 //
-// A line `=== QUESTION NAME` begins a case. The lines below it, up to the next such line, are its text. The questions are
-// - `updates`: for each constraint the facts that it uses and the sets of which its variables are known to be members, and for
-//   each literal the updates that are tried;
+// A line `=== QUESTION NAME` begins a case. The lines below it, up to the next such line, are its
+// text. The questions are
+// - `updates`: for each constraint the facts that it uses and the sets of which its variables are
+//   known to be members, and for each literal the updates that are tried;
 // - `effects`: for each literal what the updates that are tried for it may change;
 // - `listed`: for each literal the updates that are listed for it;
-// - `graph`: for each listed template of each literal which constraints it breaks and why, and which literal it falsifies; and
-//   on which constraints each one relies.
+// - `graph`: for each listed template of each literal which constraints it breaks and why, and
+//   which literal it falsifies; and on which constraints each one relies.
 //
 // Fields stand as the numbers of their structure and their place there.
 ghost use Rattle.dsr_meaning.specs.Typed.{IsTyped};

@@ -1,7 +1,8 @@
 //! Reads cases from the standard input and prints what is told of each text alone.
 //!
-//! A line `##### NAME` begins a section, and the lines below it, up to the next such line, are its cases: `texts`,
-//! `declarations`, `specifications` or `graphs`, each as the file of that name says.
+//! A line `##### NAME` begins a section, and the lines below it, up to the next such line, are its
+//! cases: `texts`, `declarations`, `specifications` or `graphs`, each as the file of that name
+//! says.
 #![tactic(auto)]
 
 mod declarations;

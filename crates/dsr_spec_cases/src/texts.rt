@@ -1,9 +1,9 @@
 // What `parse`, `print` and `tokens` give for texts.
 //
 // A line `=== NAME WANTED` begins a case. The lines below it, up to the next such line, are its
-// text; the line feed before that next line, or at the section's end, isn't part of it. Behind `hex`
-// the text stands in hexadecimal. What stands in parentheses behind all these is a remark. What is
-// wanted is one of:
+// text; the line feed before that next line, or at the section's end, isn't part of it. Behind
+// `hex` the text stands in hexadecimal. What stands in parentheses behind all these is a remark.
+// What is wanted is one of:
 //
 // - `text`: the canonical text, and whether a copy of the tree, and the canonical text read again,
 //   are printed the same; or the kind and the place of the fault

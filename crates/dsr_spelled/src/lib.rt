@@ -1,5 +1,5 @@
-//! How the names of a specification are spelled: a law, the contract of a function that does nothing
-//! when it runs.
+//! How the names of a specification are spelled: a law, the contract of a function that does
+//! nothing when it runs.
 #![tactic(auto)]
 
 ghost use Rattle.std.specs.Prelude.{ℕ, List};

@@ -17,8 +17,8 @@ use Rattle.dsr_updating.specs.Together.{MayStandTogether}
 abbrev pub written_instance : Step → Instance
 written_instance step = record { rule = step.rule; elem = step.elem; index = step.index }
 
--- the step can be made in an image of so many bytes, at an instance of a rule without index; its update has all writes by
--- which the rule adds, and maybe others beside which these may stand
+-- the step can be made in an image of so many bytes, at an instance of a rule without index; its
+-- update has all writes by which the rule adds, and maybe others beside which these may stand
 pub record IsAddition (spec : Spec) (layout : Layout) (step : Step) (update : Update) (rule : Rule)
     (adding : Option (List Write)) (bytes : ℕ) : Type 0 where
   pub can : CanStep spec layout step update bytes

@@ -11,7 +11,8 @@ use Rattle.dsr_meaning.specs.Refusals.{IsLayoutOf}
 use Rattle.dsr_meaning.specs.Typed.{Descends, IsTyped}
 use Rattle.dsr_meaning.specs.Writes.{AreBytes, HasSameBits}
 
--- the specification is typed, and this is its layout on the bytes of the image, which is no longer than one may be
+-- the specification is typed, and this is its layout on the bytes of the image, which is no longer
+-- than one may be
 pub record IsImageOf (spec : Spec) (layout : Layout) (image : List ℕ) : Type 0 where
   pub typed : IsTyped spec
   pub bytes : AreBytes image

@@ -3,8 +3,8 @@ use Rattle.std.specs.Prelude.{ℕ, List, [], ◌∷◌}
 use Rattle.dsr_ir.specs.declared.layouts.Cell.{Cell}
 use Rattle.dsr_meaning.specs.Writes.{AreBytes, BesideStay, Puts}
 
--- the value is put into the cell, no other bit changes, cells that share no bit with it keep their values, and what is
--- left are bytes
+-- the value is put into the cell, no other bit changes, cells that share no bit with it keep their
+-- values, and what is left are bytes
 pub record IsPut (cell : Cell) (value : ℕ) (old new : List ℕ) : Type 0 where
   pub puts : Puts cell value old new
   pub beside : BesideStay cell old new

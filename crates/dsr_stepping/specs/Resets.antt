@@ -62,6 +62,8 @@ record_puts base layout e =
     (λ d. flat_map (structure_puts base layout e) (d.structure ∷ ancestors base.structures d.structure))
     (pool_at base e.pool) []
 
--- the record is reset: its bytes become 0, and then its fields get their reset values
+-- The record is reset: its bytes become 0, and then its fields get their reset values. The order
+-- doesn't matter, since such fields share no bit. That each cell has its reset value in the end,
+-- and each other bit of the slot is 0, is a law.
 abbrev pub reset_puts : Structures → Layout → Element → List (Cell × ℕ)
 reset_puts base layout e = slot_zeros layout e ++ record_puts base layout e

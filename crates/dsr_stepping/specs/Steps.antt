@@ -51,7 +51,8 @@ abbrev pub written_cell : Layout → Step → Write → Option Cell
 written_cell layout step write =
     cell_of layout step.elem write.path.field (written_index step write)
 
--- what the write wants holds of the value: its test comes out as wanted, or without one the value is the picked number
+-- what the write wants holds of the value: its test comes out as wanted, or without one the value
+-- is the picked number
 abbrev pub IsWanted : Spec → Layout → Write → ℕ → ℕ → Type 0
 IsWanted spec layout write number value =
     MatchOption write.wants (value ≡ number)

@@ -1,4 +1,5 @@
--- A list of files, and the map that it stands for: where a name stands twice, its first file counts.
+-- A list of files, and the map that it stands for: where a name stands twice, its first file
+-- counts.
 use Rattle.std.specs.Prelude.{ℕ, ◌+◌, List, [], ◌∷◌, Option, None, Some, if◌then◌else◌}
 use Rattle.std.specs.Str.{bytes_eq}
 use Rattle.std.specs.FinMap.{from_entries}

@@ -77,8 +77,8 @@ fn file_target<R: Files>(alloc: Global, rt: &R, name: &str) -> io::Result<Target
     if path.as_str() == name {
         return Ok(Target::Plain { path, mode });
     }
-    // A link of /proc leads to an open file, which may be gone from the path that the link tells, or
-    // be another one than stands there.
+    // A link of /proc leads to an open file, which may be gone from the path that the link tells,
+    // or be another one than stands there.
     match found {
         Some(found) if is_same(&held, &found) => Ok(Target::Plain { path, mode }),
         Some(_) => Err(ErrorKind::ResourceBusy.into()),
@@ -177,9 +177,9 @@ fn fill<F: Write + OpenFile + Drop>(
     file.sync_all()
 }
 
-// Has the folder's new entry written to the disk. A failure here is none of the save: the bytes stand
-// whole under the name already, and all that a crash of the system can do is to bring the old file
-// back. Not every runtime or file system opens or syncs a folder.
+// Has the folder's new entry written to the disk. A failure here is none of the save: the bytes
+// stand whole under the name already, and all that a crash of the system can do is to bring the old
+// file back. Not every runtime or file system opens or syncs a folder.
 fn sync_folder<R: Files>(rt: &R, path: &str) {
     let folder = match Path::new(path).parent() {
         Some(folder) if folder.as_str().is_empty() => ".",

@@ -22,9 +22,9 @@ pub(crate) fn fault_of(error: &io::Error) -> ShelfFault
     }
 }
 
-/// The first bytes that a reader gives, at most `cap`. A read that gives nothing is its end, and one
-/// that is interrupted is tried again. `NoMemory` is want of memory, here or as a read tells it,
-/// `Failed` any other failure of a read.
+/// The first bytes that a reader gives, at most `cap`. A read that gives nothing is its end, and
+/// one that is interrupted is tried again. `NoMemory` is want of memory, here or as a read tells
+/// it, `Failed` any other failure of a read.
 pub fn read_front<F: Read>(alloc: Global, file: &mut F, cap: u64) -> Result<Vec<u8>, ShelfFault>
     ensures capped { IfOk result (λ bytes. vec_len bytes ≤ cap) }
     ensures front { IfOk result
@@ -61,19 +61,19 @@ fn load_front<R: Files>(alloc: Global, rt: &R, name: &str, cap: u64) -> Result<V
 /// The system's files, by their paths. What they hold isn't told, since others may write them too.
 ///
 /// A save never ruins a file. It makes a new file in the same folder, `NAME.dsr-new`, or where that
-/// is taken one of `NAME.dsr-new1` to `NAME.dsr-new99`, writes all bytes of it to the disk, gives it
-/// the permission bits of the file that it replaces, and renames it to NAME.
+/// is taken one of `NAME.dsr-new1` to `NAME.dsr-new99`, writes all bytes of it to the disk, gives
+/// it the permission bits of the file that it replaces, and renames it to NAME.
 ///
 /// - After a kill or a crash, NAME has all its old bytes or all the new ones; if there was no such
 ///   file, there is none, or the whole new one. The file `NAME.dsr-new` may be left. No save
 ///   reads it or waits for it, and it can be removed.
-/// - After a failure, for want of room, of leave or of memory, NAME is as it was, and the new file is
-///   removed. Leave is wanted to write the folder as well as the file, if there is one.
+/// - After a failure, for want of room, of leave or of memory, NAME is as it was, and the new file
+///   is removed. Leave is wanted to write the folder as well as the file, if there is one.
 /// - Where NAME is a symbolic link, it stays, and the file that it leads to is the one that is
 ///   replaced, in that file's folder. Other hard links of a file keep the old bytes. The new
 ///   file has the user and the group of the program, and no attributes but its permission bits.
-/// - What is no plain file, as a device or a pipe, is written to as it stands, so a failure or a kill
-///   may come when it has taken a part.
+/// - What is no plain file, as a device or a pipe, is written to as it stands, so a failure or a
+///   kill may come when it has taken a part.
 #[derive(Drop)]
 pub struct FileShelf<'a, R: Files> {
     /// The runtime that the files are reached through.

@@ -1,5 +1,5 @@
-//! What shelves and outputs do, and a command over them whose calls fail in turn, apart from `dsr_store` and `dsr_script`, which
-//! their own tests would prove twice.
+//! What shelves and outputs do, and a command over them whose calls fail in turn, apart from
+//! `dsr_store` and `dsr_script`, which their own tests would prove twice.
 #![tactic(auto)]
 
 #[cfg(test)]

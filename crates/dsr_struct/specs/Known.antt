@@ -37,7 +37,8 @@ told_by tree tables = record {
   supply = get bytes_eq tables.symbols.pools.supplies;
 }
 
--- the tables of structures have the first number of each name, what each declares and what it descends from
+-- the tables of structures have the first number of each name, what each declares and what it
+-- descends from
 pub record HaveStructures (tree : Tree) (tables : StructureTables) : Type 0 where
   pub structures :
       (q : List ℕ)

@@ -12,8 +12,8 @@ use dsr_tree::{Field, Fresh, PlacedName, Pool, Relation, Set, Structure, Tree};
 use indexmap::IndexMap;
 use std::alloc::Global;
 
-// A `?` costs its proof what stays to be dropped there. So the tables are held and made in pairs, and
-// those that stay alive at a `?` are dropped by a call of their own.
+// A `?` costs its proof what stays to be dropped there. So the tables are held and made in pairs,
+// and those that stay alive at a `?` are dropped by a call of their own.
 
 /// What the names of a tree stand for, by the numbers of the items that declare them.
 pub struct NameTables {

@@ -22,8 +22,8 @@ application_of e = record {
   applied = e.applied;
 }
 
--- The application has all that the laws on updates that are tried ask for. Some fact that it changes lies in its table, and
--- it helps its literal.
+-- The application has all that the laws on updates that are tried ask for. Some fact that it
+-- changes lies in its table, and it helps its literal.
 pub record IsTriedExample (a : Application) : Type 0 where
   pub tried : IsTried a
   pub serves : MayServe a.template.goal a.applied.literal.atom a.step.update (change_in a)

@@ -1,5 +1,5 @@
-//! That the laws on templates speak of something. Each law is the contract of a function that does nothing when it
-//! runs.
+//! That the laws on templates speak of something. Each law is the contract of a function that does
+//! nothing when it runs.
 #![tactic(auto)]
 
 ghost use Rattle.dsr_ir.specs.declared.updates.Goal.{Goal};

@@ -28,7 +28,8 @@ pub record HasFewer (spec : Spec) (layout : Layout) (old new : List ℕ) (symbol
   pub was : IsActiveFor spec layout old symbol stopped
   pub no_more : IsActiveFor spec layout new symbol stopped → ⊥
 
--- the literal is true afterwards, or the step takes a fact away and fewer instances give facts of the literal's symbol
+-- the literal is true afterwards, or the step takes a fact away and fewer instances give facts of
+-- the literal's symbol
 abbrev pub Helps : Spec → Layout → Template → Step → List ℕ → List ℕ → Literal → Type 0
 Helps spec layout template step old new literal =
     LiteralHolds (IsFact spec layout new) step.binding literal

@@ -11,7 +11,8 @@ use Rattle.dsr_planning.specs.Plans.{IsListedAt}
 use Rattle.dsr_stepping.specs.declared.steps.Step.{Step}
 use Rattle.dsr_updating.specs.Changes.{Change}
 
--- an update of a template, applied at a violated binding of a constraint: its step makes the old bytes the new ones
+-- an update of a template, applied at a violated binding of a constraint: its step makes the old
+-- bytes the new ones
 pub record Application : Type 0 where
   pub spec : Spec
   pub template : Template
@@ -36,6 +37,7 @@ judged owner template update step = change_of owner (goal_at template.goal step.
 abbrev pub change_in : Application → Change
 change_in a = judged (owner_of a) a.template a.update a.step
 
--- the template is the one of this number, counted from 1, among those that are listed for the literal
+-- the template is the one of this number, counted from 1, among those that are listed for the
+-- literal
 abbrev pub IsListed : Application → ℕ → Type 0
 IsListed a number = IsListedAt (owner_of a) a.step.conj a.step.literal number a.template

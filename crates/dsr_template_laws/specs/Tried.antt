@@ -10,7 +10,8 @@ use Rattle.dsr_updating.specs.Templates.{AreRaw, KnownSets, TellsKnown}
 use Rattle.dsr_listing.specs.Sides.{MayBeMade}
 use Rattle.dsr_template_laws.specs.Judging.{Application, change_in, owner_of}
 
--- the update, by its place in the template, is one of a template that is tried for the literal, perhaps compensated
+-- the update, by its place in the template, is one of a template that is tried for the literal,
+-- perhaps compensated
 pub record IsTriedAt (owner : Owner) (its : Literal) (template : Template) (n : ℕ) (update : Update) : Type 0 where
   pub known : KnownSets
   pub tells : TellsKnown owner.spec owner.constraint.quant known
@@ -23,7 +24,8 @@ pub record IsTriedAt (owner : Owner) (its : Literal) (template : Template) (n : 
   pub own_at : slice_get raw.updates n ≡ Some own
   pub grown : IsGrownFrom owner raw own update
 
--- the update that is applied is one of a template that is tried for the literal, and can be made as it is judged
+-- the update that is applied is one of a template that is tried for the literal, and can be made as
+-- it is judged
 pub record IsTried (a : Application) : Type 0 where
   pub tried : IsTriedAt (owner_of a) a.applied.literal a.template a.step.update a.update
   pub may : MayBeMade (change_in a)

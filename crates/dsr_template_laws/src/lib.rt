@@ -1,5 +1,5 @@
-//! What the updates of templates do: laws on applications. What an update may change is told by the table of its
-//! effect, and an update helps its literal.
+//! What the updates of templates do: laws on applications. What an update may change is told by the
+//! table of its effect, and an update helps its literal.
 //!
 //! The functions do nothing when they run. Each carries its law as its contract.
 #![tactic(auto)]
@@ -22,8 +22,8 @@ ghost use Rattle.dsr_template_laws.specs.Judging.{Application, IsListed, change_
 ghost use Rattle.dsr_template_laws.specs.Tried.{IsTried, IsTriedAt};
 ghost use Rattle.dsr_updating.specs.declared.effects.Direction.TheVariants.{Gain, Loss};
 
-/// An indexed write of an update of a template that is tried, compensated or not, is its only write,
-/// or the update writes the head.
+/// An indexed write of an update of a template that is tried, compensated or not, is its only
+/// write, or the update writes the head.
 pub fn indexed_writes_stand_alone()
     ensures { (owner : Owner) → IsTyped owner.spec → (literal : Literal)
         → IsTypedLiteral owner.spec owner.constraint.quant literal

@@ -100,7 +100,8 @@ content_faults pool width (Some (contents.Init place number)) =
     when (nat_le (2 ^ entry_bits width) number.number) conditions.Width number.place
 content_faults pool width (Some (contents.Refers place name)) = unknown_name pool name
 
--- what a field takes up; how many entries an array has is no matter for where a byte begins, since behind it one does
+-- what a field takes up; how many entries an array has is no matter for where a byte begins, since
+-- behind it one does
 abbrev pub extent_of : FieldTree → Extent
 extent_of (named f) = record { bits = entry_bits f.width; entries = option_map (λ _. 0) f.length }
 extent_of (skipped place length) = record { bits = 8; entries = Some 0 }
@@ -140,7 +141,8 @@ pub record FieldPosition : Type 0 where
   -- whether an array or a gap whose length isn't a number stands before it
   pub behind_open : Bool
 
--- whether a structure has the name twice: in an earlier field of its own, or in one that it inherits
+-- whether a structure has the name twice: in an earlier field of its own, or in one that it
+-- inherits
 abbrev pub is_declared_above : Names → FieldPosition → List ℕ → Bool
 is_declared_above names at q =
     not (is_at at.number (own_field names at.structure q)) || inherits names at.structure q

@@ -95,7 +95,8 @@ compare =
     (mark sign.Differs ∷ mark sign.Less ∷ mark sign.AtMost ∷ mark sign.Greater
     ∷ mark sign.AtLeast ∷ [])
 
--- an atom is counted at its first token: a formula has at most 128
+-- An atom is counted at its first token: a formula has at most 128. So the 129th is refused there,
+-- and not at the `and` before it: what stands before that token begins a text of the grammar.
 abbrev pub literal : Charge
 literal = counted 128
 

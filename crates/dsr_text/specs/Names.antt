@@ -27,7 +27,8 @@ abbrev pub has_fixed_name : List ℕ → FieldTree → Bool
 has_fixed_name q (named f) = is_some f.fixed && bytes_eq f.name.name q
 has_fixed_name q (skipped place length) = false
 
--- the first declaration of a name, by its number among those of its kind
+-- The first declaration of a name, by its number among those of its kind. The second one is refused
+-- at its place, and what else is told, before that place, goes by the first.
 abbrev pub structure_number : TreeShape → List ℕ → Option ℕ
 structure_number t q = position_from (λ s. bytes_eq s.name.name q) 0 t.structures
 
@@ -47,7 +48,9 @@ relation_number t q = position_from (λ r. bytes_eq r.name.name q) 0 t.relations
 abbrev pub supply_number : TreeShape → List ℕ → Option ℕ
 supply_number t q = position_from (λ f. bytes_eq f.pool.name q) 0 t.supplies
 
--- the fixed field that a structure itself declares under a name, by its number among all fields there
+-- the fixed field that a structure itself declares under a name, by its number among all fields
+-- there, also where a field of the same name that isn't fixed stands before it: the later of the
+-- two is told as declared twice
 abbrev pub fixed_in : TreeShape → Option ℕ → List ℕ → Option ℕ
 fixed_in t structure q =
     option_and_then (λ s. position_from (has_fixed_name q) 0 s.fields)
@@ -71,8 +74,9 @@ abbrev pub with_ancestors : (ℕ → List ℕ) → Option ℕ → List ℕ
 with_ancestors ancestors None = []
 with_ancestors ancestors (Some p) = p ∷ ancestors p
 
--- the ancestors of a structure by its number, the nearest first,
--- among structures of which the last declared comes first
+-- The ancestors of a structure by its number, the nearest first, among structures of which the last
+-- declared comes first. A parent counts where it is declared before its structure, so that this
+-- ends on every table; in a typed specification each parent is.
 abbrev pub ancestors_in : (List ℕ → Option ℕ) → List StructureTree → ℕ → List ℕ
 ancestors_in number [] i = []
 ancestors_in number (s ∷ earlier) i =

@@ -23,7 +23,8 @@ pub record HaveSameTokens (a b : List ℕ) : Type 0 where
   pub lexed_after : IsLexed b after
   pub same : map (λ l. l.token) before ≡ map (λ l. l.token) after
 
--- the second text is a specification's with the tokens of the first, and each tree of it is this one but for places
+-- the second text is a specification's with the tokens of the first, and each tree of it is this
+-- one but for places
 pub record IsReprinted (text printed : List ℕ) (tree : TreeShape) : Type 0 where
   pub tokens : HaveSameTokens text printed
   pub is_spec : IsSpecText printed

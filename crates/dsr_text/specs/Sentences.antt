@@ -1,4 +1,5 @@
--- Which texts are specifications by the grammar and its limits, and where another text first is none.
+-- Which texts are specifications by the grammar and its limits, and where another text first is
+-- none.
 use Rattle.std.specs.Prelude.{ℕ, List, [], ◌∷◌, ◌++◌, length, Bool, true, false}
 use Rattle.dsr_tree.specs.declared.tokens.Lexeme.{Lexeme}
 use Rattle.dsr_tree.specs.declared.tokens.Token.{Token}
@@ -41,7 +42,8 @@ pub record IsSpecText (text : List ℕ) : Type 0 where
   pub lexed : IsLexed text lexemes
   pub sentence : IsSentence lexemes
 
--- the place of the first bytes that are no token, behind tokens with which some text of the grammar begins
+-- the place of the first bytes that are no token, behind tokens with which some text of the grammar
+-- begins
 pub record IsNoToken (text : List ℕ) (place : ℕ) : Type 0 where
   pub fault : HasTokenFault text place
   pub front : IsFront fault.before
@@ -57,7 +59,8 @@ pub data IsUnexpected (text : List ℕ) : ℕ → Type 0 where
       (ls : List Lexeme) → IsLexed text ls → IsFront ls → (IsSentence ls → ⊥)
       → IsUnexpected text (length text)
 
--- the place of the first token that continues some text of the grammar, and always goes over a limit
+-- the place of the first token that continues some text of the grammar, and always goes over a
+-- limit
 pub data IsPastLimit (text : List ℕ) : ℕ → Type 0 where
   past_limit :
       (before : List Lexeme) (found : Lexeme) → StandFirst text (before ++ found ∷ [])

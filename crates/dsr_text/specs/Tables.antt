@@ -33,7 +33,8 @@ use Rattle.dsr_tree.specs.declared.tree.Width.{Width as WidthTree}
 use Rattle.dsr_tree.specs.declared.tree.Width.TheVariants as width_trees
 use Rattle.dsr_text.specs.Names.{Names, names_of, used_structure, pool_structure}
 
--- the number that a name stands for; without faults each name stands for one
+-- The number that a name stands for. One that stands for nothing would get 0, so that tables are
+-- total; they are given only where there is no such name.
 abbrev pub number_in : (List ℕ → Option ℕ) → PlacedName → ℕ
 number_in number q = unwrap_or (number q.name) 0
 
@@ -41,7 +42,7 @@ number_in number q = unwrap_or (number q.name) 0
 abbrev pub pool_in : Names → PlacedName → ℕ
 pool_in names q = suc (number_in names.pool q)
 
--- ---- expressions: operators of one rank bind to the left, and parentheses leave no trace
+-- ---- expressions: operators of one rank bind to the left
 
 abbrev pub sum_of : SumSign → ExprShape → ExprShape → ExprShape
 sum_of sum_signs.Plus left right = SumOf left right
@@ -51,6 +52,7 @@ abbrev pub product_of : ProductSign → ExprShape → ExprShape → ExprShape
 product_of product_signs.Times left right = TimesOf left right
 product_of product_signs.Over left right = OverOf left right
 
+-- the tables have operators alone: parentheses that change nothing leave no trace
 abbrev mutual
   pub typed_expr : (List ℕ → Option ℕ) → ExprTree → ExprShape
   typed_expr fixed (expr_tree first rest) = typed_sum fixed (typed_term fixed first) rest
@@ -87,7 +89,7 @@ typed_content names None = kinds.Number 0
 typed_content names (Some (contents.Init place number)) = kinds.Number number.number
 typed_content names (Some (contents.Refers place name)) = kinds.Refers (pool_in names name)
 
--- a gap of n bytes is an array of n bytes without a name
+-- a gap of n bytes is an array of n bytes; its name is the empty one, which no text can spell
 abbrev pub typed_field : Names → FieldTree → Field
 typed_field names (named f) =
     record {

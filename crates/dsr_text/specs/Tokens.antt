@@ -133,18 +133,21 @@ pub data Spells (second : Bool) : List ℕ → Token → Type 0 where
   a_decimal :
       (d : ℕ) (digits : List ℕ) → IsTrue (every is_digit (d ∷ digits))
       → Spells second (d ∷ digits) (token.Number (value_after 10 0 (d ∷ digits)))
+  -- only a small `x` begins a hexadecimal number: `0X1` is the number 0 and the name `X1`
   a_hexadecimal :
       (d : ℕ) (digits : List ℕ) → IsTrue (every is_hexadecimal_digit (d ∷ digits))
       → Spells second (codes "0x" ++ d ∷ digits) (token.Number (value_after 16 0 (d ∷ digits)))
   a_sign : (s : Sign) → Spells second (sign_spelling s) (token.Sign s)
 
--- names of at most 32 bytes, and numbers of 64 bits
+-- Names of at most 32 bytes, and numbers of 64 bits. What is longer or greater is no token, at its
+-- first byte, also where neither could stand.
 abbrev pub IsWithinLimits : Token → Type 0
 IsWithinLimits (token.Name bytes) = length bytes ≤ 32
 IsWithinLimits (token.Number n) = n < 2 ^ 64
 IsWithinLimits _ = Unit {0}
 
--- a token before the rest of a text: its spelling is the longest that fits there, and it is within the limits
+-- a token before the rest of a text: its spelling is the longest that fits there, and it is within
+-- the limits
 pub record Stands (second : Bool) (bytes : List ℕ) (found : Token) (rest : List ℕ) : Type 0 where
   pub spelled : Spells second bytes found
   pub longest :
@@ -195,7 +198,8 @@ is_second_version _ = false
 pub record IsLexed (text : List ℕ) (lexemes : List Lexeme) : Type 0 where
   pub cut : IsCut (is_second_version lexemes) 0 text lexemes (length text) []
 
--- the place of the first bytes of a text that are no token, blank or comment, behind the tokens before it
+-- the place of the first bytes of a text that are no token, blank or comment, behind the tokens
+-- before it
 pub record HasTokenFault (text : List ℕ) (place : ℕ) : Type 0 where
   pub before : List Lexeme
   pub left : List ℕ

@@ -1,4 +1,5 @@
-//! What a specification's text is made of: its tokens, its tree, and the faults that are told of it.
+//! What a specification's text is made of: its tokens, its tree, and the faults that are told of
+//! it.
 #![tactic(auto)]
 
 mod copying;

@@ -1,6 +1,7 @@
-// The tree of a specification's text: a type for each production of the grammar. Where a
-// production begins with a keyword or a sign, its type keeps that token's place; places count
-// bytes of the text from 0.
+// The tree of a specification's text: a type for each production of the grammar. Where a production
+// begins with a keyword or a sign, its type keeps that token's place; places count bytes of the
+// text from 0. Of all other tokens no place is kept. Where a production begins with another
+// production, its place is that one's.
 mod copies;
 mod tree_copies;
 

@@ -23,7 +23,8 @@ use Rattle.dsr_script.specs.Scripts.{Answer}
 use Rattle.dsr_script.specs.declared.status.Verdict.TheVariants as verdicts
 use Rattle.dsr_typing.specs.Specifications.{IsSpecificationOf}
 
--- the number, how many bytes the image has, how many bindings are violated at first, and how many steps repair it
+-- the number, how many bytes the image has, how many bindings are violated at first, and how many
+-- steps repair it
 abbrev pub trial_line : ℕ → ℕ → ℕ → ℕ → List ℕ
 trial_line number bytes violated updates =
     codes "trial " ++ decimal number ++ codes " length " ++ decimal bytes ++ codes " violated "
@@ -33,8 +34,10 @@ abbrev pub trial_answer : ℕ → ℕ → ℕ → ℕ → Answer
 trial_answer number bytes violated updates =
     record { verdict = verdicts.Ok; text = trial_line number bytes violated updates }
 
--- The image of the number is checked and repaired by the plan that is taken for the text of trials, and that is told. Whatever
--- would stand in the way is told as the other commands tell it.
+-- The image of the number is checked and repaired by the plan that is taken for the text of trials,
+-- and that is told. Whatever would stand in the way is told as the other commands tell it. The
+-- specification goes the way of any text, and only the files are missing: a trial runs all else
+-- that a repair runs.
 pub data IsTrial (number : ℕ) : Answer → Type 0 where
   done :
       (spec : Spec) (choice : Choice) (layout : Layout) (vs : List BoundConstraint) (entries : List Entry)

@@ -31,8 +31,8 @@ fn push_count(text: &mut Vec<u8>, word: &[u8], number: u64) -> Result<(), NoMemo
     push_number(text, number)
 }
 
-// The answer that the image of a number has so many bytes, that so many bindings were violated at first, and that so many
-// steps repaired it.
+// The answer that the image of a number has so many bytes, that so many bindings were violated at
+// first, and that so many steps repaired it.
 fn trial_told(
     alloc: Global,
     number: u16,

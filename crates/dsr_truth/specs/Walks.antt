@@ -99,7 +99,8 @@ abbrev pub IsViolatedFrom : (Fact → Type 0) → Spec → ℕ → Binding → B
 IsViolatedFrom is_fact spec number from b =
     IsViolatedOf is_fact spec number b × (BindingPrecedes b from → ⊥)
 
--- the binding is one of a constraint before this one or, where one was reached, of this one and no later than it
+-- the binding is one of a constraint before this one or, where one was reached, of this one and no
+-- later than it
 abbrev pub IsPassed : ℕ → Option Binding → BoundConstraint → Type 0
 IsPassed constraint None v = v.constraint < constraint
 IsPassed constraint (Some last) v =

@@ -1,5 +1,5 @@
-//! Truth of constraints over a model (OOPSLA 2003): of literals, of constraints at their bindings, and the
-//! violated bindings in order.
+//! Truth of constraints over a model (OOPSLA 2003): of literals, of constraints at their bindings,
+//! and the violated bindings in order.
 #![tactic(auto)]
 
 mod literals;

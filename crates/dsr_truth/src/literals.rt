@@ -31,7 +31,8 @@ fn size_of(model: &Model, measure: &Measure, binding: &Binding) -> Option<u64>
     Some(model.size(measure, binding))
 }
 
-// The number that values are compared with; none where the binding hasn't got the variable of a size.
+// The number that values are compared with; none where the binding hasn't got the variable of a
+// size.
 #[inline]
 fn bound_of(model: &Model, bound: &Bound, binding: &Binding) -> Option<u64>
     requires { model.now.ordered ≡ true }
@@ -60,7 +61,8 @@ fn greatest_value(model: &Model, rel: u32, source: Element) -> Option<u64>
     }
 }
 
-// Whether every number that a relation gives to an element meets the comparison.
+// Whether every number that a relation gives to an element meets the comparison. The walk ends at
+// the greatest value, behind which nothing need be asked.
 fn values_compare(model: &Model, rel: u32, source: Element, op: Op, number: u64) -> bool
     requires { model.now.ordered ≡ true }
     ensures { IsTrue result ↔ ((value : ℕ) → IsInModel model.now (facts.Pair rel source (Num value))
@@ -202,7 +204,8 @@ pub fn is_satisfied(model: &Model, constraint: &Constraint, binding: &Binding) -
     false
 }
 
-/// Whether a binding of a constraint, by its number, satisfies it: some conjunction has all its literals true.
+/// Whether a binding of a constraint, by its number, satisfies it: some conjunction has all its
+/// literals true.
 pub fn holds(model: &Model, spec: &Spec, constraint: u32, binding: &Binding) -> bool
     requires ordered { model.now.ordered ≡ true }
     requires declared { IsSome (slice_get spec.now.constraints constraint) }

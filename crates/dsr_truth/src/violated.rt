@@ -55,8 +55,8 @@ fn constraint_violations(
     Ok(())
 }
 
-/// All violated bindings, each with the number of its constraint: constraints in order of declaration, and the
-/// bindings of each least first.
+/// All violated bindings, each with the number of its constraint: constraints in order of
+/// declaration, and the bindings of each least first.
 pub fn violations(
     alloc: Global,
     model: &Model,
@@ -82,8 +82,8 @@ fn first_of(model: &Model, spec: &Spec, number: u32) -> Option<Binding>
     next_violated(model, constraint, None)
 }
 
-/// The first constraint of an order, by the numbers of constraints, that has a violated binding, with the least
-/// of these; none where no constraint of the order has one.
+/// The first constraint of an order, by the numbers of constraints, that has a violated binding,
+/// with the least of these; none where no constraint of the order has one.
 pub fn first_violated(model: &Model, spec: &Spec, order: &[u32]) -> Option<(u32, Binding)>
     requires ordered { model.now.ordered ≡ true }
     ensures { MatchOption result (NoneIsViolated (IsInModel model.now) spec.now order.now)

@@ -112,8 +112,8 @@ fn later_binding(model: &Model, quant: Quant, last: Binding, near: usize) -> Opt
     }
 }
 
-/// The least binding of a quantifier that comes after another one, or the least of all, found at once where the
-/// other one has the number `near` among all bindings.
+/// The least binding of a quantifier that comes after another one, or the least of all, found at
+/// once where the other one has the number `near` among all bindings.
 #[inline]
 pub fn next_binding(
     model: &Model,

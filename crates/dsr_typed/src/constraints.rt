@@ -10,8 +10,8 @@ ghost use Rattle.dsr_typing.specs.RuleFaults.{rules_faults};
 ghost use Rattle.dsr_typing.specs.TypedConstraints.{typed_constraints};
 ghost use Rattle.dsr_typed.specs.Meant.{meant};
 
-/// Over typed tables and rules without faults, constraints without faults are typed, there are few, and
-/// they have different names.
+/// Over typed tables and rules without faults, constraints without faults are typed, there are few,
+/// and they have different names.
 pub fn constraints_without_faults_are_typed()
     ensures typed { (base : Structures) (rules : List Rule) (constraints : List ConstraintTree) →
         AreTyped base →

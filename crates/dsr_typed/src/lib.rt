@@ -1,7 +1,7 @@
 //! What is without faults is typed: laws on the definitions, each the contract of a function.
 //!
-//! The functions do nothing when they run. Each says that the rules or the constraints of a text, over
-//! typed tables of declarations and without faults, mean what a typed specification may have.
+//! The functions do nothing when they run. Each says that the rules or the constraints of a text,
+//! over typed tables of declarations and without faults, mean what a typed specification may have.
 #![tactic(auto)]
 
 mod constraints;

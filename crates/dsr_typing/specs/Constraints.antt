@@ -132,6 +132,8 @@ inclusion_field known rel scope (inclusions.Pair place term path relation) =
     if is_at rel (known.relation relation.name) then rules.path_field scope path.var path.field else None
 inclusion_field known rel scope (inclusions.Member member set) = None
 
+-- The field whose values a rule gives to a relation. A rule in whose text it can't be known counts
+-- as none; in a specification without faults there is no such rule.
 abbrev pub value_field : Known → ℕ → Rule → Option FieldRef
 value_field known rel r = inclusion_field known rel (rules.scope_of known r) r.inclusion
 
@@ -307,7 +309,8 @@ refusal_faults c (Some too_many_conjunctions) =
     when true conditions.TooManyConjunctions c.name.place
 refusal_faults c (Some too_many_atoms) = when true conditions.TooManyAtoms c.name.place
 
--- the normal form is asked only where nothing else is wrong; 64 constraints are allowed, 128 in version 2
+-- the normal form is asked only where nothing else is wrong; 64 constraints are allowed, 128 in
+-- version 2
 abbrev pub form_faults : Known → List Fault → ConstraintTree → List Fault
 form_faults known [] c =
     refusal_faults c (refusal_of (typed_formula (scope_of known c.quantifier) c.formula))

@@ -112,7 +112,8 @@ is_this (Some name) q = bytes_eq name q
 abbrev pub field_length : Structures → FieldRef → Option ExprShape
 field_length base place = option_and_then (λ f. f.len) (declared_field base place)
 
--- two lengths are known, and aren't the same expression
+-- Two lengths are known, and aren't the same expression. An array of length `n` and one of length
+-- `n + 0` differ, although they are as long: so what is typed doesn't depend on an image.
 abbrev pub differ : Option ExprShape → Option ExprShape → Bool
 differ (Some a) (Some b) = not (is_same a b)
 differ _ _ = false

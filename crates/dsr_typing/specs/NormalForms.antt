@@ -21,8 +21,10 @@ abbrev pub joined : List (List Literal) → List (List Literal) → List (List L
 joined [] right = []
 joined (first ∷ left) right = map (λ d. first ++ d) right ++ joined left right
 
--- the conjunctions of a formula under an odd number of `not` or
--- an even one, and under `given` or not; nothing is removed
+-- The conjunctions of a formula under an odd number of `not` or an even one, and under `given` or
+-- not; nothing is removed. `not` turns `or` and `and` round on the way down, and `given` marks what
+-- is below it, so one definition does it all. That this is the same as pushing both down first is a
+-- law.
 abbrev mutual
   pub distributed : (negated given : Bool) → FormulaShape → List (List Literal)
   distributed negated given (AnyOf parts) = if negated then every_row negated given parts
@@ -141,7 +143,8 @@ abbrev pub has_atom : List Atom → Atom → Bool
 has_atom [] atom = false
 has_atom (first ∷ rest) atom = if is_same_atom first atom then true else has_atom rest atom
 
--- the different atoms of a list, in the order in which they first stand there, behind those that were seen
+-- the different atoms of a list, in the order in which they first stand there, behind those that
+-- were seen
 abbrev pub different : (seen atoms : List Atom) → List Atom
 different seen [] = seen
 different seen (atom ∷ rest) =

@@ -75,7 +75,8 @@ abbrev pub field_faults : Scope → PlacedName → List Fault
 field_faults scope q =
     when (is_some scope.structure && is_none (field_of scope q.name)) conditions.UnknownName q.place
 
--- the names of a path that stand for nothing; nothing is asked of the fields of another record than the rule's
+-- the names of a path that stand for nothing; nothing is asked of the fields of another record than
+-- the rule's
 abbrev pub path_names : Scope → Var → PlacedName → List Fault
 path_names scope (vars.Head place) field =
     if is_none scope.name then field_faults scope field else []
@@ -182,6 +183,9 @@ member_names scope (vars.Head place) _ = []
 member_names scope (vars.Name q) (Some (parts.Slot k)) = unknown (scope.known.pool q.name) q
 member_names scope (vars.Name q) None = variable_faults scope q
 
+-- The indexes of a member. The bracket of `head[k]`, which is no form of a member, isn't asked for
+-- the rule's index: nothing is asked of what can't be a member. That of a path under `x in S` is
+-- asked.
 abbrev pub member_faults : Scope → Var → Option MemberPart → List Fault
 member_faults scope var (Some (parts.Field field index)) =
     index_faults scope (path_field scope var field) index

@@ -121,6 +121,7 @@ typed_atom scope (atom_trees.Value var relation compare measure) =
 
 -- ---- formulas; parentheses leave no trace
 
+-- A formula of one part is an `or` of an `and` of one, whose normal form is that of the part.
 abbrev mutual
   pub typed_formula : Scope → FormulaTree → FormulaShape
   typed_formula scope (formula_tree first rest) = AnyOf (MoreOf (typed_join scope first) (typed_joins scope rest))
@@ -171,7 +172,8 @@ without_complements base conj = record { literals = map (without_complement base
 abbrev pub typed_quant : Scope → Quant
 typed_quant scope = unwrap_or scope.quant quants.Once
 
--- after the normal form each complement gives way to its base
+-- Each complement gives way to its base after the normal form and its limits, so two atoms that
+-- become one count as two.
 abbrev pub typed_constraint : Known → ConstraintTree → Constraint
 typed_constraint known c = record {
   name = c.name.name;

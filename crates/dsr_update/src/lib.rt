@@ -1,4 +1,5 @@
-//! The reset of a record, and what the writes of an update write, where, and whether they are needed.
+//! The reset of a record, and what the writes of an update write, where, and whether they are
+//! needed.
 //!
 //! That data structures are repaired by writes to single fields is after OOPSLA 2003.
 #![tactic(auto)]

@@ -12,8 +12,8 @@ pub record GivesMembers (rule : Rule) : Type 0 where
   pub premise : IsSome rule.premise
   pub own : is_own rule.inc ≡ true
 
--- no fresh record is a member of the set: the supply names it, or it is no complement and each of its rules gives members
--- of such a set
+-- no fresh record is a member of the set: the supply names it, or it is no complement and each of
+-- its rules gives members of such a set
 pub data IsAvoided (spec : Spec) (avoid : List ℕ) : ℕ → Type 0 where
   named : (set : ℕ) → IsIn set avoid → IsAvoided spec avoid set
   given :

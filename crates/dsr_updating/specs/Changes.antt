@@ -21,8 +21,8 @@ use Rattle.dsr_meaning.specs.Lists.{any_of}
 use Rattle.dsr_meaning.specs.Typed.{ancestors, pool_at, pool_of_var}
 use Rattle.dsr_updating.specs.Templates.{is_same_field}
 
--- an update for a goal, of a literal of a constraint with this quantifier, where the facts that the constraint uses say
--- that these pairs of sets have no member in common
+-- an update for a goal, of a literal of a constraint with this quantifier, where the facts that the
+-- constraint uses say that these pairs of sets have no member in common
 pub record Change : Type 0 where
   pub spec : Spec
   pub exclusive : List (ℕ × ℕ)
@@ -58,14 +58,15 @@ fresh_pool c = option_and_then (pool_at c.spec.base) c.update.fresh
 
 -- ---- fields
 
--- the first write of the field
+-- the first write of the field; no listed update has two, but this asks nothing of an update
 abbrev pub write_to : List Write → FieldRef → Option Write
 write_to writes field = find (λ w. is_same_field w.path.field field) writes
 
 abbrev pub is_written : Change → FieldRef → Bool
 is_written c field = is_some (write_to c.update.writes field)
 
--- the field may share bytes with one that is written, since their structures aren't related
+-- the field may share bytes with one that is written, since their structures aren't related: it
+-- counts as touched, and nothing is known of its value
 abbrev pub is_foreign : Change → FieldRef → Bool
 is_foreign c field =
     any_of (λ w. not (are_related c.spec.base field.structure w.path.field.structure)) c.update.writes

@@ -74,8 +74,8 @@ abbrev pub other_direction : Direction → Direction
 other_direction Gain = Loss
 other_direction Loss = Gain
 
--- The least table in which stands what rules may gain or lose at W and at F, what they may since their premise does, and
--- for a complement what its set may, the other way round.
+-- The least table in which stands what rules may gain or lose at W and at F, what they may since
+-- their premise does, and for a complement what its set may, the other way round.
 pub data InTable (c : Change) : Direction → Symbol → Tag → Type 0 where
   touched :
       (rule : Rule) (direction : Direction) (tag : Tag) → IsIn rule c.spec.rules → MayChange c rule direction tag

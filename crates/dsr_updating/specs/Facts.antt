@@ -16,8 +16,8 @@ use Rattle.dsr_ir.specs.declared.declarations.Spec.{Spec}
 use Rattle.dsr_ir.specs.declared.rules.Op.TheVariants.{Le}
 use Rattle.dsr_meaning.specs.Lists.{each_at}
 
--- what a constraint says: each record has one source under a relation at most; two sets have no member in common; what has a
--- source under one relation has none under the other
+-- what a constraint says: each record has one source under a relation at most; two sets have no
+-- member in common; what has a source under one relation has none under the other
 pub data ConstraintFact : Type 0 where
   Injective : ℕ → ConstraintFact
   Exclusive : ℕ → ℕ → ConstraintFact
@@ -67,7 +67,7 @@ abbrev pub injective_by : Option ConstraintFact → List ℕ
 injective_by (Some (Injective rel)) = rel ∷ []
 injective_by _ = []
 
--- both ways
+-- both ways, since it is only asked whether a pair is among them
 abbrev pub exclusive_by : Option ConstraintFact → List (ℕ × ℕ)
 exclusive_by (Some (Exclusive a b)) = (a, b) ∷ (b, a) ∷ []
 exclusive_by _ = []
@@ -93,7 +93,8 @@ earlier spec constraint = take constraint spec.constraints
 abbrev pub injective : Spec → ℕ → List ℕ
 injective spec constraint = flat_map (λ c. injective_by (fact_of spec c)) (earlier spec constraint)
 
--- pairs of sets that have no member in common: each set with its complement, and what constraints say
+-- pairs of sets that have no member in common: each set with its complement, and what constraints
+-- say
 abbrev pub exclusive : Spec → ℕ → List (ℕ × ℕ)
 exclusive spec constraint =
     each_at complement_by 0 spec.base.sets

@@ -24,7 +24,8 @@ HasGiver spec symbol = (k : ℕ) × (rule : Rule) × IsGiver spec symbol k rule
 abbrev pub EachGiver : Spec → Symbol → (Rule → Type 0) → Type 0
 EachGiver spec symbol Such = (k : ℕ) (rule : Rule) → IsGiver spec symbol k rule → Such rule
 
--- a symbol that has rules, each of which is such a one: whatever gives its facts does so in this way
+-- a symbol that has rules, each of which is such a one: whatever gives its facts does so in this
+-- way
 pub record IsGivenBy (spec : Spec) (symbol : Symbol) (Such : Rule → Type 0) : Type 0 where
   pub some : HasGiver spec symbol
   pub each : EachGiver spec symbol Such
@@ -57,7 +58,8 @@ is_slot (Slot set pool) = true
 is_slot (SlotPair rel pool path) = true
 is_slot _ = false
 
--- the rule gives each record one pair at most: with a field of the record itself, or each slot of a pool with a field of the head
+-- the rule gives each record one pair at most: with a field of the record itself, or each slot of a
+-- pool with a field of the head
 abbrev pub gives_once : Rule → Bool
 gives_once rule = once rule.inc where
   once : Inc → Bool
@@ -65,7 +67,8 @@ gives_once rule = once rule.inc where
   once (SlotPair rel pool path) = not (is_some rule.premise)
   once _ = false
 
--- the relation is functional: one rule alone gives its pairs, and gives each record one at most
+-- The relation is functional: one rule alone gives its pairs, and gives each record one at most. So
+-- in every image each record has one target at most, as a law.
 abbrev pub is_functional : Spec → ℕ → Bool
 is_functional spec rel = by_one (givers spec (Rel rel)) where
   by_one : List (ℕ × Rule) → Bool

@@ -43,7 +43,8 @@ number_false Ge k = before k
 abbrev pub fitting : Field → ℕ → Option ℕ
 fitting f n = if nat_lt n (2 ^ width_bits f.width) then Some n else None
 
--- what is to be written so that the test is true; that a reference is legal, illegal or not none can't be written
+-- what is to be written so that the test is true; that a reference is legal, illegal or not none
+-- can't be written
 abbrev pub pick_true : Field → Test → Option Pick
 pick_true f (Cmp op k) = option_map Num (option_and_then (fitting f) (number_true op k))
 pick_true f IsNone = Some NoneCode
@@ -59,7 +60,8 @@ abbrev pub pick_wanted : Bool → Field → Test → Option Pick
 pick_wanted true f test = pick_true f test
 pick_wanted false f test = pick_false f test
 
--- the write of the field that makes the guard true, or false, where there is one; a fixed field is never written
+-- the write of the field that makes the guard true, or false, where there is one; a fixed field is
+-- never written
 abbrev pub guard_write : Structures → Bool → Guard → Option Write
 guard_write base wanted guard =
     option_and_then

@@ -19,8 +19,8 @@ pub record GivesMembersOf (set : ℕ) (rule : Rule) : Type 0 where
   pub premise_is : rule.premise ≡ Some set
   pub own : is_own rule.inc ≡ true
 
--- where the rule gives a pair, the other one gives its target to the set: it has the same premise and index, reads the
--- same field, and asks no more
+-- where the rule gives a pair, the other one gives its target to the set: it has the same premise
+-- and index, reads the same field, and asks no more
 pub record IsCounterpart (rule other : Rule) (set : ℕ) : Type 0 where
   pub premise_same : other.premise ≡ rule.premise
   pub span_same : other.span ≡ rule.span
@@ -34,8 +34,8 @@ abbrev pub GivesTargetsTo : Spec → ℕ → Rule → Type 0
 GivesTargetsTo spec set rule =
     (k : ℕ) × (other : Rule) × IsGiver spec (Set set) k other × IsCounterpart rule other set
 
--- the variable's record is a member of the set: the quantifier says so, each rule of the quantifier's relation does, or
--- each rule of a set of which it is known
+-- the variable's record is a member of the set: the quantifier says so, each rule of the
+-- quantifier's relation does, or each rule of a set of which it is known
 pub data IsKnown (spec : Spec) (quant : Quant) : Var → ℕ → Type 0 where
   quantified : (set : ℕ) → quant ≡ Each set → IsKnown spec quant First set
   source :

@@ -48,7 +48,8 @@ use Rattle.dsr_updating.specs.Guards.{guard_write}
 use Rattle.dsr_updating.specs.Known.{IsKnown}
 use Rattle.dsr_updating.specs.Options.{options, reference_write}
 
--- In what follows, `known` says of which sets the variables of the constraint are known to be members.
+-- In what follows, `known` says of which sets the variables of the constraint are known to be
+-- members.
 abbrev pub KnownSets : Type 0
 KnownSets = Var → ℕ → Bool
 
@@ -187,8 +188,9 @@ supplies spec known quant (Into rel v) = []
 
 -- ---- updates that remove
 
--- the record of a removal by a rule: that of the literal's member or source, where the rule gives the record itself and
--- the variable is known; the head; or that of the instance which gives what is to be removed
+-- the record of a removal by a rule: that of the literal's member or source, where the rule gives
+-- the record itself and the variable is known; the head; or that of the instance which gives what
+-- is to be removed
 abbrev pub removal_place : Option Var → Rule → Place
 removal_place (Some First) rule =
     if is_own rule.inc then places.Of First else (if is_some rule.premise then places.Deriver else places.Head)
@@ -249,7 +251,7 @@ pub data AreOnce {T : Type 0} : List T → List T → List T → Type 0 where
       {seen xs ys : List T} → (x : T) → (IsIn x seen → ⊥) → AreOnce (x ∷ seen) xs ys
       → AreOnce seen (x ∷ xs) (x ∷ ys)
 
--- the removals of a symbol's facts, equal ones once
+-- the removals of a symbol's facts, equal ones once: two guards that say the same are one option
 abbrev pub AreRemovals : Spec → Symbol → Goal → Option Var → List Template → Type 0
 AreRemovals spec symbol goal v templates = AreOnce [] (all_removals spec symbol goal v) templates
 
@@ -291,7 +293,8 @@ value_write base pick path =
     option_and_then (λ f. if f.fixed then None else Some (record { path = path; pick = pick; wants = None }))
     (declared_field base path.field)
 
--- a rule that gives the record with a number is set there; one that gives slots of a pool with numbers of the head, at the slot
+-- a rule that gives the record with a number is set there; one that gives slots of a pool with
+-- numbers of the head, at the slot
 abbrev pub setting : Structures → Var → Pick → ℕ → Rule → Inc → Option Template
 setting base v pick k rule (OwnPair rel path) =
     if is_single rule.span

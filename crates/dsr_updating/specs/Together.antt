@@ -9,7 +9,8 @@ pub record MayStandBeside (base : Structures) (a b : Write) : Type 0 where
   pub different : a.path.field ≢ b.path.field
   pub related : IsTrue (are_related base a.path.field.structure b.path.field.structure)
 
--- no field is written twice, and no two that may share bytes
+-- No field is written twice, and no two that may share bytes. What adds by one rule alone meets
+-- this, as a law; a compensation has to.
 abbrev pub MayStandTogether : Structures → List Write → Type 0
 MayStandTogether base writes =
     (i j : ℕ) (a b : Write) → i ≢ j → slice_get writes i ≡ Some a → slice_get writes j ≡ Some b

@@ -23,8 +23,8 @@ use Rattle.dsr_updating.specs.Values.{CellValue, ComesOut, MayLeave, NoneReferen
 
 -- ---- which rules are touched
 
--- no record that is written is a member of the premise: a set of which the variable at the place is known to be a member
--- has no member in common with it
+-- no record that is written is a member of the premise: a set of which the variable at the place is
+-- known to be a member has no member in common with it
 abbrev pub IsKeptApartBy : Change → Place → Option ℕ → Type 0
 IsKeptApartBy c (places.Of v) (Some premise) =
     (set : ℕ) × IsKnown c.spec c.quant v set × IsIn (premise, set) c.exclusive
@@ -53,8 +53,10 @@ is_removal goals.RemoveTuple = true
 is_removal goals.Trim = true
 is_removal _ = false
 
--- the write of what the rule reads at W, where its cell is known to be the one that is read: of an array's entries only
--- for the instance at the written one, and not where W is a new member of the premise (`joins`)
+-- The write of what the rule reads at W, where its cell is known to be the one that is read: of an
+-- array's entries only for the instance at the written one, and not where W is a new member of the
+-- premise (`joins`). Else nothing is known of the value, and so no test of it is surely anything,
+-- not even `>= 0`.
 abbrev pub write_read : Change → Rule → Bool → Path → Option Write
 write_read c rule joins path =
     if path.indexed && (joins || not (is_at_entry c rule)) then None
@@ -108,8 +110,8 @@ IsBlockedAtF c rule =
 
 -- ---- which instances that fired before fire afterwards, and give the same
 
--- all that the other rule asks the rule asks, too, of the same records, and where a record is supplied they read the same
--- target
+-- all that the other rule asks the rule asks, too, of the same records, and where a record is
+-- supplied they read the same target
 pub record AsksAllOf (rule other : Rule) (goal : Goal) : Type 0 where
   pub premise : rule.premise ≡ other.premise
   pub single : rule.span ≡ Single

@@ -11,7 +11,9 @@ use Rattle.dsr_ir.specs.declared.updates.Write.{Write}
 use Rattle.dsr_meaning.specs.Cells.{width_bits}
 use Rattle.dsr_meaning.specs.Instances.{Compares, kind_pool}
 
--- a number; or a reference: the code of a slot, neither that nor none, or none
+-- A number; or a reference, as tests see it: the code of a slot, neither that nor none, or none. So
+-- what a write leaves needs no layout, and a test surely holds where it holds of all that may be
+-- left.
 pub data CellValue : Type 0 where
   Number : ℕ → CellValue
   LegalReference : CellValue
@@ -51,8 +53,8 @@ abbrev pub MayLeaveWanted : Field → Pick → Option (Test × Bool) → CellVal
 MayLeaveWanted field pick None value = IsPicked field pick value
 MayLeaveWanted field pick (Some (test, wanted)) value = MayHold field value × ComesOut wanted test value
 
--- the written cell may hold the value afterwards: the write of a removal is always made, another one is skipped where
--- what it wants holds already
+-- the written cell may hold the value afterwards: the write of a removal is always made, another
+-- one is skipped where what it wants holds already
 abbrev pub MayLeave : Field → Bool → Write → CellValue → Type 0
 MayLeave field true write value = IsPicked field write.pick value
 MayLeave field false write value = MayLeaveWanted field write.pick write.wants value

@@ -1,4 +1,5 @@
-// What an update may change, whatever the image.
+// What an update may change, whatever the image. The types stand beside the definitions, so that
+// code and definitions speak of the same.
 use dsr_ir::Seq;
 
 /// The direction of a change: whether something is gained or lost.

@@ -8,8 +8,8 @@ use Rattle.dsr_planning.specs.declared.choices.Choice.{Choice}
 use Rattle.dsr_planning.specs.declared.choices.Row.{Row}
 use Rattle.dsr_valid.specs.LowLevels.{HasLowLevels}
 
--- a row for each constraint, and in it a way for each literal; levels that can be said; and templates that are listed for
--- literals which aren't `given`
+-- a row for each constraint, and in it a way for each literal; levels that can be said; and
+-- templates that are listed for literals which aren't `given`
 pub record MayBeSaid (spec : Spec) (choice : Choice) : Type 0 where
   pub fits : Fits spec choice
   pub low : HasLowLevels spec choice

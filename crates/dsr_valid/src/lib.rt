@@ -1,5 +1,5 @@
-//! Certificates of plans are valid, and each choice that a certificate may say is read back: laws, each the contract of a
-//! function that does nothing when it runs.
+//! Certificates of plans are valid, and each choice that a certificate may say is read back: laws,
+//! each the contract of a function that does nothing when it runs.
 #![tactic(auto)]
 
 ghost use Rattle.std.specs.Prelude.{ℕ, List};
@@ -14,8 +14,10 @@ ghost use Rattle.dsr_typing.specs.Specifications.{IsSpecificationOf};
 ghost use Rattle.dsr_valid.specs.LowLevels.{HasLowLevels};
 ghost use Rattle.dsr_valid.specs.Said.{MayBeSaid};
 
-/// The text of a plan is a certificate, where a certificate may say its levels: no line is wrong, and
-/// its lines are those of a plan. So is the text of the plan that is taken, whose levels are low.
+/// The text of a plan is a certificate, where a certificate may say its levels: no line is wrong,
+/// and its lines are those of a plan. So is the text of the plan that is taken, whose levels are
+/// low. Any plan may say any level; of the one that is taken no level is empty below one that
+/// isn't, so each is below the number of constraints.
 pub fn certificates_of_plans_are_valid()
     ensures plans { (text : List ℕ) (spec : Spec) (choice : Choice)
         → IsSpecificationOf text spec → IsPlan spec choice
@@ -25,8 +27,8 @@ pub fn certificates_of_plans_are_valid()
         → IsCertificate spec (certificate_text spec choice) }
 {}
 
-/// The text of a choice that a certificate may say, be it a plan or not, has no wrong line, and its lines are those of
-/// this choice alone: so what is read of what is written is that choice.
+/// The text of a choice that a certificate may say, be it a plan or not, has no wrong line, and its
+/// lines are those of this choice alone: so what is read of what is written is that choice.
 pub fn choices_are_read_back()
     ensures right { (text : List ℕ) (spec : Spec) (choice : Choice)
         → IsSpecificationOf text spec → MayBeSaid spec choice

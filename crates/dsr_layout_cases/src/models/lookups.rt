@@ -76,8 +76,8 @@ fn add_answer(lines: &mut Lines, is: bool) {
     lines.word(if is { "+" } else { "-" });
 }
 
-// A fact by its member or target, with whether the model has it and the one beside it. A target that is a record
-// is followed by the number of its sources.
+// A fact by its member or target, with whether the model has it and the one beside it. A target
+// that is a record is followed by the number of its sources.
 fn add_found(lines: &mut Lines, model: &Model, fact: Fact)
     requires { model.now.ordered ≡ true }
 {

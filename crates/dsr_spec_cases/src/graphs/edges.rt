@@ -118,7 +118,8 @@ fn add_relied(lines: &mut Lines, spec: &Spec, graph: &Graph, number: u32) {
     }
 }
 
-/// The constraint's name, and below it on which ones it relies, and what comes of each template of its literals.
+/// The constraint's name, and below it on which ones it relies, and what comes of each template of
+/// its literals.
 pub fn add_constraint(lines: &mut Lines, spec: &Spec, graph: &Graph, number: u32) {
     let Some(constraint) = spec.constraints.items().get(number as usize) else {
         return;

@@ -3,7 +3,7 @@ use Rattle.std.proofs.Common.{◌≡◌, ℕ, List, Result, sym, subst}
 use Rattle.std.specs.Prelude.{IfOk}
 use Rattle.std.proofs.lemmas.Result.{IfOk-weaker}
 use Rattle.dsr_answers.specs.Refused.{IsRefused, meaning_answer, no_meaning}
-use Rattle.dsr_faults.specs.Refusals.{Tells}
+use Rattle.dsr_faults.specs.FaultsTold.{Tells}
 use Rattle.dsr_faults.specs.declared.refusals.SpecFault.{SpecFault}
 use Rattle.dsr_faults.specs.declared.refusals.SpecFault.TheVariants.{At}
 use Rattle.dsr_ir.specs.declared.memory.NoMemory.{NoMemory}

@@ -1,7 +1,7 @@
 // Refusals of a text that means no specification.
 ghost use Rattle.std.specs.Prelude.{◌≡◌, ◌≢◌, ℕ, List, IfOk};
 ghost use Rattle.dsr_answers.specs.Refused.{IsRefused, refused_at, syntax_answer};
-ghost use Rattle.dsr_faults.specs.Refusals.{Tells};
+ghost use Rattle.dsr_faults.specs.FaultsTold.{Tells};
 ghost use Rattle.dsr_faults.specs.declared.refusals.SpecFault.TheVariants as spec_faults;
 ghost use Rattle.dsr_script.specs.Moves.{shown};
 ghost use Rattle.dsr_text.specs.Parsing.{IsTreeOf};

@@ -14,7 +14,7 @@ use Rattle.dsr_ir.specs.declared.updates.Place.TheVariants.{Head, Of}
 use Rattle.dsr_ir.specs.declared.updates.Template.{Template}
 use Rattle.dsr_ir.specs.declared.updates.Update.{Update}
 use Rattle.dsr_ir.specs.declared.updates.Write.{Write}
-use Rattle.dsr_updating.specs.Known.IsKnown.{quantified}
+use Rattle.dsr_updating.specs.KnownSets.IsKnown.{quantified}
 use Rattle.dsr_updating.specs.Templates.{AreRawOf, KnownSets, TellsKnown}
 use Rattle.dsr_updating.specs.Templates.AreOnce.{done, first}
 use Rattle.dsr_applied.proofs.Constraints.{constraint_0, constraint_1, constraint_2, constraint_3, constraint_4, constraint_5, constraint_6, constraint_7, constraint_8}

@@ -6,7 +6,7 @@ use Rattle.dsr_answers.specs.Refused.{IsMeaning, IsRefused, no_token, unexpected
 use Rattle.dsr_asking.specs.Commands.{asked, goes_on, loads_spec, reads, spec_limit}
 use Rattle.dsr_ir.specs.declared.declarations.Spec.{Spec}
 use Rattle.dsr_one_meaning.specs.Meanings.{HaveOneMeaning}
-use Rattle.dsr_reading.specs.Readings.{Found, IsFound, Means, Refused}
+use Rattle.dsr_reading.specs.Readings.{Interpretation, IsInterpretation, Means, Refused}
 use Rattle.dsr_script.proofs.Laws.{never_at_load, said_at_tell}
 use Rattle.dsr_script.specs.Outside.{IsWhole, Outside}
 use Rattle.dsr_script.specs.Runs.{AllLoaded, Ends, Runs}
@@ -112,7 +112,7 @@ module _ (before after : Outside) (files : Files) (held : before.held ≡ Some f
       let file = whole first name spec_limit (ap (λ c. c.name) script.0) (ap (λ c. c.limit) script.0) loaded.0 in
       by_found file script.1.0 script.1.1 script.1.2
     where
-      by_found : (get files name ≡ Some first.bytes) × (length first.bytes ≤ spec_limit) → (found : Found) → IsFound first.bytes found
+      by_found : (get files name ≡ Some first.bytes) × (length first.bytes ≤ spec_limit) → (found : Interpretation) → IsInterpretation first.bytes found
           → goes_on goes found more next
           → RefusedRun before after files name verdict ⊎ BehindText goes before files name next
       by_found file (Means tree) means rest =

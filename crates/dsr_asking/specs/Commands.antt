@@ -7,7 +7,7 @@ use Rattle.dsr_check.specs.Checked.{IsCheckAnswer}
 use Rattle.dsr_ir.specs.declared.declarations.Spec.{Spec}
 use Rattle.dsr_plan.specs.Planned as planned
 use Rattle.dsr_plan.specs.Planned.{IsPlanAnswer}
-use Rattle.dsr_plan.specs.Refusals.{refused_answer}
+use Rattle.dsr_plan.specs.StuckTexts.{refused_answer}
 use Rattle.dsr_plan.specs.declared.plans.Found as plans
 use Rattle.dsr_plan.specs.declared.plans.Found.TheVariants as plan_found
 use Rattle.dsr_planning.specs.declared.choices.Choice.{Choice}
@@ -18,7 +18,7 @@ use Rattle.dsr_trial.specs.Trials.{IsTrial}
 use Rattle.dsr_text.specs.Canonical.{canonical}
 use Rattle.dsr_tree.specs.Trees.{TreeShape}
 use Rattle.dsr_typing.specs.Specifications.{specification}
-use Rattle.dsr_reading.specs.Readings.{Found, IsFound, Means, Refused}
+use Rattle.dsr_reading.specs.Readings.{Interpretation, IsInterpretation, Means, Refused}
 use Rattle.dsr_asking.specs.Words.{Asked, Certify, Check, Plan, Repair, Text, Trial, Verify, command_of}
 
 -- the most bytes of a specification's text
@@ -37,12 +37,12 @@ abbrev pub usage : Answer
 usage = record { verdict = verdicts.Usage; text = codes "usage\n" }
 
 -- what a text means goes on; a refusal is told
-abbrev pub goes_on : (TreeShape → Script) → Found → Script
+abbrev pub goes_on : (TreeShape → Script) → Interpretation → Script
 goes_on after (Means tree) = after tree
 goes_on after (Refused answer) = tells (λ told. told ≡ answer)
 
 abbrev pub reads : List ℕ → (TreeShape → Script) → Script
-reads text after = picks (IsFound text) (goes_on after)
+reads text after = picks (IsInterpretation text) (goes_on after)
 
 -- the text of a specification is loaded
 abbrev pub loads_spec : List ℕ → (List ℕ → Script) → Script

@@ -15,7 +15,7 @@ use Rattle.dsr_updating.specs.Changes.{Change}
 use Rattle.dsr_updating.specs.Effects.{InTable}
 use Rattle.dsr_updating.specs.Facts.{apart, exclusive, injective}
 use Rattle.dsr_updating.specs.Givers.{is_functional}
-use Rattle.dsr_updating.specs.Known.{IsKnown}
+use Rattle.dsr_updating.specs.KnownSets.{IsKnown}
 use Rattle.dsr_updating.specs.declared.effects.Tag.{Tag}
 use Rattle.dsr_updating.specs.declared.effects.Tag.TheVariants.{Written, Entry}
 use Rattle.dsr_breaking.specs.Causes.{symbol_of, direction_of}

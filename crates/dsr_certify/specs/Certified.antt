@@ -5,8 +5,8 @@ use Rattle.dsr_certify.specs.declared.certifying.Certified.{Certified}
 use Rattle.dsr_certify.specs.declared.certifying.Certified.TheVariants.{Certificate, Unplanned}
 use Rattle.dsr_ir.specs.declared.declarations.Spec.{Spec}
 use Rattle.dsr_plan.specs.Levels.{level_count}
-use Rattle.dsr_plan.specs.Refusals.{refused_answer}
-use Rattle.dsr_planning.specs.Refusals.{HasNoPlan, IsStuckSet}
+use Rattle.dsr_plan.specs.StuckTexts.{refused_answer}
+use Rattle.dsr_planning.specs.StuckSets.{HasNoPlan, IsStuckSet}
 use Rattle.dsr_planning.specs.Taken.{IsTaken}
 use Rattle.dsr_planning.specs.declared.choices.Choice.{Choice}
 use Rattle.dsr_planning.specs.declared.refusals.StuckSet.{StuckSet}

@@ -10,7 +10,7 @@ ghost use Rattle.dsr_typing.specs.Constraints.{constraint_number, constraints_fa
 ghost use Rattle.dsr_normal.specs.Telling.{refusal_told};
 ghost use Rattle.dsr_typing.specs.NormalForms.{normal_form, refusal_of};
 ghost use Rattle.dsr_typing.specs.TypedConstraints.{scope_of, typed_formula, typed_constraint, typed_constraints};
-ghost use Rattle.dsr_faults.specs.Refusals.{Tells};
+ghost use Rattle.dsr_faults.specs.FaultsTold.{Tells};
 ghost use Rattle.dsr_faults.specs.Telling.{Finds};
 ghost use Rattle.dsr_constraint.specs.Scoped.{scope_told, Narrow, faults_of, faults_of_form, typed_of, faults_of_all, typed_of_all};
 ghost use Rattle.dsr_constraint.specs.Widest.{CountRelations};

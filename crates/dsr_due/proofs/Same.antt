@@ -2,7 +2,7 @@
 use Rattle.std.proofs.Common.{◌≡◌, ℕ, List, Option, None, Some, IsSomeAnd, MatchOption, inl, inr}
 use Rattle.dsr_applying.specs.Choices.{Adds, CountsNothing, IsFresh, IsFreshFrom, IsNumberFor, IsOutside, IsToGo, written_size}
 use Rattle.dsr_due.specs.Chosen.{AreDecided}
-use Rattle.dsr_due.specs.Supplies.{IsTaken}
+use Rattle.dsr_due.specs.Supplies.{IsUsed}
 use Rattle.dsr_ir.specs.declared.constraints.Atom.{Atom}
 use Rattle.dsr_ir.specs.declared.constraints.Atom.TheVariants as atoms
 use Rattle.dsr_ir.specs.declared.constraints.Constraint.{Constraint}
@@ -174,14 +174,14 @@ module _ (P Q : Fact → Type 0) (same : AreSame P Q) where
 
     used_by :
         (d : Option Pool)
-        → IsSomeAnd d (λ p. IsSomeAnd p.avoid (λ sets. (e : Element) → e.pool ≡ pool → IsSlot layout e → IsTaken P sets e))
-        → IsSomeAnd d (λ p. IsSomeAnd p.avoid (λ sets. (e : Element) → e.pool ≡ pool → IsSlot layout e → IsTaken Q sets e))
+        → IsSomeAnd d (λ p. IsSomeAnd p.avoid (λ sets. (e : Element) → e.pool ≡ pool → IsSlot layout e → IsUsed P sets e))
+        → IsSomeAnd d (λ p. IsSomeAnd p.avoid (λ sets. (e : Element) → e.pool ≡ pool → IsSlot layout e → IsUsed Q sets e))
     used_by None is = is
     used_by (Some p) is = avoided p.avoid is where
       avoided :
           (sets : Option (List ℕ))
-          → IsSomeAnd sets (λ ss. (e : Element) → e.pool ≡ pool → IsSlot layout e → IsTaken P ss e)
-          → IsSomeAnd sets (λ ss. (e : Element) → e.pool ≡ pool → IsSlot layout e → IsTaken Q ss e)
+          → IsSomeAnd sets (λ ss. (e : Element) → e.pool ≡ pool → IsSlot layout e → IsUsed P ss e)
+          → IsSomeAnd sets (λ ss. (e : Element) → e.pool ≡ pool → IsSlot layout e → IsUsed Q ss e)
       avoided None is = is
       avoided (Some ss) is = λ e of slot. let taken = is e of slot in (taken.0, taken.1, (same (Member taken.0 e)).0 taken.2)
 

@@ -5,7 +5,7 @@ use Rattle.std.proofs.lemmas.Bool.{cases_lt}
 use Rattle.std.proofs.lemmas.Option.{slice_get_within}
 use Rattle.dsr_applying.specs.Choices.{IsFreshFrom, IsSupplied}
 use Rattle.dsr_due.proofs.Gone.{EachBefore}
-use Rattle.dsr_due.specs.Supplies.{IsTaken}
+use Rattle.dsr_due.specs.Supplies.{IsUsed}
 use Rattle.dsr_ir.specs.Layouts.{pool_numbers}
 use Rattle.dsr_ir.specs.declared.declarations.Pool.{Pool}
 use Rattle.dsr_ir.specs.declared.declarations.Spec.{Spec}
@@ -31,10 +31,10 @@ place_in (y ∷ xs) x (inl e) = (0, ap Some (sym e))
 place_in (y ∷ xs) x (inr later) = let rest = place_in xs x later in (suc rest.0, rest.1)
 
 module _ (is_fact : Fact → Type 0) (sets : List ℕ) (e : Element) where
-  pub taken_here : (i set : ℕ) → slice_get sets i ≡ Some set → is_fact (Member set e) → IsTaken is_fact sets e
+  pub taken_here : (i set : ℕ) → slice_get sets i ≡ Some set → is_fact (Member set e) → IsUsed is_fact sets e
   taken_here i set at fact = (set, at_place sets i set at, fact)
 
-  pub taken_nowhere : (i : ℕ) → length sets ≤ i → EachBefore (λ n set. is_fact (Member set e) → ⊥) sets i → IsTaken is_fact sets e → ⊥
+  pub taken_nowhere : (i : ℕ) → length sets ≤ i → EachBefore (λ n set. is_fact (Member set e) → ⊥) sets i → IsUsed is_fact sets e → ⊥
   taken_nowhere i past none taken =
       let place = place_in sets taken.0 taken.1 in
       let within = slice_get_within sets place.0 taken.0 place.1 in
@@ -59,24 +59,24 @@ module _ (is_fact : Fact → Type 0) (spec : Spec) (layout : Layout) (pool : ℕ
       subst (λ o. IsSomeAnd o (λ n. e.slot < n.count)) (ap (pool_numbers layout) of ∙ numbers_are) slot
 
   AllTaken : ℕ → Type 0
-  AllTaken n = (k : ℕ) → k < n → IsTaken is_fact sets (record { pool = pool; slot = k })
+  AllTaken n = (k : ℕ) → k < n → IsUsed is_fact sets (record { pool = pool; slot = k })
 
-  pub used_up : (n : ℕ) → numbers.count ≤ n → ((k : ℕ) → k < n → IsTaken is_fact sets (record { pool = pool; slot = k })) → IsUsedUp is_fact spec layout pool
+  pub used_up : (n : ℕ) → numbers.count ≤ n → ((k : ℕ) → k < n → IsUsed is_fact sets (record { pool = pool; slot = k })) → IsUsedUp is_fact spec layout pool
   used_up n past all =
-      of_avoided (pool_at spec.base pool) (λ ss. (e : Element) → e.pool ≡ pool → IsSlot layout e → IsTaken is_fact ss e) sets_are
+      of_avoided (pool_at spec.base pool) (λ ss. (e : Element) → e.pool ≡ pool → IsSlot layout e → IsUsed is_fact ss e) sets_are
       (λ e of slot. let below = slot_below e of slot in
-      subst (λ p. IsTaken is_fact sets (record { pool = p; slot = e.slot })) (sym of) (all e.slot (omega (arith, past, below))))
+      subst (λ p. IsUsed is_fact sets (record { pool = p; slot = e.slot })) (sym of) (all e.slot (omega (arith, past, below))))
 
-  pub more_taken : (n : ℕ) → ((k : ℕ) → k < n → IsTaken is_fact sets (record { pool = pool; slot = k })) → IsTaken is_fact sets (record { pool = pool; slot = n })
-      → (k : ℕ) → k < n + 1 → IsTaken is_fact sets (record { pool = pool; slot = k })
+  pub more_taken : (n : ℕ) → ((k : ℕ) → k < n → IsUsed is_fact sets (record { pool = pool; slot = k })) → IsUsed is_fact sets (record { pool = pool; slot = n })
+      → (k : ℕ) → k < n + 1 → IsUsed is_fact sets (record { pool = pool; slot = k })
   more_taken n all here k below = elim (cases_lt k n) [
     | inl earlier ↦ all k earlier
-    | inr later ↦ let same : k ≡ n = omega (arith, below, later) in subst (λ j. IsTaken is_fact sets (record { pool = pool; slot = j })) (sym same) here
+    | inr later ↦ let same : k ≡ n = omega (arith, below, later) in subst (λ j. IsUsed is_fact sets (record { pool = pool; slot = j })) (sym same) here
   ]
 
   pub first_fresh :
-      (n : ℕ) → n < numbers.count → ((k : ℕ) → k < n → IsTaken is_fact sets (record { pool = pool; slot = k }))
-      → (IsTaken is_fact sets (record { pool = pool; slot = n }) → ⊥)
+      (n : ℕ) → n < numbers.count → ((k : ℕ) → k < n → IsUsed is_fact sets (record { pool = pool; slot = k }))
+      → (IsUsed is_fact sets (record { pool = pool; slot = n }) → ⊥)
       → IsFreshFrom is_fact spec layout pool (record { pool = pool; slot = n })
   first_fresh n below all free = record {
     supplied = record {
@@ -94,5 +94,5 @@ module _ (is_fact : Fact → Type 0) (spec : Spec) (layout : Layout) (pool : ℕ
     not_before : (f : Element) → IsSupplied is_fact spec layout pool f → f.slot < n → ⊥
     not_before f supplied less =
         let outside = to_avoided (pool_at spec.base pool) (λ ss. (set : ℕ) → IsIn set ss → is_fact (Member set f) → ⊥) sets_are supplied.outside in
-        let taken : IsTaken is_fact sets f = subst (λ p. IsTaken is_fact sets (record { pool = p; slot = f.slot })) (sym supplied.pool_is) (all f.slot less) in
+        let taken : IsUsed is_fact sets f = subst (λ p. IsUsed is_fact sets (record { pool = p; slot = f.slot })) (sym supplied.pool_is) (all f.slot less) in
         outside taken.0 taken.1 taken.2

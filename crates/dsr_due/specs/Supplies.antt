@@ -6,5 +6,5 @@ use Rattle.dsr_ir.specs.declared.tuples.Fact.TheVariants.{Member}
 use Rattle.dsr_meaning.specs.Counting.{IsIn}
 
 -- the record is a member of one of the sets
-abbrev pub IsTaken : (Fact → Type 0) → List ℕ → Element → Type 0
-IsTaken is_fact sets e = (set : ℕ) × IsIn set sets × is_fact (Member set e)
+abbrev pub IsUsed : (Fact → Type 0) → List ℕ → Element → Type 0
+IsUsed is_fact sets e = (set : ℕ) × IsIn set sets × is_fact (Member set e)

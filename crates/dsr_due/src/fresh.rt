@@ -2,7 +2,7 @@
 ghost use Rattle.std.specs.Prelude.{◌≡◌, Decides, IfErr, IfOk, IfSome, IsSome, IsSomeAnd, MatchOption, Some, option_map, true};
 ghost use Rattle.std.specs.Option.{option_and_then};
 ghost use Rattle.dsr_applying.specs.Choices.{IsFresh, IsFreshFrom};
-ghost use Rattle.dsr_due.specs.Supplies.{IsTaken};
+ghost use Rattle.dsr_due.specs.Supplies.{IsUsed};
 ghost use Rattle.dsr_meaning.specs.Legal.{IsLegalLayout};
 ghost use Rattle.dsr_meaning.specs.Typed as typed;
 ghost use Rattle.dsr_model.specs.Facts.{IsInModel};
@@ -15,7 +15,7 @@ use dsr_model::Model;
 // Whether the record is a member of one of the sets.
 fn is_taken(model: &Model, sets: &[u32], elem: Element) -> bool
     requires ordered { model.now.ordered ≡ true }
-    ensures { Decides result (IsTaken (IsInModel model.now) sets.now elem) }
+    ensures { Decides result (IsUsed (IsInModel model.now) sets.now elem) }
 {
     for set in sets {
         if model.has(&Fact::Member(*set, elem)) {

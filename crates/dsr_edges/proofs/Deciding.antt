@@ -17,8 +17,8 @@ use Rattle.dsr_listing.specs.Owners.{Owner}
 use Rattle.dsr_meaning.specs.Counting.{IsIn}
 use Rattle.dsr_updating.specs.Changes.{Change}
 use Rattle.dsr_updating.specs.Facts.{apart, exclusive}
-use Rattle.dsr_updating.specs.Known.{IsKnown}
-use Rattle.dsr_updating.specs.Known.IsKnown.{quantified, source, target, base}
+use Rattle.dsr_updating.specs.KnownSets.{IsKnown}
+use Rattle.dsr_updating.specs.KnownSets.IsKnown.{quantified, source, target, base}
 use Rattle.dsr_updating.specs.Templates.{KnownSets, TellsKnown}
 use Rattle.dsr_updating.specs.declared.effects.Tag.TheVariants.{Written, Entry}
 

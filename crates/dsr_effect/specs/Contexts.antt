@@ -10,7 +10,7 @@ use Rattle.dsr_ir.specs.declared.updates.Update.{Update}
 use Rattle.dsr_meaning.specs.Counting.{IsIn}
 use Rattle.dsr_meaning.specs.Typed.{IsTyped, IsTypedQuant}
 use Rattle.dsr_updating.specs.Changes.{Change}
-use Rattle.dsr_updating.specs.Known.{IsKnown}
+use Rattle.dsr_updating.specs.KnownSets.{IsKnown}
 
 -- the variable's record is known to be a member of a set with which this one has no member in
 -- common

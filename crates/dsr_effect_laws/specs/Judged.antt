@@ -29,7 +29,7 @@ pub record IsSilent (c : Change) (layout : Layout) (step : Step) (old : List ℕ
       → IsDerivedBy c.spec layout old i fact → ⊥
 
 -- the fresh record is one of the update's pool, and a member of no set that its supply names
-pub record IsTaken (c : Change) (layout : Layout) (old : List ℕ) (e : Element) : Type 0 where
+pub record IsFreshFor (c : Change) (layout : Layout) (old : List ℕ) (e : Element) : Type 0 where
   pub some : e.pool ≢ 0
   pub pool_is : c.update.fresh ≡ Some e.pool
   pub outside :
@@ -46,4 +46,4 @@ pub record IsMadeAsJudged (c : Change) (layout : Layout) (step : Step) (old new 
       (premise : ℕ) → IsKeptApartBy c c.update.place (Some premise)
       → IsDerived c.spec layout old (Member premise step.elem) → ⊥
   pub silent : MakesFire c.goal → IsSilent c layout step old
-  pub fresh : (e : Element) → step.fresh ≡ Some e → IsTaken c layout old e
+  pub fresh : (e : Element) → step.fresh ≡ Some e → IsFreshFor c layout old e

@@ -13,7 +13,7 @@ use Rattle.dsr_ir.specs.declared.updates.Symbol.TheVariants.{Set}
 use Rattle.dsr_meaning.proofs.Firing.{found_fits}
 use Rattle.dsr_meaning.specs.Typed.{IsTyped, IsTypedInc, IsTypedRule}
 use Rattle.dsr_updating.specs.Givers.{HasGiver, IsGiver, IsGivenBy}
-use Rattle.dsr_updating.specs.Known.{GivesMembersOf, GivesTargetsTo}
+use Rattle.dsr_updating.specs.KnownSets.{GivesMembersOf, GivesTargetsTo}
 use Rattle.dsr_facts.specs.Marks.{IsBelow, IsNoneBelow}
 
 -- ---- the items that pass a test

@@ -11,7 +11,7 @@ use Rattle.dsr_ir.specs.declared.rules.Inc.TheVariants.{Target}
 use Rattle.dsr_ir.specs.declared.rules.Path.{Path}
 use Rattle.dsr_ir.specs.declared.updates.Symbol.TheVariants.{Set, Rel}
 use Rattle.dsr_updating.specs.Givers.{IsGivenBy}
-use Rattle.dsr_updating.specs.Known.{GivesMembersOf, GivesTargetsTo}
+use Rattle.dsr_updating.specs.KnownSets.{GivesMembersOf, GivesTargetsTo}
 
 -- the other inclusion gives the target of this one to the set
 pub record GivesTargetOf (inc other : Inc) (set : ℕ) : Type 0 where

@@ -3,7 +3,7 @@ ghost use Rattle.std.specs.Prelude.{◌≡◌, is_none, List, [], None, IfSome};
 ghost use Rattle.dsr_tree.specs.declared.faults.Condition.TheVariants as conditions;
 ghost use Rattle.dsr_text.specs.Faults.{when};
 ghost use Rattle.dsr_tree.specs.declared.faults.Fault.{Fault};
-ghost use Rattle.dsr_faults.specs.Refusals.{Tells};
+ghost use Rattle.dsr_faults.specs.FaultsTold.{Tells};
 ghost use Rattle.dsr_faults.specs.Telling.{Finds, told_of};
 
 use crate::SpecFault;

@@ -17,7 +17,7 @@ use Rattle.dsr_meaning.specs.Consistency.{IsBinding}
 use Rattle.dsr_meaning.specs.Truth.{HasVariable, element_of}
 use Rattle.dsr_meaning.specs.Typed.{IsTypedMeasure, pool_of_var}
 use Rattle.dsr_ir.specs.declared.declarations.Spec.{Spec}
-use Rattle.dsr_updating.specs.Known.{IsKnown}
+use Rattle.dsr_updating.specs.KnownSets.{IsKnown}
 
 -- the variable names an element
 abbrev pub IsBound : Binding → Var → Type 0

@@ -30,7 +30,7 @@ use Rattle.dsr_ir.specs.declared.updates.Symbol.{Symbol}
 use Rattle.dsr_ir.specs.declared.updates.Symbol.TheVariants.{Rel, Set}
 use Rattle.dsr_meaning.specs.Counting.{IsIn}
 use Rattle.dsr_updating.specs.Givers.{IsGivenBy, IsGiver, givers, is_own}
-use Rattle.dsr_updating.specs.Known.{GivesMembersOf, GivesTargetsTo, IsCounterpart, IsKnown}
+use Rattle.dsr_updating.specs.KnownSets.{GivesMembersOf, GivesTargetsTo, IsCounterpart, IsKnown}
 use Rattle.dsr_updating.specs.Templates.{KnownSets, TellsKnown}
 use Rattle.dsr_feasible.proofs.FormItems.{giver_in, in_givers}
 use Rattle.dsr_meaning.proofs.Items.{item_at}

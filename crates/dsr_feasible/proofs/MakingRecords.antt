@@ -37,7 +37,7 @@ use Rattle.dsr_meaning.specs.Truth.{element_of, head}
 use Rattle.dsr_meaning.specs.Typed.{GivesTarget, IsPlainSetOf, IsTyped, IsTypedInc, IsTypedQuant, IsTypedRule, Reads, Relates, pool_of_var}
 use Rattle.dsr_resolved.proofs.Entries.{item_below}
 use Rattle.dsr_updating.specs.Givers.{is_own}
-use Rattle.dsr_updating.specs.Known.{IsKnown}
+use Rattle.dsr_updating.specs.KnownSets.{IsKnown}
 use Rattle.dsr_updating.specs.Templates.{KnownSets, TellsKnown, place_of, starts_at}
 use Rattle.dsr_meaning.proofs.Options.{chained_from, mapped_from, some_and}
 

@@ -40,7 +40,7 @@ use Rattle.dsr_template_laws.specs.Judging.{Application, change_in, owner_of}
 use Rattle.dsr_template_laws.specs.Tried.{IsTried}
 use Rattle.dsr_updating.specs.Changes.{Change}
 use Rattle.dsr_updating.specs.Facts.{exclusive}
-use Rattle.dsr_updating.specs.Known.{IsKnown}
+use Rattle.dsr_updating.specs.KnownSets.{IsKnown}
 use Rattle.dsr_updating.specs.declared.effects.Tag.TheVariants.{Written, Entry}
 
 -- ---- a template of one update that sets a value

@@ -13,11 +13,11 @@ use Rattle.dsr_certify.specs.Verified.{IsVerifyAnswer, flawed, valid, wrong}
 use Rattle.dsr_ir.specs.declared.declarations.Spec.{Spec}
 use Rattle.dsr_meaning.specs.Consistency.{BoundConstraint}
 use Rattle.dsr_plan.specs.Planned.{IsPlanAnswer, answer_of}
-use Rattle.dsr_plan.specs.Refusals.{refused_answer}
+use Rattle.dsr_plan.specs.StuckTexts.{refused_answer}
 use Rattle.dsr_plan.specs.declared.plans.Found as plans
 use Rattle.dsr_plan.specs.declared.plans.Found.TheVariants as plan_found
 use Rattle.dsr_planning.specs.declared.choices.Choice.{Choice}
-use Rattle.dsr_reading.specs.Readings.{Found, IsFound, Means, Refused}
+use Rattle.dsr_reading.specs.Readings.{Interpretation, IsInterpretation, Means, Refused}
 use Rattle.dsr_repaired.specs.Repaired.{Ending, IsRepairOf, empty_answer, mended, repaired_answer, stopped, unlaid}
 use Rattle.dsr_script.proofs.Laws.{never_at_load, said_at_save, said_at_tell}
 use Rattle.dsr_script.specs.Outside.{Outside}
@@ -127,9 +127,9 @@ trial_otherwise number _ (trials.stopped spec choice layout entries new need mea
 -- ---- commands
 
 never_reads : (text : List ℕ) (after : TreeShape → Script) → ((tree : TreeShape) → Never (after tree)) → Never (reads text after)
-never_reads text after rest = never_picks (IsFound text) (goes_on after) by
+never_reads text after rest = never_picks (IsInterpretation text) (goes_on after) by
   where
-    by : (found : Found) → IsFound text found → Never (goes_on after found)
+    by : (found : Interpretation) → IsInterpretation text found → Never (goes_on after found)
     by (Means tree) is = rest tree
     by (Refused answer) is = never_tells_this answer (refused_otherwise text answer is)
 

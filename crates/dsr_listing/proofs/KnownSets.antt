@@ -31,7 +31,7 @@ use Rattle.dsr_ir.specs.declared.updates.Symbol.{Symbol}
 use Rattle.dsr_ir.specs.declared.updates.Symbol.TheVariants.{Rel, Set}
 use Rattle.dsr_meaning.specs.Counting.{IsIn}
 use Rattle.dsr_updating.specs.Givers.{IsGivenBy, IsGiver, givers, is_own}
-use Rattle.dsr_updating.specs.Known.{GivesMembersOf, GivesTargetsTo, IsCounterpart, IsKnown}
+use Rattle.dsr_updating.specs.KnownSets.{GivesMembersOf, GivesTargetsTo, IsCounterpart, IsKnown}
 use Rattle.dsr_updating.specs.Templates.{KnownSets, TellsKnown}
 use Rattle.dsr_meaning.proofs.Items.{at_each, in_each_at, item_at, passed_in}
 

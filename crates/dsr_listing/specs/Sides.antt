@@ -19,7 +19,7 @@ use Rattle.dsr_updating.specs.Avoided.{IsAvoided}
 use Rattle.dsr_updating.specs.Changes.{Change, fresh_pool, written_pool}
 use Rattle.dsr_updating.specs.Effects.{InTable}
 use Rattle.dsr_updating.specs.Givers.{is_functional}
-use Rattle.dsr_updating.specs.Known.{IsKnown}
+use Rattle.dsr_updating.specs.KnownSets.{IsKnown}
 use Rattle.dsr_updating.specs.Templates.{counted_symbol}
 use Rattle.dsr_updating.specs.Together.{MayStandTogether}
 use Rattle.dsr_updating.specs.Touching.{named_by}

@@ -1,7 +1,7 @@
 -- How many meanings texts have.
 use Rattle.std.specs.Prelude.{◌≡◌, ℕ, List}
 use Rattle.dsr_answers.specs.Refused.{IsMeaning, IsRefused}
-use Rattle.dsr_reading.specs.Readings.{Found, IsFound}
+use Rattle.dsr_reading.specs.Readings.{Interpretation, IsInterpretation}
 use Rattle.dsr_script.specs.Scripts.{Answer}
 use Rattle.dsr_text.specs.Parsing.{IsTreeOf}
 use Rattle.dsr_tree.specs.Trees.{TreeShape}
@@ -21,4 +21,4 @@ HaveOneRefusal =
 -- one thing alone is read of a text: what it means, or the answer that refuses it
 abbrev pub HaveOneReading : Type 0
 HaveOneReading =
-    (text : List ℕ) (found other : Found) → IsFound text found → IsFound text other → found ≡ other
+    (text : List ℕ) (found other : Interpretation) → IsInterpretation text found → IsInterpretation text other → found ≡ other

@@ -12,7 +12,7 @@ use Rattle.dsr_tree.specs.declared.tree.ProductSign.TheVariants.{Times, Over}
 use Rattle.dsr_text.specs.Phrases.{Phrase, silent, said, said_at, ◌▸◌, Says, says_nothing, says, says_at, says_both, in_turn}
 use Rattle.dsr_text.specs.Syntax.{Class, Charge, free, starts, counted, opening, count_after, is_over, Part, an_expression, a_formula, a_unit, Syntax, One, Empty, Then, Either, Many, The}
 use Rattle.std.proofs.lemmas.Bool.{lt-leb, le-leb}
-use Rattle.dsr_parse.specs.Machine.{accepts, among, may_begin, first, nullable, enter, into_part, step, is_done, run, go_on, Outcome, Accepts, StopsAt, Exceeds}
+use Rattle.dsr_parse.specs.Machine.{accepts, among, may_begin, first, nullable, enter, into_part, step, is_done, run, go_on, Progress, Accepts, StopsAt, Exceeds}
 use Rattle.dsr_parse.specs.Reading.{Standing, Halts, EndsBy, Reads, ReadsItems, Next, Other, is_next}
 use Rattle.dsr_parse.specs.declared.reader.Stop.{Stop}
 use Rattle.dsr_parse.specs.declared.reader.Stop.TheVariants.{Expected, Limit}
@@ -73,7 +73,7 @@ reads_unkept {a} {t} {place} {x} {y} r = record { goes = r.goes; says = unkept t
     unkept _ _ _ _ (says_at u at left) = says u at left
 
 -- how the machine ends doesn't depend on how that is known
-pub ends_so : (e : Stop) (o u : Outcome) → o ≡ u → EndsBy e u → EndsBy e o
+pub ends_so : (e : Stop) (o u : Progress) → o ≡ u → EndsBy e u → EndsBy e o
 ends_so e o u same ends = subst (EndsBy e) (sym same) ends
 
 -- it stops at the first of two

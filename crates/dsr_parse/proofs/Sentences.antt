@@ -5,12 +5,12 @@ use Rattle.dsr_tree.specs.declared.tokens.Token.{Token}
 use Rattle.dsr_text.specs.Syntax.{Syntax, Marked, Derives}
 use Rattle.dsr_text.specs.Grammar.{rule_of, spec}
 use Rattle.dsr_text.specs.Sentences.{within, IsSentence, IsFront, LeadsOn}
-use Rattle.dsr_parse.specs.Machine.{Move, step, is_done, Outcome, Accepts, StopsAt, Exceeds, go_on, run}
+use Rattle.dsr_parse.specs.Machine.{Move, step, is_done, Progress, Accepts, StopsAt, Exceeds, go_on, run}
 use Rattle.dsr_parse.proofs.Stacks.{choose, Lang, back, ending, done_sound, done_complete}
 use Rattle.dsr_parse.proofs.Goes.{Good, good_spec, kept, steps}
 
 -- how a step turns out
-on_move : {P : Type 0} (o : Option Move) (next : ℕ → List Syntax → Outcome) (left : ℕ) (z : Outcome) → go_on o next left ≡ z →
+on_move : {P : Type 0} (o : Option Move) (next : ℕ → List Syntax → Progress) (left : ℕ) (z : Progress) → go_on o next left ≡ z →
     (o ≡ None → StopsAt left ≡ z → P) → ((move : Move) → o ≡ Some move → move.over ≡ true → Exceeds left ≡ z → P) → ((move : Move) → o ≡ Some move → move.over ≡ false → next move.count move.stack ≡ z → P) → P
 on_move {P} o next left z e stops exceeds goes = elim o as (λ q. o ≡ q → go_on q next left ≡ z → P) [
   | None ↦ λ i e. stops i e
@@ -60,7 +60,7 @@ record Leaves (before : List Lexeme) (n : ℕ) (k : List Syntax) (count : ℕ) (
   good : Good k → Good stack
 
 -- the machine behind the tokens
-record Behind (before after : List Lexeme) (n : ℕ) (k : List Syntax) (z : Outcome) : Type 0 where
+record Behind (before after : List Lexeme) (n : ℕ) (k : List Syntax) (z : Progress) : Type 0 where
   count : ℕ
   stack : List Syntax
   is : run after count stack ≡ z
@@ -75,7 +75,7 @@ one_more l before n k move count stack i v leaves = record {
 }
 
 -- no more is left than so many
-abbrev LeavesIn : Outcome → ℕ → Type 0
+abbrev LeavesIn : Progress → ℕ → Type 0
 LeavesIn Accepts n = Unit {0}
 LeavesIn (StopsAt left) n = left ≤ n
 LeavesIn (Exceeds left) n = left ≤ n
@@ -85,7 +85,7 @@ too_many : (before after : List Lexeme) → suc (length (before ++ after)) ≤ l
 too_many before after le = omega (arith, length-append before after)
 
 -- what is left is behind the tokens, so the machine goes over them
-behind : (before after : List Lexeme) (n : ℕ) (k : List Syntax) (z : Outcome) → run (before ++ after) n k ≡ z → LeavesIn z (length after) → Behind before after n k z
+behind : (before after : List Lexeme) (n : ℕ) (k : List Syntax) (z : Progress) → run (before ++ after) n k ≡ z → LeavesIn z (length after) → Behind before after n k z
 behind [] after n k z e le = record { count = n; stack = k; is = e; leaves = record { back = λ ts x. x; forth = λ good ts x. x; good = λ good. good } }
 behind (l ∷ before) after n k z e le = on_move (step k l.token n) (run (before ++ after)) (suc (length (before ++ after))) z e
     (λ i e. absurd (too_many before after (subst (λ z. LeavesIn z (length after)) (sym e) le)))
@@ -136,7 +136,7 @@ sentence_front ls s = record { count = s.count; more = []; derived = subst (Deri
 -- ---- where it stops
 
 -- tokens that the machine goes over begin some specification
-front : (before after : List Lexeme) (z : Outcome) → Behind before after 0 (spec ∷ []) z → IsFront before
+front : (before after : List Lexeme) (z : Progress) → Behind before after 0 (spec ∷ []) z → IsFront before
 front before after z b =
     let end = ending b.stack b.count in
     let whole = from_stack (within before ++ end.0) (b.leaves.back end.0 end.1) in
@@ -151,7 +151,7 @@ pub exceeds_front : (before after : List Lexeme) → run (before ++ after) 0 (sp
 exceeds_front before after e = front before after _ (behind before after 0 (spec ∷ []) (Exceeds (length after)) e (omega arith))
 
 -- the machine behind the tokens can go on as the text does
-led : (before after : List Lexeme) (t : Token) (over : Bool) (z : Outcome) (b : Behind before after 0 (spec ∷ []) z) (on : LeadsOn before t over) → Lang b.stack b.count (record { token = t; over = over } ∷ on.more)
+led : (before after : List Lexeme) (t : Token) (over : Bool) (z : Progress) (b : Behind before after 0 (spec ∷ []) z) (on : LeadsOn before t over) → Lang b.stack b.count (record { token = t; over = over } ∷ on.more)
 led before after t over z b on = b.leaves.forth good_spec (record { token = t; over = over } ∷ on.more) (to_stack on.count _ on.derived)
 
 -- no specification goes on with the token at which it stops

@@ -94,16 +94,16 @@ is_done (s ∷ k) = nullable s && is_done k
 
 -- how the machine ends: it accepts, or stops with so many
 -- tokens left, at one that isn't expected or goes over a limit
-pub data Outcome : Type 0 where
-  Accepts : Outcome
-  StopsAt : (left : ℕ) → Outcome
-  Exceeds : (left : ℕ) → Outcome
+pub data Progress : Type 0 where
+  Accepts : Progress
+  StopsAt : (left : ℕ) → Progress
+  Exceeds : (left : ℕ) → Progress
 
-abbrev pub go_on : Option Move → (ℕ → List Syntax → Outcome) → ℕ → Outcome
+abbrev pub go_on : Option Move → (ℕ → List Syntax → Progress) → ℕ → Progress
 go_on None next left = StopsAt left
 go_on (Some move) next left = if move.over then Exceeds left else next move.count move.stack
 
 -- the whole run over tokens, from what is counted and what has to come
-abbrev pub run : List Lexeme → ℕ → List Syntax → Outcome
+abbrev pub run : List Lexeme → ℕ → List Syntax → Progress
 run [] n k = if is_done k then Accepts else StopsAt 0
 run (l ∷ ls) n k = go_on (step k l.token n) (run ls) (suc (length ls))

@@ -15,7 +15,7 @@ use Rattle.dsr_tree.specs.declared.tokens.Lexeme.{Lexeme}
 use Rattle.dsr_text.specs.Phrases.{Phrase, Says, in_turn}
 use Rattle.dsr_text.specs.Syntax.{Syntax, Many}
 use Rattle.dsr_text.specs.TreeTexts.{more_term_text, more_factor_text, more_join_text, more_unit_text, field_text, brackets_text, structure_text, behind_text, pool_text, constraint_text}
-use Rattle.dsr_parse.specs.Machine.{run, Outcome, StopsAt, Exceeds, may_begin}
+use Rattle.dsr_parse.specs.Machine.{run, Progress, StopsAt, Exceeds, may_begin}
 use Rattle.dsr_parse.specs.declared.reader.Stop.{Stop}
 use Rattle.dsr_parse.specs.declared.reader.Stop.TheVariants.{NoMemory, Expected, Limit}
 
@@ -31,7 +31,7 @@ pub record Goes (before after : List Syntax) (x y : Standing) : Type 0 where
       (k : List Syntax) → run x.rest x.counted (before ++ k) ≡ run y.rest y.counted (after ++ k)
 
 -- how the machine ends where a reader stops
-abbrev pub EndsBy : Stop → Outcome → Type 0
+abbrev pub EndsBy : Stop → Progress → Type 0
 EndsBy NoMemory o = Unit {0}
 EndsBy (Expected left) o = o ≡ StopsAt left
 EndsBy (Limit left) o = o ≡ Exceeds left

@@ -1,3 +1,3 @@
 pub mod Levels
-pub mod Refusals
+pub mod StuckTexts
 pub mod Planned

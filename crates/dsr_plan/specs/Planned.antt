@@ -2,10 +2,10 @@
 use Rattle.std.specs.Prelude.{◌≡◌}
 use Rattle.dsr_ir.specs.declared.declarations.Spec.{Spec}
 use Rattle.dsr_plan.specs.Levels.{accepted_answer}
-use Rattle.dsr_plan.specs.Refusals.{refused_answer}
+use Rattle.dsr_plan.specs.StuckTexts.{refused_answer}
 use Rattle.dsr_plan.specs.declared.plans.Found.{Found}
 use Rattle.dsr_plan.specs.declared.plans.Found.TheVariants.{Plan, Stuck}
-use Rattle.dsr_planning.specs.Refusals.{HasNoPlan, IsStuckSet}
+use Rattle.dsr_planning.specs.StuckSets.{HasNoPlan, IsStuckSet}
 use Rattle.dsr_planning.specs.Taken.{IsTaken}
 use Rattle.dsr_script.specs.Scripts.{Answer}
 

@@ -1,7 +1,7 @@
 // What stands in the way of a plan, as text.
 ghost use Rattle.std.specs.Prelude.{◌≡◌, ◌++◌, IfOk, OnOk};
 ghost use Rattle.std.specs.List.{flat_map};
-ghost use Rattle.dsr_plan.specs.Refusals as said;
+ghost use Rattle.dsr_plan.specs.StuckTexts as said;
 ghost use Rattle.dsr_script.specs.Moves.{shown};
 
 use dsr_answers::{constraint_name, push, push_number, symbol_name};

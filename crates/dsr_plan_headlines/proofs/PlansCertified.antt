@@ -11,7 +11,7 @@ use Rattle.dsr_one_meaning.specs.Meanings.{HaveOneMeaning}
 use Rattle.dsr_plan.specs.Planned as planned
 use Rattle.dsr_plan.specs.declared.plans.Found as plans
 use Rattle.dsr_plan.specs.declared.plans.Found.TheVariants as plan_found
-use Rattle.dsr_plan.specs.Refusals.{refused_answer}
+use Rattle.dsr_plan.specs.StuckTexts.{refused_answer}
 use Rattle.dsr_planning.specs.Taken.{IsTaken}
 use Rattle.dsr_planning.specs.declared.choices.Choice.{Choice}
 use Rattle.dsr_script.proofs.Laws.{said_at_save, said_at_tell}

@@ -6,10 +6,10 @@ use Rattle.dsr_certify.specs.Certified.{certified_answer}
 use Rattle.dsr_certify.specs.Verified.{IsCertificate, IsVerifyAnswer}
 use Rattle.dsr_ir.specs.declared.declarations.Spec.{Spec}
 use Rattle.dsr_plan.specs.Planned.{IsFound, answer_of}
-use Rattle.dsr_plan.specs.Refusals.{refused_answer}
+use Rattle.dsr_plan.specs.StuckTexts.{refused_answer}
 use Rattle.dsr_plan.specs.declared.plans.Found.{Found}
 use Rattle.dsr_plan.specs.declared.plans.Found.TheVariants.{Plan, Stuck}
-use Rattle.dsr_planning.specs.Refusals.{HasNoPlan}
+use Rattle.dsr_planning.specs.StuckSets.{HasNoPlan}
 use Rattle.dsr_script.specs.Outside.{IsSaved, Outside, Stands}
 use Rattle.dsr_script.specs.Scripts.{Answer}
 use Rattle.dsr_script.specs.declared.status.Status.{Status}

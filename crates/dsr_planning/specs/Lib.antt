@@ -1,4 +1,4 @@
 pub mod Plans
 pub mod Stuck
 pub mod Taken
-pub mod Refusals
+pub mod StuckSets

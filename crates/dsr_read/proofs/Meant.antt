@@ -1,6 +1,6 @@
 -- What a tree, or that there is none, says of a text.
 use Rattle.std.proofs.Common.{◌≡◌, ◌≢◌, ◌∙◌, ℕ, List, [], Option, None, Some, Result, Ok, Err, IfOk, IfNone, IfSome, ap, refl, subst}
-use Rattle.dsr_faults.specs.Refusals.{Tells}
+use Rattle.dsr_faults.specs.FaultsTold.{Tells}
 use Rattle.dsr_faults.specs.declared.refusals.SpecFault.{SpecFault}
 use Rattle.dsr_faults.specs.declared.refusals.SpecFault.TheVariants.{At, NoMemory}
 use Rattle.dsr_ir.specs.declared.declarations.Spec.{Spec}

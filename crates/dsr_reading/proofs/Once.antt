@@ -9,7 +9,7 @@ use Rattle.dsr_parse.proofs.TreesOnce as trees
 use Rattle.dsr_parse.specs.Faults.{HasFault}
 use Rattle.dsr_parse.specs.declared.parser.SyntaxFault.{SyntaxFault}
 use Rattle.dsr_script.specs.Scripts.{Answer}
-use Rattle.dsr_reading.specs.Readings.{Found, IsFound, Means, Refused}
+use Rattle.dsr_reading.specs.Readings.{Interpretation, IsInterpretation, Means, Refused}
 use Rattle.dsr_text.specs.Faults.{IsToldOf}
 use Rattle.dsr_text.specs.Parsing.{IsTreeOf}
 use Rattle.dsr_text.specs.Sentences.{IsSpecText}
@@ -102,7 +102,7 @@ one_refusal text _ _ (no_meaning tree condition place is_tree told) (no_meaning 
     told_once f g (also.none_before f told.held) (told.none_before g also.held)
 
 -- what is read of a text is one thing: what it means, or the answer that refuses it
-pub one_reading : (text : List ℕ) (found other : Found) → IsFound text found → IsFound text other → found ≡ other
+pub one_reading : (text : List ℕ) (found other : Interpretation) → IsInterpretation text found → IsInterpretation text other → found ≡ other
 one_reading text (Means tree) (Means tree_2) is also = ap Means (tree_unique text tree tree_2 is.is_tree also.is_tree)
 one_reading text (Means tree) (Refused answer) is also = absurd (not_refused text tree answer is also)
 one_reading text (Refused answer) (Means tree) is also = absurd (not_refused text tree answer also is)

@@ -11,13 +11,13 @@ use Rattle.dsr_reading.specs.declared.readings.Reading.{Reading}
 use Rattle.dsr_reading.specs.declared.readings.Reading.TheVariants as readings
 
 -- a text means a specification, by this tree; or it is refused by this answer
-pub data Found : Type 0 where
-  Means : (tree : TreeShape) → Found
-  Refused : (answer : Answer) → Found
+pub data Interpretation : Type 0 where
+  Means : (tree : TreeShape) → Interpretation
+  Refused : (answer : Answer) → Interpretation
 
-abbrev pub IsFound : List ℕ → Found → Type 0
-IsFound text (Means tree) = IsMeaning text tree
-IsFound text (Refused answer) = IsRefused text answer
+abbrev pub IsInterpretation : List ℕ → Interpretation → Type 0
+IsInterpretation text (Means tree) = IsMeaning text tree
+IsInterpretation text (Refused answer) = IsRefused text answer
 
 -- the specification is that of the tree
 pub record IsSpecOf (tree : TreeShape) (spec : Spec) : Type 0 where

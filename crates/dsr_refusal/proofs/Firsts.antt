@@ -7,7 +7,7 @@ use Rattle.dsr_breaking.specs.declared.causes.Reason.{Reason}
 use Rattle.dsr_ir.specs.declared.updates.Template.{Template}
 use Rattle.dsr_listing.specs.Owners.{Owner}
 use Rattle.dsr_planning.specs.Plans.{owner_at}
-use Rattle.dsr_planning.specs.Refusals.{BreaksFor, FindsFirst, IsFirst}
+use Rattle.dsr_planning.specs.StuckSets.{BreaksFor, FindsFirst, IsFirst}
 
 pub first_one : (Kind : ℕ → Type 0) (n m : ℕ) → IsFirst Kind n → IsFirst Kind m → n ≡ m
 first_one Kind n m a b =

@@ -6,7 +6,7 @@ use Rattle.dsr_ir.specs.declared.constraints.Constraint.{Constraint}
 use Rattle.dsr_ir.specs.declared.declarations.Spec.{Spec}
 use Rattle.dsr_planning.proofs.Grown.{first_fewer, held_more}
 use Rattle.dsr_planning.specs.Plans.{Covers, owner_at}
-use Rattle.dsr_planning.specs.Refusals.{IsHopeless}
+use Rattle.dsr_planning.specs.StuckSets.{IsHopeless}
 use Rattle.dsr_planning.specs.Stuck.{IsHeld, MayBeFirst, MustTest, relied, uncovered}
 
 -- nobody is marked where no mark is set

@@ -2,7 +2,7 @@
 use Rattle.std.proofs.Common.{◌≡◌, ◌++◌, inl, inr, ℕ, zero, suc, List, [], ◌∷◌, Some, slice_get, refl, sym, ap, subst}
 use Rattle.dsr_meaning.proofs.Lists.{in_front_or_last}
 use Rattle.dsr_meaning.specs.Counting.{IsDistinct, IsIn}
-use Rattle.dsr_planning.specs.Refusals.{AreInOrder, numbers_of}
+use Rattle.dsr_planning.specs.StuckSets.{AreInOrder, numbers_of}
 use Rattle.dsr_planning.specs.declared.refusals.StuckMember.{StuckMember}
 
 pub in_order_more : {A : Type 0} (Comes : A → A → Type 0) (xs : List A) (y : A) → AreInOrder Comes xs → ((x : A) → IsIn x xs → Comes x y) → AreInOrder Comes (xs ++ y ∷ [])

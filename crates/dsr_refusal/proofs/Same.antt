@@ -5,7 +5,7 @@ use Rattle.dsr_ir.specs.declared.updates.Template.{Template}
 use Rattle.dsr_listing.specs.Owners.{Owner}
 use Rattle.dsr_planning.proofs.Grown.{held_more}
 use Rattle.dsr_planning.specs.Plans.{owner_at}
-use Rattle.dsr_planning.specs.Refusals.{AreStuckWays, BreaksMember, IsEnd, IsHopeless, IsStuckMember, IsStuckWay, MemberRelies}
+use Rattle.dsr_planning.specs.StuckSets.{AreStuckWays, BreaksMember, IsEnd, IsHopeless, IsStuckMember, IsStuckWay, MemberRelies}
 use Rattle.dsr_planning.specs.Stuck.{IsStuck}
 use Rattle.dsr_planning.specs.declared.refusals.StuckEnd.{StuckEnd}
 use Rattle.dsr_planning.specs.declared.refusals.StuckEnd.TheVariants.{Cycle, Unrepairable}

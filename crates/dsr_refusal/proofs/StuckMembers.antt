@@ -10,7 +10,7 @@ use Rattle.dsr_meaning.proofs.Lists.{in_front_or_last, last_in}
 use Rattle.dsr_meaning.specs.Counting.{IsIn}
 use Rattle.dsr_planning.proofs.Grown.{covers_fewer}
 use Rattle.dsr_planning.specs.Plans.{Covers, IsListedAt, owner_at}
-use Rattle.dsr_planning.specs.Refusals.{AreInOrder, AreStuckWays, BreaksMember, FindsFirst, IsAmong, IsHopeless, IsStuckMember, MemberRelies, awaited_by, numbers_of}
+use Rattle.dsr_planning.specs.StuckSets.{AreInOrder, AreStuckWays, BreaksMember, FindsFirst, IsAmong, IsHopeless, IsStuckMember, MemberRelies, awaited_by, numbers_of}
 use Rattle.dsr_planning.specs.Stuck.{IsHeld, IsStuck, MustTest, SparesMembers, relied, uncovered}
 use Rattle.dsr_planning.specs.declared.refusals.StuckMember.{StuckMember}
 use Rattle.dsr_planning.specs.declared.refusals.StuckWay.{StuckWay}

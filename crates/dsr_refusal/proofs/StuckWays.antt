@@ -8,7 +8,7 @@ use Rattle.dsr_listing.specs.Lists.{AreListed, AreListedOf}
 use Rattle.dsr_listing.specs.Owners.{Owner}
 use Rattle.dsr_meaning.proofs.Lists.{in_front_or_last, last_in}
 use Rattle.dsr_meaning.specs.Counting.{IsIn}
-use Rattle.dsr_planning.specs.Refusals.{AreStuckWays, BreaksFor, BreaksMember, IsFirst, IsStuckWay, WayComes}
+use Rattle.dsr_planning.specs.StuckSets.{AreStuckWays, BreaksFor, BreaksMember, IsFirst, IsStuckWay, WayComes}
 use Rattle.dsr_planning.specs.Stuck.{SparesMembers}
 use Rattle.dsr_planning.specs.declared.refusals.StuckWay.{StuckWay}
 use Rattle.dsr_refusal.proofs.Firsts.{first_one, reason_for_one}

@@ -4,7 +4,7 @@ use Rattle.std.specs.Prelude.{IsSome, IsSomeAnd}
 use Rattle.std.proofs.lemmas.List.{append_assoc, length-map, take-append-drop}
 use Rattle.dsr_meaning.proofs.Lists.{in_front_or_last}
 use Rattle.dsr_meaning.specs.Counting.{IsDistinct, IsIn}
-use Rattle.dsr_planning.specs.Refusals.{AreWaiting, AwaitsMember, IsAmong, IsCycle, numbers_of}
+use Rattle.dsr_planning.specs.StuckSets.{AreWaiting, AwaitsMember, IsAmong, IsCycle, numbers_of}
 use Rattle.dsr_planning.specs.declared.refusals.StuckMember.{StuckMember}
 use Rattle.dsr_refusal.proofs.Items.{distinct_more, first_in}
 use Rattle.dsr_refusal.specs.Members.{IsWalk, WaitsAmong}

@@ -3,12 +3,12 @@ use Rattle.std.proofs.Common.{Bool, List}
 use Rattle.dsr_ir.specs.declared.declarations.Spec.{Spec}
 use Rattle.dsr_placing.specs.Placing.{IsLeft}
 use Rattle.dsr_planning.proofs.Descent.{no_member}
-use Rattle.dsr_planning.specs.Refusals.{HasNoPlan, IsAmong, IsEnd, IsStuckSet}
+use Rattle.dsr_planning.specs.StuckSets.{HasNoPlan, IsAmong, IsEnd, IsStuckSet}
 use Rattle.dsr_planning.specs.declared.refusals.StuckEnd.{StuckEnd}
 use Rattle.dsr_planning.specs.declared.refusals.StuckMember.{StuckMember}
 use Rattle.dsr_refusal.proofs.Same.{end_same, member_same, stuck_same}
 use Rattle.dsr_refusal.specs.Members.{AreMembers}
-use Rattle.dsr_removal.specs.Outcomes.{AreLargest}
+use Rattle.dsr_removal.specs.Placements.{AreLargest}
 
 pub whole : (spec : Spec) (left : List Bool) (members : List StuckMember) (end : StuckEnd) → AreLargest spec left → AreMembers spec (IsLeft left) members → IsEnd spec (IsLeft left) members end → IsStuckSet spec (record { members = members; end = end })
 whole spec left members end largest are ends = record {

@@ -2,7 +2,7 @@
 use Rattle.std.specs.Prelude.{◌≡◌, ◌<◌, ◌++◌, ℕ, List, [], ◌∷◌, Some, slice_get}
 use Rattle.dsr_ir.specs.declared.declarations.Spec.{Spec}
 use Rattle.dsr_meaning.specs.Counting.{IsDistinct, IsIn}
-use Rattle.dsr_planning.specs.Refusals.{AreInOrder, AreWaiting, AwaitsMember, IsAmong, IsStuckMember, awaited_by, numbers_of}
+use Rattle.dsr_planning.specs.StuckSets.{AreInOrder, AreWaiting, AwaitsMember, IsAmong, IsStuckMember, awaited_by, numbers_of}
 use Rattle.dsr_planning.specs.declared.refusals.StuckMember.{StuckMember}
 
 -- what is told of the member with this number

@@ -1,6 +1,6 @@
 -- Why no choice is taken.
 use Rattle.dsr_ir.specs.declared.declarations.Spec.{Spec}
-use Rattle.dsr_planning.specs.Refusals.{HasNoPlan, IsStuckSet}
+use Rattle.dsr_planning.specs.StuckSets.{HasNoPlan, IsStuckSet}
 use Rattle.dsr_refusal.specs.declared.refusals.Stuck.{Stuck}
 use Rattle.dsr_refusal.specs.declared.refusals.Stuck.TheVariants.{Set, NoMemory}
 

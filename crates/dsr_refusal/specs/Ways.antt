@@ -7,7 +7,7 @@ use Rattle.dsr_ir.specs.declared.updates.Template.{Template}
 use Rattle.dsr_listing.specs.Owners.{Owner}
 use Rattle.dsr_meaning.specs.Counting.{IsIn}
 use Rattle.dsr_planning.specs.Plans.{owner_at}
-use Rattle.dsr_planning.specs.Refusals.{AreInOrder, BreaksFor, BreaksMember, IsFirst, IsStuckWay, WayComes}
+use Rattle.dsr_planning.specs.StuckSets.{AreInOrder, BreaksFor, BreaksMember, IsFirst, IsStuckWay, WayComes}
 use Rattle.dsr_planning.specs.declared.refusals.StuckWay.{StuckWay}
 
 -- the constraint is a member, and this is why the template breaks it

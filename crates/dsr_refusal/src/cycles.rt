@@ -1,7 +1,7 @@
 // The walk from the first member to what each member waits for, until it comes to one twice.
 ghost use Rattle.std.specs.Prelude.{◌≡◌, ◌≤◌, ◌<◌, ◌++◌, [], ◌∷◌, IfOk, IsSomeAnd, MatchOption, None, Some, drop, length, slice_get};
 ghost use Rattle.dsr_meaning.specs.Counting.{IsIn};
-ghost use Rattle.dsr_planning.specs.Refusals.{IsAmong, IsCycle, awaited_by};
+ghost use Rattle.dsr_planning.specs.StuckSets.{IsAmong, IsCycle, awaited_by};
 ghost use Rattle.dsr_refusal.specs.Members.{EachWaits, WaitsAmong};
 
 use dsr_ir::NoMemory;

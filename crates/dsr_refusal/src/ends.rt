@@ -5,9 +5,9 @@ ghost use Rattle.dsr_graph.specs.Graphs.{IsGraphOf, IsOwnerIn};
 ghost use Rattle.dsr_listing.specs.Owners.{Owner as OwnerOf};
 ghost use Rattle.dsr_meaning.specs.Typed.{IsTyped};
 ghost use Rattle.dsr_placing.specs.Placing.{IsConstraintIn, IsLeft};
-ghost use Rattle.dsr_planning.specs.Refusals.{FindsFirst, IsEnd, IsHopeless};
+ghost use Rattle.dsr_planning.specs.StuckSets.{FindsFirst, IsEnd, IsHopeless};
 ghost use Rattle.dsr_refusal.specs.Members.{AreMembers};
-ghost use Rattle.dsr_removal.specs.Outcomes.{AreLargest};
+ghost use Rattle.dsr_removal.specs.Placements.{AreLargest};
 
 use crate::cycles::cycle;
 use dsr_graph::Graph;

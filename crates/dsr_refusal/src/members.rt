@@ -4,7 +4,7 @@ ghost use Rattle.dsr_graph.specs.Graphs.{IsGraphOf, IsOwnerIn};
 ghost use Rattle.dsr_listing.specs.Owners.{Owner as OwnerOf};
 ghost use Rattle.dsr_meaning.specs.Typed.{IsTyped};
 ghost use Rattle.dsr_placing.specs.Placing.{IsLeft};
-ghost use Rattle.dsr_planning.specs.Refusals.{FindsFirst, MemberRelies};
+ghost use Rattle.dsr_planning.specs.StuckSets.{FindsFirst, MemberRelies};
 ghost use Rattle.dsr_refusal.specs.Members.{AreMembers, AreMembersBelow, IsMemberAt};
 
 use crate::ways::stuck_ways;

@@ -2,17 +2,17 @@
 ghost use Rattle.std.specs.Prelude.{◌≡◌, IfErr, IfOk};
 ghost use Rattle.dsr_graph.specs.Graphs.{IsGraphOf};
 ghost use Rattle.dsr_meaning.specs.Typed.{IsTyped};
-ghost use Rattle.dsr_planning.specs.Refusals.{IsStuckSet};
+ghost use Rattle.dsr_planning.specs.StuckSets.{IsStuckSet};
 ghost use Rattle.dsr_planning.specs.Taken.{IsTaken};
 ghost use Rattle.dsr_refusal.specs.Refused.{IsRefusal};
-ghost use Rattle.dsr_removal.specs.Outcomes.{AreLargest};
+ghost use Rattle.dsr_removal.specs.Placements.{AreLargest};
 
 use crate::ends::end;
 use crate::members::members;
 use dsr_graph::Graph;
 use dsr_ir::{NoMemory, Seq, Spec};
 use dsr_planning::{Choice, StuckSet};
-use dsr_removal::{Outcome, place};
+use dsr_removal::{Placement, place};
 use std::alloc::Global;
 
 /// Why no choice is taken.
@@ -58,7 +58,7 @@ pub fn plan(alloc: Global, graph: &Graph, spec: &Spec) -> Result<Choice, Stuck>
     ensures refused { IfErr result (IsRefusal spec.now) }
 {
     match place(alloc, graph, spec)? {
-        Outcome::Taken(choice) => Ok(choice),
-        Outcome::Stuck(left) => Err(Stuck::Set(stuck_set(alloc, graph, spec, &left)?)),
+        Placement::Taken(choice) => Ok(choice),
+        Placement::Stuck(left) => Err(Stuck::Set(stuck_set(alloc, graph, spec, &left)?)),
     }
 }

@@ -7,7 +7,7 @@ ghost use Rattle.dsr_ir.specs.declared.constraints.Constraint.{Constraint as Con
 ghost use Rattle.dsr_ir.specs.declared.updates.Template.{Template as TemplateOf};
 ghost use Rattle.dsr_listing.specs.Owners.{Owner as OwnerOf};
 ghost use Rattle.dsr_placing.specs.Placing.{BreaksLeft, IsLeft};
-ghost use Rattle.dsr_planning.specs.Refusals.{AreStuckWays};
+ghost use Rattle.dsr_planning.specs.StuckSets.{AreStuckWays};
 ghost use Rattle.dsr_planning.specs.Stuck.{SparesMembers};
 ghost use Rattle.dsr_refusal.specs.Ways.{AreWaysBefore, IsFirstBroken, IsNoWay, IsReasonLeft, IsWayAt};
 

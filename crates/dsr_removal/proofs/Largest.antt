@@ -9,7 +9,7 @@ use Rattle.dsr_placing.specs.Placing.{IsLeft}
 use Rattle.dsr_planning.proofs.Grown.{first_fewer, held_more, not_both}
 use Rattle.dsr_planning.specs.Stuck.{IsStuck}
 use Rattle.dsr_removal.proofs.Staying.{entry, left_many, left_told}
-use Rattle.dsr_removal.specs.Outcomes.{AreLargest}
+use Rattle.dsr_removal.specs.Placements.{AreLargest}
 use Rattle.dsr_removal.specs.Rounds.{AreSettled, IsLeftAt, is_late}
 use Rattle.dsr_sides.proofs.Standing.{place_below}
 

@@ -1,3 +1,3 @@
 pub mod Rounds
 pub mod Taking
-pub mod Outcomes
+pub mod Placements

@@ -6,4 +6,4 @@ mod rounds;
 mod taking;
 
 pub use laws::taken_plans_are_of_rounds;
-pub use taking::{Outcome, place};
+pub use taking::{Placement, place};

@@ -5,7 +5,7 @@ ghost use Rattle.dsr_listing.specs.Owners.{Owner as OwnerOf};
 ghost use Rattle.dsr_meaning.specs.Typed.{IsTyped};
 ghost use Rattle.dsr_placing.specs.Placing.{IsConjIn, IsConstraintIn, IsLeft, IsLiteralIn};
 ghost use Rattle.dsr_planning.specs.Taken.{IsTakenWay};
-ghost use Rattle.dsr_removal.specs.Outcomes.{IsOutcomeFor};
+ghost use Rattle.dsr_removal.specs.Placements.{IsPlacementFor};
 ghost use Rattle.dsr_removal.specs.Rounds.{AreSettled, IsPlacedIn};
 ghost use Rattle.dsr_removal.specs.Taking.{AreRowsOf, AreTakenIn, AreTakenWays, IsRowAt};
 ghost use Rattle.dsr_updating.specs.Templates.{literal_at};
@@ -149,7 +149,7 @@ fn rows(
 
 /// What comes of putting all constraints in an order of repair.
 #[derive(Drop)]
-pub enum Outcome {
+pub enum Placement {
     /// The plan that is taken.
     Taken(Choice),
     /// For each constraint whether it is a member of the largest stuck set, which has one.
@@ -157,16 +157,16 @@ pub enum Outcome {
 }
 
 /// Puts all constraints in an order of repair, if they have one.
-pub fn place(alloc: Global, graph: &Graph, spec: &Spec) -> Result<Outcome, NoMemory>
+pub fn place(alloc: Global, graph: &Graph, spec: &Spec) -> Result<Placement, NoMemory>
     requires typed { IsTyped spec.now }
     requires graph { IsGraphOf spec.now graph.now }
-    ensures { IfOk result (IsOutcomeFor spec.now) }
+    ensures { IfOk result (IsPlacementFor spec.now) }
 {
     let placed = place_all(alloc, graph, spec)?;
     match rows(alloc, graph, spec, &placed)? {
-        Some(rows) => Ok(Outcome::Taken(Choice {
+        Some(rows) => Ok(Placement::Taken(Choice {
             rows: Seq::new(rows),
         })),
-        None => Ok(Outcome::Stuck(left_at(alloc, &placed.rounds, placed.count)?)),
+        None => Ok(Placement::Stuck(left_at(alloc, &placed.rounds, placed.count)?)),
     }
 }

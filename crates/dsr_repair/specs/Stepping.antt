@@ -39,10 +39,10 @@ pub record IsLogged (spec : Spec) (choice : Choice) (layout : Layout) (step : St
   pub step_is : made.step ≡ step
 
 -- the step that is due was made and logged, or there was none and all is as it was
-abbrev pub IsTaken : Spec → Choice → Layout → State → State → Turn → Type 0
-IsTaken spec choice layout old new turns.Done = new ≡ old
-IsTaken spec choice layout old new (turns.Step step) = IsLogged spec choice layout step old new
-IsTaken spec choice layout old new (turns.Empty need) = new ≡ old
+abbrev pub TakesTurn : Spec → Choice → Layout → State → State → Turn → Type 0
+TakesTurn spec choice layout old new turns.Done = new ≡ old
+TakesTurn spec choice layout old new (turns.Step step) = IsLogged spec choice layout step old new
+TakesTurn spec choice layout old new (turns.Empty need) = new ≡ old
 
 -- less remains than before, and bindings are newly violated of constraints on levels above the one
 -- alone for which the step was made

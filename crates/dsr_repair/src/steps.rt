@@ -1,7 +1,7 @@
 // One step.
 ghost use Rattle.std.specs.Prelude.{◌≡◌, IfOk, OnErr, option_map};
 ghost use Rattle.dsr_repair.specs.Planned.{chosen_update};
-ghost use Rattle.dsr_repair.specs.Stepping.{Brings, IsModelled, IsTaken, state};
+ghost use Rattle.dsr_repair.specs.Stepping.{Brings, IsModelled, TakesTurn, state};
 ghost use Rattle.dsr_repairing.specs.Turns.{IsTurn};
 ghost use Rattle.dsr_stepping.specs.Images.{FixedFieldsStay};
 
@@ -42,7 +42,7 @@ pub fn step<I: ImageBytes>(
 ) -> Result<Turn, NoMemory>
     requires modelled { IsModelled plan.now.0 layout.now (I.ImageBytes.bytes image.old) model.old }
     ensures turn { IfOk result (IsTurn plan.now.0 plan.now.1 layout.now (I.ImageBytes.bytes image.old)) }
-    ensures taken { IfOk result (IsTaken plan.now.0 plan.now.1 layout.now
+    ensures taken { IfOk result (TakesTurn plan.now.0 plan.now.1 layout.now
         (state (I.ImageBytes.bytes image.old) log.old.entries model.old)
         (state (I.ImageBytes.bytes image.new) log.new.entries model.new)) }
     ensures brings { IfOk result (Brings plan.now.0 plan.now.1 layout.now (I.ImageBytes.bytes image.old)

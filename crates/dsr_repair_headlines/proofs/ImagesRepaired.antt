@@ -9,10 +9,10 @@ use Rattle.dsr_ir.specs.declared.declarations.Spec.{Spec}
 use Rattle.dsr_meaning.specs.Refusals.{Refusal, first_of, refusals}
 use Rattle.dsr_one_meaning.specs.Meanings.{HaveOneMeaning}
 use Rattle.dsr_plan.specs.Planned as planned
-use Rattle.dsr_plan.specs.Refusals.{refused_answer}
+use Rattle.dsr_plan.specs.StuckTexts.{refused_answer}
 use Rattle.dsr_plan.specs.declared.plans.Found as plans
 use Rattle.dsr_plan.specs.declared.plans.Found.TheVariants as plan_found
-use Rattle.dsr_planning.specs.Refusals.{HasNoPlan, IsStuckSet}
+use Rattle.dsr_planning.specs.StuckSets.{HasNoPlan, IsStuckSet}
 use Rattle.dsr_planning.specs.Taken.{IsTaken}
 use Rattle.dsr_planning.specs.declared.choices.Choice.{Choice}
 use Rattle.dsr_planning.specs.declared.refusals.StuckSet.{StuckSet}

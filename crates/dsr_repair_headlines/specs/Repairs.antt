@@ -6,8 +6,8 @@ use Rattle.dsr_ir.specs.declared.declarations.Spec.{Spec}
 use Rattle.dsr_ir.specs.declared.layouts.Layout.{Layout}
 use Rattle.dsr_meaning.specs.Consistency.{IsConsistent}
 use Rattle.dsr_meaning.specs.Refusals.{IsLayoutOf, Refusal, first_of, refusals}
-use Rattle.dsr_plan.specs.Refusals.{refused_answer}
-use Rattle.dsr_planning.specs.Refusals.{HasNoPlan, IsStuckSet}
+use Rattle.dsr_plan.specs.StuckTexts.{refused_answer}
+use Rattle.dsr_planning.specs.StuckSets.{HasNoPlan, IsStuckSet}
 use Rattle.dsr_planning.specs.Taken.{IsTaken}
 use Rattle.dsr_planning.specs.declared.choices.Choice.{Choice}
 use Rattle.dsr_planning.specs.declared.refusals.StuckSet.{StuckSet}

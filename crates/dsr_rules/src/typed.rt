@@ -5,7 +5,7 @@ ghost use Rattle.dsr_names.specs.Tables.{known_of};
 ghost use Rattle.dsr_typing.specs.Known.{known_in};
 ghost use Rattle.dsr_typing.specs.RuleFaults.{rules_faults};
 ghost use Rattle.dsr_typing.specs.TypedRules.{typed_rules};
-ghost use Rattle.dsr_faults.specs.Refusals.{Tells};
+ghost use Rattle.dsr_faults.specs.FaultsTold.{Tells};
 
 use crate::checks::check_rules;
 use crate::typed_rules::typed_rules;

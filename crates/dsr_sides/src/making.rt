@@ -8,7 +8,7 @@ ghost use Rattle.dsr_meaning.specs.Typed.{AreTyped};
 ghost use Rattle.dsr_sides.specs.Owned.{IsSound, owner_of};
 ghost use Rattle.dsr_updating.specs.Avoided.{IsAvoided};
 ghost use Rattle.dsr_updating.specs.Changes.{Change as ChangeOf, fresh_pool};
-ghost use Rattle.dsr_updating.specs.Known.{IsKnown};
+ghost use Rattle.dsr_updating.specs.KnownSets.{IsKnown};
 ghost use Rattle.dsr_updating.specs.Touching.{named_by};
 ghost use Rattle.dsr_updating.specs.Together.{MayStandBeside, MayStandTogether};
 

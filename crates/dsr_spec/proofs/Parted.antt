@@ -16,7 +16,7 @@ use Rattle.dsr_typing.specs.TypedConstraints.{typed_constraints}
 use Rattle.dsr_typing.specs.TypedRules.{typed_rules}
 use Rattle.dsr_typed.proofs.TypedConstraints.{constraints_are_typed, few_constraints, names_differ}
 use Rattle.dsr_typed.proofs.TypedRules.{rules_are_typed, few_rules}
-use Rattle.dsr_faults.specs.Refusals.{Tells}
+use Rattle.dsr_faults.specs.FaultsTold.{Tells}
 use Rattle.dsr_faults.specs.declared.refusals.SpecFault.{SpecFault}
 use Rattle.dsr_faults.specs.declared.refusals.SpecFault.TheVariants.{At, NoMemory}
 

@@ -3,7 +3,7 @@ ghost use Rattle.std.specs.Prelude.{◌≡◌, [], IfOk, IfErr};
 ghost use Rattle.dsr_tree.specs.Trees.{tree_shape};
 ghost use Rattle.dsr_meaning.specs.Typed.{IsTyped};
 ghost use Rattle.dsr_typing.specs.Specifications.{specification, specification_faults};
-ghost use Rattle.dsr_faults.specs.Refusals.{Tells};
+ghost use Rattle.dsr_faults.specs.FaultsTold.{Tells};
 
 use dsr_constraint::constraints;
 use dsr_faults::SpecFault;

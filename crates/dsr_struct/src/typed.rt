@@ -7,7 +7,7 @@ ghost use Rattle.dsr_meaning.specs.Placeable.{ArePlaceable};
 ghost use Rattle.dsr_meaning.specs.Typed.{AreTyped};
 ghost use Rattle.dsr_text.specs.Names.{names_of};
 ghost use Rattle.dsr_struct.specs.Known.{told_by, known_of, AllFit, HasLegalWidths};
-ghost use Rattle.dsr_faults.specs.Refusals.{Tells};
+ghost use Rattle.dsr_faults.specs.FaultsTold.{Tells};
 
 use crate::lookups::Names;
 use crate::names::{NameTables, head_name, name_tables};

@@ -17,7 +17,7 @@ use Rattle.dsr_template_laws.specs.Judging.{Application, change_in, owner_of}
 use Rattle.dsr_template_laws.specs.Tried.{IsTried}
 use Rattle.dsr_updating.specs.Avoided.{IsAvoided}
 use Rattle.dsr_updating.specs.Facts.{exclusive}
-use Rattle.dsr_updating.specs.Known.{IsKnown}
+use Rattle.dsr_updating.specs.KnownSets.{IsKnown}
 use Rattle.dsr_updating.specs.Together.{MayStandTogether}
 use Rattle.dsr_updating.specs.declared.effects.Direction.{Direction}
 use Rattle.dsr_updating.specs.declared.effects.Direction.TheVariants.{Gain, Loss}

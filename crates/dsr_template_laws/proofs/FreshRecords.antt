@@ -5,7 +5,7 @@ use Rattle.std.specs.Prelude.{unwrap_or}
 use Rattle.std.specs.Option.{option_and_then}
 use Rattle.std.proofs.lemmas.Option.{same_Some, none-some}
 use Rattle.dsr_applying.specs.Choices.{IsFresh, IsFreshFrom, IsOutside, IsPlace, IsSupplied}
-use Rattle.dsr_effect_laws.specs.Judged.{IsTaken}
+use Rattle.dsr_effect_laws.specs.Judged.{IsFreshFor}
 use Rattle.dsr_effect_laws.proofs.AvoidedSets.{avoided_free}
 use Rattle.dsr_feasible.proofs.PlainSets.{as_derived, as_fact, plain_base}
 use Rattle.dsr_feasible.proofs.TriedSteps.{placed_at}
@@ -87,7 +87,7 @@ module _ (a : Application) (t : IsTried a) where
   avoided_plain e f set (IsAvoided.named s is_in) = let n = named e f in named_plain e n s (subst (IsIn s) (named_are e f n) is_in)
   avoided_plain e f set (IsAvoided.given s plain own rest) = plain
 
-  pub taken : (e : Element) → a.step.fresh ≡ Some e → IsTaken J a.layout a.old e
+  pub taken : (e : Element) → a.step.fresh ≡ Some e → IsFreshFor J a.layout a.old e
   taken e is =
       let f = fresh_one e is in
       record {

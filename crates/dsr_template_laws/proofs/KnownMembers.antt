@@ -32,7 +32,7 @@ use Rattle.dsr_effect_laws.specs.Allowed.{subject_of}
 use Rattle.dsr_effect_laws.proofs.GivenFacts.{own_subject}
 use Rattle.dsr_stepped.proofs.GivenSymbols.{giver_of}
 use Rattle.dsr_updating.specs.Givers.{IsGiver, IsGivenBy}
-use Rattle.dsr_updating.specs.Known.{GivesMembersOf, GivesTargetsTo, IsKnown}
+use Rattle.dsr_updating.specs.KnownSets.{GivesMembersOf, GivesTargetsTo, IsKnown}
 use Rattle.dsr_feasible.proofs.PlainSets.{as_derived, as_fact, given_plain, premise_plain}
 use Rattle.dsr_meaning.proofs.Items.{all_of, of_all}
 

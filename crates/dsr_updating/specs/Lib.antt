@@ -1,5 +1,5 @@
 pub mod Givers
-pub mod Known
+pub mod KnownSets
 pub mod Facts
 pub mod Guards
 pub mod Options

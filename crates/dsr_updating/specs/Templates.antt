@@ -45,7 +45,7 @@ use Rattle.dsr_meaning.specs.Instances.{declared_field, kind_pool}
 use Rattle.dsr_meaning.specs.Lists.{any_of}
 use Rattle.dsr_updating.specs.Givers.{each_giver, givers, is_own, is_single, is_slot}
 use Rattle.dsr_updating.specs.Guards.{guard_write}
-use Rattle.dsr_updating.specs.Known.{IsKnown}
+use Rattle.dsr_updating.specs.KnownSets.{IsKnown}
 use Rattle.dsr_updating.specs.Options.{options, reference_write}
 
 -- In what follows, `known` says of which sets the variables of the constraint are known to be

@@ -18,7 +18,7 @@ use Rattle.dsr_meaning.specs.Counting.{IsIn}
 use Rattle.dsr_meaning.specs.Instances.{declared_field, premise_pool}
 use Rattle.dsr_updating.specs.Avoided.{IsAvoided}
 use Rattle.dsr_updating.specs.Changes.{Change, descends, fresh_pool, is_at_entry, is_touched, reads_touched, write_to, written_pool}
-use Rattle.dsr_updating.specs.Known.{IsKnown}
+use Rattle.dsr_updating.specs.KnownSets.{IsKnown}
 use Rattle.dsr_updating.specs.Values.{CellValue, ComesOut, MayLeave, NoneReference, reset_of}
 
 -- ---- which rules are touched

@@ -1,5 +1,5 @@
 use Rattle.std.proofs.Common.{◌≡◌, [], IfOk, IfErr, map, sym, subst}
-use Rattle.dsr_faults.specs.Refusals.{Tells}
+use Rattle.dsr_faults.specs.FaultsTold.{Tells}
 use Rattle.dsr_tree.specs.Trees.{constraint_shape}
 use Rattle.dsr_typing.specs.Constraints.{constraints_faults}
 use Rattle.dsr_typing.specs.TypedConstraints.{typed_constraints}

@@ -1,6 +1,6 @@
 use Rattle.std.proofs.Common.{◌≡◌, ◌++◌, take}
 use Rattle.std.specs.List.{flat_map}
-use Rattle.dsr_plan.specs.Refusals as said
+use Rattle.dsr_plan.specs.StuckTexts as said
 use Rattle.dsr_plan.proofs.stuck.push_members.Given as goal
 
 abbrev pub invariant-loop-member : goal.invariant-loop-member

@@ -2,7 +2,7 @@ use Rattle.std.proofs.Common.{◌≡◌, ◌++◌, [], ◌∷◌, Some, length, 
 use Rattle.std.proofs.lemmas.Result.{IfOk-weaker}
 use Rattle.dsr_compensate.proofs.Each.{length_more}
 use Rattle.dsr_meaning.specs.Counting.{IsIn}
-use Rattle.dsr_planning.specs.Refusals.{IsCycle}
+use Rattle.dsr_planning.specs.StuckSets.{IsCycle}
 use Rattle.dsr_refusal.proofs.Walks.{closes, first_number, found_some, found_there, walk_short, walk_starts, walks_on}
 use Rattle.dsr_refusal.specs.Members.{IsWalk, WaitsAmong}
 use Rattle.dsr_sides.proofs.Standing.{place_below}

@@ -1,6 +1,6 @@
 use Rattle.std.proofs.Common.{sym, subst}
 use Rattle.dsr_placing.specs.Placing.{IsLeft}
-use Rattle.dsr_planning.specs.Refusals.{FindsFirst, IsCycle, IsHopeless}
+use Rattle.dsr_planning.specs.StuckSets.{FindsFirst, IsCycle, IsHopeless}
 use Rattle.dsr_refusal.proofs.StuckMembers.{each_waits}
 use Rattle.dsr_refusal.proofs.ends.end.Goals as goal
 

@@ -6,7 +6,7 @@ use Rattle.dsr_compensate.proofs.Each.{item_at}
 use Rattle.dsr_graph.specs.Graphs.{owner_at}
 use Rattle.dsr_placing.proofs.Left.{none_more}
 use Rattle.dsr_placing.specs.Placing.{IsLeft}
-use Rattle.dsr_planning.specs.Refusals.{IsHopeless}
+use Rattle.dsr_planning.specs.StuckSets.{IsHopeless}
 use Rattle.dsr_sides.proofs.Standing.{place_below}
 use Rattle.dsr_refusal.proofs.ends.first_hopeless.Goals as goal
 

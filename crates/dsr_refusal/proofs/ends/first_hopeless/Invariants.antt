@@ -1,6 +1,6 @@
 use Rattle.std.proofs.Common.{◌<◌, ℕ}
 use Rattle.dsr_placing.specs.Placing.{IsLeft}
-use Rattle.dsr_planning.specs.Refusals.{IsHopeless}
+use Rattle.dsr_planning.specs.StuckSets.{IsHopeless}
 use Rattle.dsr_refusal.proofs.ends.first_hopeless.Given as goal
 
 -- none of those so far is hopeless

@@ -1,7 +1,7 @@
 use Rattle.std.proofs.Common.{refl, sym, subst}
 use Rattle.dsr_placing.specs.Placing.{IsLeft}
 use Rattle.dsr_planning.specs.Plans.{owner_at}
-use Rattle.dsr_planning.specs.Refusals.{AreStuckWays}
+use Rattle.dsr_planning.specs.StuckSets.{AreStuckWays}
 use Rattle.dsr_refusal.proofs.members.member.Goals as goal
 
 pub returns : goal.returns

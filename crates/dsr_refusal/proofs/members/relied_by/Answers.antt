@@ -4,7 +4,7 @@ use Rattle.dsr_graph.proofs.Paired.{item_there}
 use Rattle.dsr_placing.proofs.Left.{left_below, none_more}
 use Rattle.dsr_placing.specs.Placing.{IsLeft}
 use Rattle.dsr_planning.specs.Plans.{owner_at}
-use Rattle.dsr_planning.specs.Refusals.{MemberRelies}
+use Rattle.dsr_planning.specs.StuckSets.{MemberRelies}
 use Rattle.dsr_refusal.proofs.members.relied_by.Goals as goal
 
 pub returns-then-relies_left : goal.returns-then-relies_left

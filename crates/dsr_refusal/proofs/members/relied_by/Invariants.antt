@@ -2,7 +2,7 @@ use Rattle.std.proofs.Common.{◌≡◌, ◌<◌, ℕ, length}
 use Rattle.dsr_graph.specs.Graphs.{IsOwnerIn}
 use Rattle.dsr_listing.specs.Owners.{Owner}
 use Rattle.dsr_placing.specs.Placing.{IsLeft}
-use Rattle.dsr_planning.specs.Refusals.{MemberRelies}
+use Rattle.dsr_planning.specs.StuckSets.{MemberRelies}
 use Rattle.dsr_refusal.proofs.members.relied_by.Given as goal
 
 -- none of those so far relies on it

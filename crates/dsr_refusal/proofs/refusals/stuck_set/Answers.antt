@@ -1,6 +1,6 @@
 use Rattle.std.proofs.Common.{sym, subst}
 use Rattle.dsr_placing.specs.Placing.{IsLeft}
-use Rattle.dsr_planning.specs.Refusals.{IsEnd, IsStuckSet}
+use Rattle.dsr_planning.specs.StuckSets.{IsEnd, IsStuckSet}
 use Rattle.dsr_refusal.proofs.Whole.{whole}
 use Rattle.dsr_refusal.proofs.refusals.stuck_set.Goals as goal
 

@@ -4,7 +4,7 @@ use Rattle.dsr_fixpoint.specs.Models.{IsLaidOut, IsModelOf, IsPreparedFor}
 use Rattle.dsr_meaning.specs.Consistency.{IsConsistent}
 use Rattle.dsr_repair.proofs.RunOn.{less_left, run_on, run_same}
 use Rattle.dsr_repair.proofs.StepMade.{laid_out}
-use Rattle.dsr_repair.specs.Stepping.{IsTaken, State, state}
+use Rattle.dsr_repair.specs.Stepping.{TakesTurn, State, state}
 use Rattle.dsr_repairing.specs.Runs.IsPartRun.{begins}
 use Rattle.dsr_repairing.specs.Turns.{IsTurn}
 use Rattle.dsr_resolved.proofs.AcceptedLayouts.{legal_of}
@@ -43,7 +43,7 @@ pub returns-in-Done-clause-ends : goal.returns-in-Done-clause-ends
 returns-in-Done-clause-ends g c =
     let old = g.I.ImageBytes.bytes c.steps.image in
     let new = g.I.ImageBytes.bytes c.step.new.image in
-    let taken = subst (IsTaken c.args.plan.now.0 c.args.plan.now.1 c.args.layout.now (state old c.steps.log.entries c.steps.model) (state new c.step.new.log.entries c.step.new.model))
+    let taken = subst (TakesTurn c.args.plan.now.0 c.args.plan.now.1 c.args.layout.now (state old c.steps.log.entries c.steps.model) (state new c.step.new.log.entries c.step.new.model))
     c.in-Done.is c.in_ok-step.ensures.taken in
     subst (IsConsistent c.args.plan.now.0 c.args.layout.now) (sym (ap (λ (s : State). s.bytes) taken))
     (subst (IsTurn c.args.plan.now.0 c.args.plan.now.1 c.args.layout.now old) c.in-Done.is c.in_ok-step.ensures.turn)
@@ -52,7 +52,7 @@ pub steps-preserved : goal.steps-preserved
 steps-preserved g c =
     let old = g.I.ImageBytes.bytes c.steps.image in
     let new = g.I.ImageBytes.bytes c.step.new.image in
-    let taken = subst (IsTaken c.args.plan.now.0 c.args.plan.now.1 c.args.layout.now (state old c.steps.log.entries c.steps.model) (state new c.step.new.log.entries c.step.new.model))
+    let taken = subst (TakesTurn c.args.plan.now.0 c.args.plan.now.1 c.args.layout.now (state old c.steps.log.entries c.steps.model) (state new c.step.new.log.entries c.step.new.model))
     c.in-Step.is c.in_ok-step.ensures.taken in
     record {
       steps = run_on c.args.plan.now.0 c.args.plan.now.1 c.args.layout.now (g.I.ImageBytes.bytes c.args.image.now) old new
@@ -65,7 +65,7 @@ steps-smaller g c =
     let first = g.I.ImageBytes.bytes c.args.image.now in
     let old = g.I.ImageBytes.bytes c.steps.image in
     let new = g.I.ImageBytes.bytes c.step.new.image in
-    let taken = subst (IsTaken c.args.plan.now.0 c.args.plan.now.1 c.args.layout.now (state old c.steps.log.entries c.steps.model) (state new c.step.new.log.entries c.step.new.model))
+    let taken = subst (TakesTurn c.args.plan.now.0 c.args.plan.now.1 c.args.layout.now (state old c.steps.log.entries c.steps.model) (state new c.step.new.log.entries c.step.new.model))
     c.in-Step.is c.in_ok-step.ensures.taken in
     less_left c.args.plan.now.0 c.args.plan.now.1 c.args.layout.now
     c.requires.planned first c.requires.image

@@ -5,8 +5,8 @@ use Rattle.dsr_meaning.specs.Counting.{IsIn}
 use Rattle.dsr_placing.specs.Placing.{IsLeft}
 use Rattle.dsr_planning.specs.Stuck.{IsStuck}
 use Rattle.dsr_planning.specs.Taken.{IsTaken}
-use Rattle.dsr_removal.specs.declared.taking.Outcome.{Outcome}
-use Rattle.dsr_removal.specs.declared.taking.Outcome.TheVariants.{Taken, Stuck}
+use Rattle.dsr_removal.specs.declared.taking.Placement.{Placement}
+use Rattle.dsr_removal.specs.declared.taking.Placement.TheVariants.{Taken, Stuck}
 
 -- the marks are those of the largest stuck set, and it has a member
 pub record AreLargest (spec : Spec) (left : List Bool) : Type 0 where
@@ -15,6 +15,6 @@ pub record AreLargest (spec : Spec) (left : List Bool) : Type 0 where
   pub stuck : IsStuck spec (IsLeft left)
   pub all : (set : List ℕ) (n : ℕ) → IsStuck spec (λ m. IsIn m set) → IsIn n set → IsLeft left n
 
-abbrev pub IsOutcomeFor : Spec → Outcome → Type 0
-IsOutcomeFor spec (Taken choice) = IsTaken spec choice
-IsOutcomeFor spec (Stuck left) = AreLargest spec left.items
+abbrev pub IsPlacementFor : Spec → Placement → Type 0
+IsPlacementFor spec (Taken choice) = IsTaken spec choice
+IsPlacementFor spec (Stuck left) = AreLargest spec left.items

@@ -3,7 +3,7 @@
 
     bench/effects.py PROGRAM
 
-PROGRAM is crates/dsr_spec_cases/out/dsr_spec_cases, as a whole `rt ci` leaves it. It reads the
+PROGRAM is crates/dsr_text_tests/out/dsr_text_tests, as a whole `rt ci` leaves it. It reads the
 specification, so parsing it and printing each effect are in the time; a specification without literals is taken off.
 """
 import subprocess

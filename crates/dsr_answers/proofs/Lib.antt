@@ -1,2 +1,2 @@
 pub mod Refusing
-mod Violated
+pub mod Violated

@@ -3,16 +3,16 @@ use Rattle.std.proofs.Common.{◌≡◌, ℕ, List, Result, sym, subst}
 use Rattle.std.specs.Prelude.{IfOk}
 use Rattle.std.proofs.lemmas.Result.{IfOk-weaker}
 use Rattle.dsr_answers.specs.Refused.{IsRefused, meaning_answer, no_meaning}
-use Rattle.dsr_faults.specs.FaultsTold.{Tells}
-use Rattle.dsr_faults.specs.declared.refusals.SpecFault.{SpecFault}
-use Rattle.dsr_faults.specs.declared.refusals.SpecFault.TheVariants.{At}
+use Rattle.dsr_names.specs.FaultsTold.{Tells}
+use Rattle.dsr_names.specs.declared.refusals.SpecFault.{SpecFault}
+use Rattle.dsr_names.specs.declared.refusals.SpecFault.TheVariants.{At}
 use Rattle.dsr_ir.specs.declared.memory.NoMemory.{NoMemory}
 use Rattle.dsr_script.specs.Moves.{shown}
 use Rattle.dsr_script.specs.Scripts.{Answer}
 use Rattle.dsr_script.specs.declared.moves.Told.{Told}
-use Rattle.dsr_text.specs.Parsing.{IsTreeOf}
+use Rattle.dsr_syntax_theory.specs.Parsing.{IsTreeOf}
 use Rattle.dsr_tree.specs.Trees.{TreeShape}
-use Rattle.dsr_typing.specs.Specifications.{specification_faults}
+use Rattle.dsr_language_theory.specs.Specifications.{specification_faults}
 
 -- what holds of an answer holds of a result that shows it
 pub told_is :

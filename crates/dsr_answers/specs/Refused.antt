@@ -2,13 +2,13 @@
 use Rattle.std.specs.Prelude.{◌≡◌, ℕ, List, [], ◌++◌, codes, decimal}
 use Rattle.dsr_script.specs.Scripts.{Answer}
 use Rattle.dsr_script.specs.declared.status.Verdict.TheVariants as verdicts
-use Rattle.dsr_text.specs.Faults.{IsToldOf}
-use Rattle.dsr_text.specs.Parsing.{IsTreeOf}
-use Rattle.dsr_text.specs.Sentences.{IsNoToken, IsPastLimit, IsUnexpected}
+use Rattle.dsr_language_theory.specs.Faults.{IsToldOf}
+use Rattle.dsr_syntax_theory.specs.Parsing.{IsTreeOf}
+use Rattle.dsr_syntax_theory.specs.Sentences.{IsNoToken, IsPastLimit, IsUnexpected}
 use Rattle.dsr_tree.specs.Faults.{kind_number}
 use Rattle.dsr_tree.specs.Trees.{TreeShape}
 use Rattle.dsr_tree.specs.declared.faults.Condition.{Condition}
-use Rattle.dsr_typing.specs.Specifications.{specification_faults}
+use Rattle.dsr_language_theory.specs.Specifications.{specification_faults}
 
 -- the text has this tree, which means a specification
 pub record IsMeaning (text : List ℕ) (tree : TreeShape) : Type 0 where

@@ -1,16 +1,16 @@
 // Refusals of a text that means no specification.
 ghost use Rattle.std.specs.Prelude.{◌≡◌, ◌≢◌, ℕ, List, IfOk};
 ghost use Rattle.dsr_answers.specs.Refused.{IsRefused, refused_at, syntax_answer};
-ghost use Rattle.dsr_faults.specs.FaultsTold.{Tells};
-ghost use Rattle.dsr_faults.specs.declared.refusals.SpecFault.TheVariants as spec_faults;
+ghost use Rattle.dsr_names.specs.FaultsTold.{Tells};
+ghost use Rattle.dsr_names.specs.declared.refusals.SpecFault.TheVariants as spec_faults;
 ghost use Rattle.dsr_script.specs.Moves.{shown};
-ghost use Rattle.dsr_text.specs.Parsing.{IsTreeOf};
+ghost use Rattle.dsr_syntax_theory.specs.Parsing.{IsTreeOf};
 ghost use Rattle.dsr_tree.specs.Trees.{TreeShape};
-ghost use Rattle.dsr_typing.specs.Specifications.{specification_faults};
+ghost use Rattle.dsr_language_theory.specs.Specifications.{specification_faults};
 
 use crate::texts::{push, push_number};
-use dsr_faults::SpecFault;
 use dsr_ir::NoMemory;
+use dsr_names::SpecFault;
 use dsr_script::{Told, Verdict};
 use std::alloc::Global;
 

@@ -4,7 +4,7 @@ use Rattle.std.specs.Option.{option_and_then, option_map_or}
 use Rattle.std.proofs.Math.Nat.{mul-le-mul_right, add-mul}
 use Rattle.std.proofs.lemmas.Bool.Decides.{nat_tests}
 use Rattle.std.proofs.lemmas.List.{length-map}
-use Rattle.dsr_decided.proofs.Instances.{included}
+use Rattle.dsr_model_laws.proofs.Instances.{included}
 use Rattle.dsr_ir.specs.declared.constraints.Quant.{Quant}
 use Rattle.dsr_ir.specs.declared.constraints.Quant.TheVariants as quants
 use Rattle.dsr_ir.specs.declared.declarations.SetDecl.{SetDecl}
@@ -31,8 +31,8 @@ use Rattle.dsr_meaning.specs.Models.{Chain, IsActive, IsDerived, IsFact, IsInCom
 use Rattle.dsr_meaning.specs.Models.Chain.{begin, follow}
 use Rattle.dsr_meaning.specs.Typed.{IsTypedRule, IsTypedSet}
 use Rattle.dsr_meaning.specs.Legal.{IsLegalLayout}
-use Rattle.dsr_stepping.specs.Images.{IsImageOf}
-use Rattle.dsr_resolved.proofs.AcceptedLayouts.{legal_of}
+use Rattle.dsr_step_theory.specs.Images.{IsImageOf}
+use Rattle.dsr_resolve.proofs.AcceptedLayouts.{legal_of}
 use Rattle.dsr_bound_laws.specs.Bounds.{complements, instances_and_one}
 use Rattle.dsr_template_laws.specs.Helping.{IsActiveFor}
 use Rattle.dsr_bound_laws.proofs.Instances.{AllInstances, all_from, in_map}
@@ -41,7 +41,7 @@ use Rattle.dsr_bound_laws.proofs.Levels.{FewBindings}
 use Rattle.dsr_bound_laws.proofs.RuleSizes.{few_of_rule, few_records}
 use Rattle.dsr_meaning.proofs.Counts.{no_more}
 use Rattle.dsr_bound_laws.proofs.Sublists.{numbers_below}
-use Rattle.dsr_planning.specs.declared.choices.Choice.{Choice}
+use Rattle.dsr_plan_theory.specs.declared.choices.Choice.{Choice}
 
 -- the first of a list
 first_item : {A : Type 0} → List A → Option A

@@ -2,11 +2,11 @@
 use Rattle.std.proofs.Common.{◌≡◌, ◌≢◌, ◌≤◌, ◌<◌, ◌+◌, ◌-◌, ◌*◌, ℕ, List, ◌∷◌, Some, slice_get, ◌⊎◌, inl, inr, refl, sym, ap, subst, ◌∙◌, arith}
 use Rattle.std.proofs.lemmas.Bool.{cases_lt, cases_order}
 use Rattle.std.proofs.lemmas.Option.{same_Some}
-use Rattle.dsr_decided.proofs.Instances.{elements}
-use Rattle.dsr_decided.proofs.Listed.{numbers}
-use Rattle.dsr_decided.proofs.Models.{facts_listed}
-use Rattle.dsr_decided.proofs.Truths.{literal_decided}
-use Rattle.dsr_decided.proofs.Ways.{AreCompared, both, by_logic}
+use Rattle.dsr_model_laws.proofs.Instances.{elements}
+use Rattle.dsr_model_laws.proofs.Listed.{numbers}
+use Rattle.dsr_model_laws.proofs.Models.{facts_listed}
+use Rattle.dsr_model_laws.proofs.Truths.{literal_decided}
+use Rattle.dsr_model_laws.proofs.Ways.{AreCompared, both, by_logic}
 use Rattle.dsr_bound_laws.proofs.Fewer.{StopsSome, many_fewer}
 use Rattle.dsr_ir.specs.declared.constraints.Constraint.{Constraint}
 use Rattle.dsr_ir.specs.declared.constraints.Literal.{Literal}
@@ -18,15 +18,15 @@ use Rattle.dsr_ir.specs.declared.updates.Goal.{Goal}
 use Rattle.dsr_ir.specs.declared.updates.Goal.TheVariants as goals
 use Rattle.dsr_ir.specs.declared.updates.Symbol.{Symbol}
 use Rattle.dsr_ir.specs.declared.updates.Template.{Template}
-use Rattle.dsr_listing.specs.Sides.{atom_symbol}
+use Rattle.dsr_graph_theory.specs.Sides.{atom_symbol}
 use Rattle.dsr_meaning.specs.Consistency.{BoundConstraint, IsViolated}
 use Rattle.dsr_meaning.specs.Counting.{IsIn}
 use Rattle.dsr_meaning.specs.Models.{IsFact}
 use Rattle.dsr_meaning.specs.Truth.{LiteralHolds}
-use Rattle.dsr_planning.specs.declared.choices.Choice.{Choice}
-use Rattle.dsr_planning.specs.declared.choices.Row.{Row}
-use Rattle.dsr_repairing.specs.Due.{IsToRepair}
-use Rattle.dsr_updating.specs.Templates.{literal_at}
+use Rattle.dsr_plan_theory.specs.declared.choices.Choice.{Choice}
+use Rattle.dsr_plan_theory.specs.declared.choices.Row.{Row}
+use Rattle.dsr_repair_theory.specs.Due.{IsToRepair}
+use Rattle.dsr_update_theory.specs.Templates.{literal_at}
 use Rattle.dsr_bound_laws.specs.Bounds.{conj_cost, most_literals, total}
 use Rattle.dsr_bound_laws.specs.Remaining.{AreToStop, IsLeft, IsRepairable, cost_of, higher_cost}
 use Rattle.dsr_run_laws.proofs.Again.{no_later, no_later_literal, same_binding, same_constraint, same_literal, same_row, same_template, tests_stay, was_to_repair}

@@ -1,6 +1,6 @@
 -- Fewer instances are active where none becomes so and one isn't any more.
 use Rattle.std.proofs.Common.{◌≡◌, ◌<◌, ◌⊎◌, ℕ, List, ◌∷◌, inl, inr, sym, subst, arith}
-use Rattle.dsr_applying.specs.Choices.{TakesAway}
+use Rattle.dsr_repair_theory.specs.Choices.{TakesAway}
 use Rattle.dsr_ir.specs.declared.constraints.Literal.{Literal}
 use Rattle.dsr_ir.specs.declared.declarations.Spec.{Spec}
 use Rattle.dsr_ir.specs.declared.layouts.Layout.{Layout}
@@ -8,12 +8,12 @@ use Rattle.dsr_ir.specs.declared.updates.Goal.{Goal}
 use Rattle.dsr_ir.specs.declared.updates.Goal.TheVariants as goals
 use Rattle.dsr_ir.specs.declared.updates.Symbol.{Symbol}
 use Rattle.dsr_ir.specs.declared.updates.Template.{Template}
-use Rattle.dsr_listing.specs.Sides.{atom_symbol}
+use Rattle.dsr_graph_theory.specs.Sides.{atom_symbol}
 use Rattle.dsr_meaning.proofs.Counts.{no_more}
 use Rattle.dsr_meaning.specs.Counting.{AreMany, IsIn}
 use Rattle.dsr_meaning.specs.Models.{IsFact}
 use Rattle.dsr_meaning.specs.Truth.{LiteralHolds}
-use Rattle.dsr_stepping.specs.declared.steps.Step.{Step}
+use Rattle.dsr_step_theory.specs.declared.steps.Step.{Step}
 use Rattle.dsr_template_laws.specs.Helping.{HasFewer, Helps, IsActiveFor}
 
 -- the template takes facts away, or may do so

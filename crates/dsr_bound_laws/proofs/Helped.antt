@@ -1,29 +1,29 @@
 -- A step that is due by a plan keeps what is promised of it.
 use Rattle.std.proofs.Common.{◌≡◌, ◌≤◌, ◌<◌, ℕ, zero, suc, List, [], ◌∷◌, length, None, Some, slice_get, refl, sym, subst, ◌∙◌, arith}
 use Rattle.std.proofs.lemmas.Option.{same_Some, slice_get_within}
-use Rattle.dsr_applying.specs.Applications.{FactsHold}
-use Rattle.dsr_breaking.specs.Breaks.{IsFirstReason}
-use Rattle.dsr_breaking.specs.Breaks.IsFirstReason.{first, later, none}
-use Rattle.dsr_breaking.specs.declared.causes.Cause.{Cause}
-use Rattle.dsr_breaking.specs.declared.causes.Reason.{Reason}
+use Rattle.dsr_repair_theory.specs.Applications.{FactsHold}
+use Rattle.dsr_graph_theory.specs.Breaks.{IsFirstReason}
+use Rattle.dsr_graph_theory.specs.Breaks.IsFirstReason.{first, later, none}
+use Rattle.dsr_graph_theory.specs.declared.causes.Cause.{Cause}
+use Rattle.dsr_graph_theory.specs.declared.causes.Reason.{Reason}
 use Rattle.dsr_ir.specs.declared.constraints.Literal.{Literal}
 use Rattle.dsr_ir.specs.declared.declarations.Spec.{Spec}
 use Rattle.dsr_ir.specs.declared.layouts.Layout.{Layout}
 use Rattle.dsr_ir.specs.declared.updates.Template.{Template}
 use Rattle.dsr_meaning.specs.Consistency.{BoundConstraint, IsViolated}
 use Rattle.dsr_meaning.specs.Models.{IsFact}
-use Rattle.dsr_planning.specs.Plans.{IsPlan, IsWayFor, MayRepair, owner_at}
-use Rattle.dsr_planning.specs.declared.choices.Choice.{Choice}
-use Rattle.dsr_planning.specs.declared.choices.Row.{Row}
-use Rattle.dsr_planning.specs.declared.choices.Way.TheVariants.{By}
-use Rattle.dsr_repairing.specs.Due.{IsDue}
-use Rattle.dsr_kept.proofs.Told.{was_stepped}
-use Rattle.dsr_stepping.specs.Images.{IsImageOf}
-use Rattle.dsr_repairing.specs.Runs.{IsDueEntry}
-use Rattle.dsr_repairing.specs.Turns.{bound_by}
-use Rattle.dsr_repairing.specs.declared.entries.Entry.{Entry}
-use Rattle.dsr_stepping.specs.declared.steps.Step.{Step}
-use Rattle.dsr_updating.specs.Templates.{literal_at}
+use Rattle.dsr_plan_theory.specs.Plans.{IsPlan, IsWayFor, MayRepair, owner_at}
+use Rattle.dsr_plan_theory.specs.declared.choices.Choice.{Choice}
+use Rattle.dsr_plan_theory.specs.declared.choices.Row.{Row}
+use Rattle.dsr_plan_theory.specs.declared.choices.Way.TheVariants.{By}
+use Rattle.dsr_repair_theory.specs.Due.{IsDue}
+use Rattle.dsr_repair_laws.proofs.Told.{was_stepped}
+use Rattle.dsr_step_theory.specs.Images.{IsImageOf}
+use Rattle.dsr_repair_theory.specs.Runs.{IsDueEntry}
+use Rattle.dsr_repair_theory.specs.Turns.{bound_by}
+use Rattle.dsr_repair_theory.specs.declared.entries.Entry.{Entry}
+use Rattle.dsr_step_theory.specs.declared.steps.Step.{Step}
+use Rattle.dsr_update_theory.specs.Templates.{literal_at}
 use Rattle.dsr_bound_laws.proofs.Promised.{IsListedApplied, literals_stay, others_stand_by, templates_help}
 use Rattle.dsr_bound_laws.proofs.Falls.{IsHelped}
 

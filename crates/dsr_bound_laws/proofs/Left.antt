@@ -14,8 +14,8 @@ use Rattle.dsr_ir.specs.declared.updates.Template.{Template}
 use Rattle.dsr_meaning.specs.Consistency.{BoundConstraint, IsViolated}
 use Rattle.dsr_meaning.specs.Counting.{IsIn}
 use Rattle.dsr_meaning.specs.Models.{IsFact}
-use Rattle.dsr_planning.specs.declared.choices.Choice.{Choice}
-use Rattle.dsr_planning.specs.declared.choices.Row.{Row}
+use Rattle.dsr_plan_theory.specs.declared.choices.Choice.{Choice}
+use Rattle.dsr_plan_theory.specs.declared.choices.Row.{Row}
 use Rattle.dsr_bound_laws.specs.Bounds.{binding_cost, conj_cost, most_literals, total}
 use Rattle.dsr_bound_laws.specs.Remaining.{AreToStop, IsLeft, IsRepairable, cost_of, higher_cost}
 use Rattle.dsr_bound_laws.proofs.Levels.{FewBindings, LevelBindings, level_bindings, level_cost}

@@ -8,7 +8,7 @@ use Rattle.dsr_ir.specs.declared.tuples.Binding.{Binding}
 use Rattle.dsr_ir.specs.declared.tuples.Fact.{Fact}
 use Rattle.dsr_meaning.specs.Consistency.{BoundConstraint, IsBinding}
 use Rattle.dsr_meaning.specs.Counting.{IsIn}
-use Rattle.dsr_planning.specs.declared.choices.Row.{Row}
+use Rattle.dsr_plan_theory.specs.declared.choices.Row.{Row}
 use Rattle.dsr_bound_laws.specs.Bounds.{binding_cost, constraint_cost, total}
 use Rattle.dsr_bound_laws.specs.Remaining.{higher_cost}
 use Rattle.dsr_meaning.proofs.Items.{in_left, in_right}

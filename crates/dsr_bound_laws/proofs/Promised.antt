@@ -1,8 +1,8 @@
 -- What is promised of an update of a listed template that is applied.
 use Rattle.std.proofs.Common.{◌≡◌, ◌≢◌, ◌⊎◌, ◌∙◌, ℕ, List, None, Some, slice_get, sym, subst}
 use Rattle.std.proofs.lemmas.Option.{same_Some}
-use Rattle.dsr_applying.specs.Applications.{IsApplied}
-use Rattle.dsr_breaking.specs.Breaks.{Breaks, Falsifies}
+use Rattle.dsr_repair_theory.specs.Applications.{IsApplied}
+use Rattle.dsr_graph_theory.specs.Breaks.{Breaks, Falsifies}
 use Rattle.dsr_graph_laws.proofs.Breaking.{was_violated}
 use Rattle.dsr_graph_laws.proofs.Falsifying.{others_stay_true}
 use Rattle.dsr_ir.specs.declared.constraints.Constraint.{Constraint}
@@ -12,17 +12,17 @@ use Rattle.dsr_ir.specs.declared.layouts.Layout.{Layout}
 use Rattle.dsr_ir.specs.declared.tuples.Binding.{Binding}
 use Rattle.dsr_ir.specs.declared.updates.Template.{Template}
 use Rattle.dsr_ir.specs.declared.updates.Update.{Update}
-use Rattle.dsr_listing.specs.Sides.{atom_symbol}
+use Rattle.dsr_graph_theory.specs.Sides.{atom_symbol}
 use Rattle.dsr_meaning.specs.Consistency.{IsViolated}
 use Rattle.dsr_meaning.specs.Models.{IsFact}
 use Rattle.dsr_meaning.specs.Truth.{LiteralHolds}
-use Rattle.dsr_planning.specs.Plans.{IsListedAt, owner_at}
-use Rattle.dsr_stepping.specs.declared.steps.Step.{Step}
+use Rattle.dsr_plan_theory.specs.Plans.{IsListedAt, owner_at}
+use Rattle.dsr_step_theory.specs.declared.steps.Step.{Step}
 use Rattle.dsr_template_laws.proofs.Helped.{listed_helped}
 use Rattle.dsr_template_laws.proofs.ListedTemplates.{listed_tried}
 use Rattle.dsr_template_laws.specs.Helping.{Helps}
 use Rattle.dsr_template_laws.specs.Judging.{Application, IsListed}
-use Rattle.dsr_updating.specs.Templates.{literal_at}
+use Rattle.dsr_update_theory.specs.Templates.{literal_at}
 use Rattle.dsr_bound_laws.proofs.Fewer.{StopsSome, in_counts}
 
 -- an update of a template that is listed for the constraint's literal is applied

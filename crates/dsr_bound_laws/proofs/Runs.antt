@@ -3,13 +3,13 @@ use Rattle.std.proofs.Common.{◌≡◌, ◌≤◌, ◌+◌, ℕ, List, [], ◌�
 use Rattle.std.proofs.lemmas.List.{length-append}
 use Rattle.dsr_ir.specs.declared.declarations.Spec.{Spec}
 use Rattle.dsr_ir.specs.declared.layouts.Layout.{Layout}
-use Rattle.dsr_planning.specs.Plans.{IsPlan}
-use Rattle.dsr_planning.specs.declared.choices.Choice.{Choice}
-use Rattle.dsr_repairing.specs.Runs.{IsDueEntry, IsPartRun}
-use Rattle.dsr_repairing.specs.Runs.IsPartRun.{begins, goes_on}
-use Rattle.dsr_repairing.specs.declared.entries.Entry.{Entry}
+use Rattle.dsr_plan_theory.specs.Plans.{IsPlan}
+use Rattle.dsr_plan_theory.specs.declared.choices.Choice.{Choice}
+use Rattle.dsr_repair_theory.specs.Runs.{IsDueEntry, IsPartRun}
+use Rattle.dsr_repair_theory.specs.Runs.IsPartRun.{begins, goes_on}
+use Rattle.dsr_repair_theory.specs.declared.entries.Entry.{Entry}
 use Rattle.dsr_run_laws.proofs.RunOnce.{run_keeps, step_keeps}
-use Rattle.dsr_stepping.specs.Images.{IsImageOf}
+use Rattle.dsr_step_theory.specs.Images.{IsImageOf}
 use Rattle.dsr_bound_laws.specs.Bounds.{bound}
 use Rattle.dsr_bound_laws.specs.Remaining.{IsRemaining}
 use Rattle.dsr_bound_laws.proofs.There.{remaining_there}

@@ -8,13 +8,13 @@ use Rattle.dsr_ir.specs.declared.updates.Goal.{Goal}
 use Rattle.dsr_ir.specs.declared.updates.Goal.TheVariants as goals
 use Rattle.dsr_ir.specs.declared.updates.Symbol.{Symbol}
 use Rattle.dsr_ir.specs.declared.updates.Template.{Template}
-use Rattle.dsr_listing.specs.Sides.{atom_symbol}
+use Rattle.dsr_graph_theory.specs.Sides.{atom_symbol}
 use Rattle.dsr_meaning.proofs.Counts.{many_once}
 use Rattle.dsr_meaning.specs.Consistency.{BoundConstraint}
 use Rattle.dsr_meaning.specs.Models.{IsFact}
-use Rattle.dsr_planning.specs.declared.choices.Choice.{Choice}
-use Rattle.dsr_planning.specs.declared.choices.Row.{Row}
-use Rattle.dsr_repairing.specs.Due.{IsDueBinding, IsDueConj, IsDueLiteral}
+use Rattle.dsr_plan_theory.specs.declared.choices.Choice.{Choice}
+use Rattle.dsr_plan_theory.specs.declared.choices.Row.{Row}
+use Rattle.dsr_repair_theory.specs.Due.{IsDueBinding, IsDueConj, IsDueLiteral}
 use Rattle.dsr_bound_laws.specs.Bounds.{instances_and_one}
 use Rattle.dsr_template_laws.specs.Helping.{IsActiveFor}
 use Rattle.dsr_bound_laws.specs.Remaining.{AreToStop, IsLeft, IsRemaining, IsRepairable, cost_of}

@@ -3,14 +3,14 @@ use Rattle.std.proofs.Common.{◌≡◌, ◌≢◌, ◌≤◌, ◌<◌, ◌+◌,
 use Rattle.std.specs.Option.{option_and_then, option_map_or}
 use Rattle.std.proofs.lemmas.Bool.{cases_lt, false≢true}
 use Rattle.std.proofs.lemmas.Option.{same_Some, slice_get-get_or, slice_get_within}
-use Rattle.dsr_decided.specs.Deciding.{IsDecided}
-use Rattle.dsr_decided.proofs.Active.{active_decided}
-use Rattle.dsr_decided.proofs.Instances.{elements}
-use Rattle.dsr_decided.proofs.Listed.{IsListed, alike, below, each, every, known, many, numbers, one, opposite, some_one, those}
-use Rattle.dsr_decided.proofs.Models.{facts_listed}
-use Rattle.dsr_decided.proofs.Truths.{literal_decided}
-use Rattle.dsr_decided.proofs.Violations.{in_order}
-use Rattle.dsr_decided.proofs.Ways.{AreCompared, both, by_logic}
+use Rattle.dsr_model_laws.specs.Deciding.{IsDecided}
+use Rattle.dsr_model_laws.proofs.Active.{active_decided}
+use Rattle.dsr_model_laws.proofs.Instances.{elements}
+use Rattle.dsr_model_laws.proofs.Listed.{IsListed, alike, below, each, every, known, many, numbers, one, opposite, some_one, those}
+use Rattle.dsr_model_laws.proofs.Models.{facts_listed}
+use Rattle.dsr_model_laws.proofs.Truths.{literal_decided}
+use Rattle.dsr_model_laws.proofs.Violations.{in_order}
+use Rattle.dsr_model_laws.proofs.Ways.{AreCompared, both, by_logic}
 use Rattle.dsr_ir.specs.Rules.{gives}
 use Rattle.dsr_ir.specs.declared.constraints.Atom.{Atom}
 use Rattle.dsr_ir.specs.declared.constraints.Conj.{Conj}
@@ -28,20 +28,20 @@ use Rattle.dsr_ir.specs.declared.updates.Goal.{Goal}
 use Rattle.dsr_ir.specs.declared.updates.Goal.TheVariants as goals
 use Rattle.dsr_ir.specs.declared.updates.Symbol.{Symbol}
 use Rattle.dsr_layout.proofs.Meanings.{found_holds}
-use Rattle.dsr_listing.specs.Sides.{atom_symbol}
+use Rattle.dsr_graph_theory.specs.Sides.{atom_symbol}
 use Rattle.dsr_meaning.specs.Consistency.{AreInOrder, AreViolations, BoundConstraint, Comes, ConjHolds, IsViolated}
 use Rattle.dsr_meaning.specs.Counting.{AreMany, IsIn}
 use Rattle.dsr_meaning.specs.Models.{IsFact}
 use Rattle.dsr_meaning.specs.Orders.{BindingPrecedes, Precedes}
 use Rattle.dsr_meaning.specs.Truth.{LiteralHolds}
-use Rattle.dsr_planning.specs.Plans.{IsPlan, IsRowOf, IsTested, Truth, comes_out, way_at}
-use Rattle.dsr_planning.specs.declared.choices.Choice.{Choice}
-use Rattle.dsr_planning.specs.declared.choices.Row.{Row}
-use Rattle.dsr_planning.specs.declared.choices.Way.{Way}
-use Rattle.dsr_planning.specs.declared.choices.Way.TheVariants.{Test, By}
-use Rattle.dsr_repairing.specs.Due.{IsDueBinding, IsDueConj, TestsHold}
-use Rattle.dsr_stepping.specs.Images.{IsImageOf}
-use Rattle.dsr_updating.specs.Templates.{literal_at}
+use Rattle.dsr_plan_theory.specs.Plans.{IsPlan, IsRowOf, IsTested, Truth, comes_out, way_at}
+use Rattle.dsr_plan_theory.specs.declared.choices.Choice.{Choice}
+use Rattle.dsr_plan_theory.specs.declared.choices.Row.{Row}
+use Rattle.dsr_plan_theory.specs.declared.choices.Way.{Way}
+use Rattle.dsr_plan_theory.specs.declared.choices.Way.TheVariants.{Test, By}
+use Rattle.dsr_repair_theory.specs.Due.{IsDueBinding, IsDueConj, TestsHold}
+use Rattle.dsr_step_theory.specs.Images.{IsImageOf}
+use Rattle.dsr_update_theory.specs.Templates.{literal_at}
 use Rattle.dsr_bound_laws.specs.Bounds.{conj_cost, instances_and_one, most_literals, total}
 use Rattle.dsr_template_laws.specs.Helping.{IsActiveFor}
 use Rattle.dsr_bound_laws.specs.Remaining.{AreToStop, IsOther, IsRemaining, IsRepairable, cost_of, higher_cost}

@@ -8,13 +8,13 @@ use Rattle.dsr_layout.proofs.LegalLayout.{built}
 use Rattle.dsr_meaning.specs.Consistency.{BoundConstraint, IsViolated}
 use Rattle.dsr_meaning.specs.FixedFields.{fixed_value}
 use Rattle.dsr_meaning.specs.Models.{IsFact}
-use Rattle.dsr_planning.specs.Plans.{IsPlan}
-use Rattle.dsr_planning.specs.declared.choices.Choice.{Choice}
-use Rattle.dsr_planning.specs.declared.choices.Row.{Row}
-use Rattle.dsr_stepping.specs.Images.{IsImageOf}
-use Rattle.dsr_repairing.specs.Runs.{IsDueEntry}
-use Rattle.dsr_repairing.specs.Turns.{bound_by}
-use Rattle.dsr_repairing.specs.declared.entries.Entry.{Entry}
+use Rattle.dsr_plan_theory.specs.Plans.{IsPlan}
+use Rattle.dsr_plan_theory.specs.declared.choices.Choice.{Choice}
+use Rattle.dsr_plan_theory.specs.declared.choices.Row.{Row}
+use Rattle.dsr_step_theory.specs.Images.{IsImageOf}
+use Rattle.dsr_repair_theory.specs.Runs.{IsDueEntry}
+use Rattle.dsr_repair_theory.specs.Turns.{bound_by}
+use Rattle.dsr_repair_theory.specs.declared.entries.Entry.{Entry}
 use Rattle.dsr_bound_laws.specs.Bounds.{bound, instances_and_one}
 use Rattle.dsr_bound_laws.specs.Remaining.{IsLeft, IsRemaining}
 use Rattle.dsr_bound_laws.specs.Remaining.IsRemaining.{left, nothing}

@@ -12,13 +12,13 @@ use Rattle.dsr_ir.specs.declared.updates.Goal.{Goal}
 use Rattle.dsr_ir.specs.declared.updates.Goal.TheVariants as goals
 use Rattle.dsr_ir.specs.declared.updates.Symbol.{Symbol}
 use Rattle.dsr_ir.specs.declared.updates.Template.{Template}
-use Rattle.dsr_listing.specs.Sides.{atom_symbol}
+use Rattle.dsr_graph_theory.specs.Sides.{atom_symbol}
 use Rattle.dsr_meaning.specs.Consistency.{BoundConstraint, IsConsistent, IsViolated}
 use Rattle.dsr_meaning.specs.Counting.{AreMany, Enumerates}
 use Rattle.dsr_meaning.specs.Models.{IsFact}
-use Rattle.dsr_planning.specs.declared.choices.Choice.{Choice}
-use Rattle.dsr_planning.specs.declared.choices.Row.{Row}
-use Rattle.dsr_repairing.specs.Due.{IsDueBinding, IsDueConj, IsDueLiteral, IsToRepair}
+use Rattle.dsr_plan_theory.specs.declared.choices.Choice.{Choice}
+use Rattle.dsr_plan_theory.specs.declared.choices.Row.{Row}
+use Rattle.dsr_repair_theory.specs.Due.{IsDueBinding, IsDueConj, IsDueLiteral, IsToRepair}
 use Rattle.dsr_bound_laws.specs.Bounds.{binding_cost, conj_cost, constraint_cost, instances_and_one, total}
 
 -- ---- what a template takes away

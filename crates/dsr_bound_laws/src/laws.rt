@@ -4,15 +4,15 @@ ghost use Rattle.dsr_ir.specs.declared.declarations.Spec.{Spec};
 ghost use Rattle.dsr_ir.specs.declared.layouts.Layout.{Layout};
 ghost use Rattle.dsr_meaning.specs.Consistency.{BoundConstraint, IsViolated};
 ghost use Rattle.dsr_meaning.specs.Models.{IsFact};
-ghost use Rattle.dsr_planning.specs.Plans.{IsPlan};
-ghost use Rattle.dsr_planning.specs.declared.choices.Choice.{Choice};
-ghost use Rattle.dsr_planning.specs.declared.choices.Row.{Row};
+ghost use Rattle.dsr_plan_theory.specs.Plans.{IsPlan};
+ghost use Rattle.dsr_plan_theory.specs.declared.choices.Choice.{Choice};
+ghost use Rattle.dsr_plan_theory.specs.declared.choices.Row.{Row};
 ghost use Rattle.dsr_bound_laws.specs.Bounds.{bound};
 ghost use Rattle.dsr_bound_laws.specs.Remaining.{IsRemaining};
-ghost use Rattle.dsr_stepping.specs.Images.{IsImageOf};
-ghost use Rattle.dsr_repairing.specs.Runs.{IsDueEntry, IsPartRun};
-ghost use Rattle.dsr_repairing.specs.Turns.{bound_by};
-ghost use Rattle.dsr_repairing.specs.declared.entries.Entry.{Entry};
+ghost use Rattle.dsr_step_theory.specs.Images.{IsImageOf};
+ghost use Rattle.dsr_repair_theory.specs.Runs.{IsDueEntry, IsPartRun};
+ghost use Rattle.dsr_repair_theory.specs.Turns.{bound_by};
+ghost use Rattle.dsr_repair_theory.specs.declared.entries.Entry.{Entry};
 
 /// What remains is one number.
 pub fn remaining_is_a_number()

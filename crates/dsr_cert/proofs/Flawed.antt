@@ -3,9 +3,9 @@ use Rattle.std.proofs.Common.{◌≡◌, ◌⊎◌, ℕ, inl, inr, true, false, 
 use Rattle.std.proofs.lemmas.Bool.{false≢true}
 use Rattle.dsr_cert.specs.Flaws.{Uncovered, Unlisted, Falsifying, Breaking, Relying, HasNoFlaw, HasWay}
 use Rattle.dsr_ir.specs.declared.declarations.Spec.{Spec}
-use Rattle.dsr_planning.specs.Plans.{IsListedAt, IsPlan, IsWayFor, MayRepair, owner_at}
-use Rattle.dsr_planning.specs.declared.choices.Choice.{Choice}
-use Rattle.dsr_planning.specs.declared.choices.Way.TheVariants.{By}
+use Rattle.dsr_plan_theory.specs.Plans.{IsListedAt, IsPlan, IsWayFor, MayRepair, owner_at}
+use Rattle.dsr_plan_theory.specs.declared.choices.Choice.{Choice}
+use Rattle.dsr_plan_theory.specs.declared.choices.Way.TheVariants.{By}
 
 module _ (spec : Spec) (choice : Choice) (plan : IsPlan spec choice) where
   may_repair : (n conj literal : ℕ) (way : HasWay spec choice n conj literal) → MayRepair (owner_at spec n way.constraint) conj literal way.its way.number way.template

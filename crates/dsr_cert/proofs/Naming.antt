@@ -17,14 +17,14 @@ use Rattle.dsr_ir.specs.declared.updates.Template.{Template}
 use Rattle.dsr_cert.proofs.Taken.{found_there}
 use Rattle.dsr_graph.specs.Graphs.{IsOwnerIn, ways_of}
 use Rattle.dsr_graph.specs.declared.graphs.Graph.{Graph}
-use Rattle.dsr_listing.specs.Owners.{Owner}
-use Rattle.dsr_placing.proofs.Counted.{few_ways}
-use Rattle.dsr_sides.proofs.Standing.{place_below}
+use Rattle.dsr_graph_theory.specs.Owners.{Owner}
+use Rattle.dsr_placement.proofs.Counted.{few_ways}
+use Rattle.dsr_compensate.proofs.Standing.{place_below}
 use Rattle.std.proofs.lemmas.Fmt.{decimal_injective}
-use Rattle.dsr_planning.specs.Plans.{IsListedAt, owner_at}
-use Rattle.dsr_planning.specs.declared.choices.Way.{Way}
-use Rattle.dsr_planning.specs.declared.choices.Way.TheVariants.{Test, By}
-use Rattle.dsr_updating.specs.Templates.{literal_at}
+use Rattle.dsr_plan_theory.specs.Plans.{IsListedAt, owner_at}
+use Rattle.dsr_plan_theory.specs.declared.choices.Way.{Way}
+use Rattle.dsr_plan_theory.specs.declared.choices.Way.TheVariants.{Test, By}
+use Rattle.dsr_update_theory.specs.Templates.{literal_at}
 
 pub test_numbers : (digits : List ℕ) → codes "test" ≡ numbered digits → ⊥
 test_numbers digits e = let clash : 116 ≡ 119 = ap (λ xs. get_or xs 0 0) e in absurd (omega (arith, clash))

@@ -6,8 +6,8 @@ use Rattle.dsr_cert.proofs.Joined.{long, part_joined, stands_back, stands_front}
 use Rattle.dsr_cert.specs.Certificates.{certificate_lines, ended, first_line, last_line, rows_lines}
 use Rattle.dsr_cert.specs.declared.faults.CertFault.TheVariants as faults
 use Rattle.dsr_graph.proofs.Paired.{item_beyond, item_there}
-use Rattle.dsr_sides.proofs.Standing.{item_got, place_below}
-use Rattle.dsr_planning.specs.declared.choices.Row.{Row}
+use Rattle.dsr_compensate.proofs.Standing.{item_got, place_below}
+use Rattle.dsr_plan_theory.specs.declared.choices.Row.{Row}
 use Rattle.std.proofs.lemmas.Bool.Decides.{nat_tests}
 use Rattle.dsr_cert.specs.Forms.{Form, Heading, Ending, IsWrongIn, OfLiteral, beyond, constraints_forms, forms, malformed, no_template}
 use Rattle.dsr_cert.specs.declared.faults.CertFault.{CertFault}
@@ -18,7 +18,7 @@ use Rattle.dsr_ir.specs.declared.constraints.Conj.{Conj}
 use Rattle.dsr_ir.specs.declared.constraints.Literal.{Literal}
 use Rattle.dsr_ir.specs.declared.declarations.Spec.{Spec}
 use Rattle.dsr_meaning.specs.Lists.{each_at}
-use Rattle.dsr_updating.specs.Templates.{literal_at}
+use Rattle.dsr_update_theory.specs.Templates.{literal_at}
 
 module _ {S T : Type 0} (f : ℕ → S → List T) where
   -- what an item gives stands behind what those before it give

@@ -10,10 +10,10 @@ use Rattle.dsr_ir.specs.declared.constraints.Literal.{Literal}
 use Rattle.dsr_ir.specs.declared.declarations.Spec.{Spec}
 use Rattle.dsr_meaning.proofs.Firing.{found_fits}
 use Rattle.dsr_meaning.specs.Typed.{IsTyped, IsTypedConj, IsTypedConstraint, constraint_limit}
-use Rattle.dsr_placing.proofs.Marks.{parts_of}
-use Rattle.dsr_planning.specs.declared.choices.Choice.{Choice}
-use Rattle.dsr_sides.proofs.Standing.{place_below}
-use Rattle.dsr_updating.specs.Templates.{literal_at}
+use Rattle.dsr_placement.proofs.Marks.{parts_of}
+use Rattle.dsr_plan_theory.specs.declared.choices.Choice.{Choice}
+use Rattle.dsr_compensate.proofs.Standing.{place_below}
+use Rattle.dsr_update_theory.specs.Templates.{literal_at}
 
 pub limit : (version : ℕ) → constraint_limit version ≤ 128
 limit version = elim (nat_eq version 2) as (λ t. (if t then 128 else 64) ≤ 128) [ true ↦ omega arith | false ↦ omega arith ]

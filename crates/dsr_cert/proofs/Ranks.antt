@@ -6,7 +6,7 @@ use Rattle.dsr_cert.specs.Searches.{BeginsWith, IsFirstUnder, IsFlawUnder, NoneU
 use Rattle.dsr_cert.specs.declared.faults.CertFault.{CertFault}
 use Rattle.dsr_cert.specs.declared.faults.CertFault.TheVariants as faults
 use Rattle.dsr_ir.specs.declared.declarations.Spec.{Spec}
-use Rattle.dsr_planning.specs.declared.choices.Choice.{Choice}
+use Rattle.dsr_plan_theory.specs.declared.choices.Choice.{Choice}
 
 -- ---- lists of numbers
 

@@ -13,17 +13,17 @@ use Rattle.dsr_ir.specs.declared.constraints.Constraint.{Constraint}
 use Rattle.dsr_ir.specs.declared.constraints.Literal.{Literal}
 use Rattle.dsr_ir.specs.declared.declarations.Spec.{Spec}
 use Rattle.dsr_ir.specs.declared.updates.Template.{Template}
-use Rattle.dsr_listing.proofs.FirstKept.{few_listed}
-use Rattle.dsr_listing.proofs.Unique.{listed_one}
-use Rattle.dsr_listing.specs.Owners.{Owner}
+use Rattle.dsr_graph_theory.proofs.FirstKept.{few_listed}
+use Rattle.dsr_plan_laws.proofs.Unique.{listed_one}
+use Rattle.dsr_graph_theory.specs.Owners.{Owner}
 use Rattle.dsr_meaning.specs.Lists.{each_at}
-use Rattle.dsr_planning.specs.Plans.{IsListedAt, owner_at, way_at}
-use Rattle.dsr_planning.specs.declared.choices.Choice.{Choice}
-use Rattle.dsr_planning.specs.declared.choices.Row.{Row}
-use Rattle.dsr_planning.specs.declared.choices.Way.{Way}
-use Rattle.dsr_planning.specs.declared.choices.Way.TheVariants.{Test, By}
-use Rattle.dsr_sides.proofs.Standing.{place_below}
-use Rattle.dsr_updating.specs.Templates.{literal_at}
+use Rattle.dsr_plan_theory.specs.Plans.{IsListedAt, owner_at, way_at}
+use Rattle.dsr_plan_theory.specs.declared.choices.Choice.{Choice}
+use Rattle.dsr_plan_theory.specs.declared.choices.Row.{Row}
+use Rattle.dsr_plan_theory.specs.declared.choices.Way.{Way}
+use Rattle.dsr_plan_theory.specs.declared.choices.Way.TheVariants.{Test, By}
+use Rattle.dsr_compensate.proofs.Standing.{place_below}
+use Rattle.dsr_update_theory.specs.Templates.{literal_at}
 
 -- ---- lists that are made part by part
 

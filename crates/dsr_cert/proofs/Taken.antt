@@ -3,7 +3,7 @@ use Rattle.std.proofs.Common.{◌≡◌, ◌≤◌, ◌<◌, ◌-◌, ◌⊎◌,
 use Rattle.std.specs.Prelude.{Decides, nat_le, ◌||◌, not, is_some, option_and_then}
 use Rattle.std.proofs.lemmas.Bool.{false≢true}
 use Rattle.std.proofs.lemmas.Bool.Decides.{nat_tests}
-use Rattle.dsr_breaking.specs.Breaks.{Breaks, Falsifies, Relies}
+use Rattle.dsr_graph_theory.specs.Breaks.{Breaks, Falsifies, Relies}
 use Rattle.dsr_cert.specs.Flaws.{Unlisted, HasWay, IsBreaking, IsFalsifying, IsRelying, IsUnlisted}
 use Rattle.dsr_cert.specs.Searches.{IsNotAbove, IsTakenFor, NoneUnder, literal_in, way_in}
 use Rattle.dsr_cert.specs.Certificates.{Fits, FitsRow, IsNamed}
@@ -12,18 +12,18 @@ use Rattle.dsr_graph.proofs.Found.{ways_listed, ways_only}
 use Rattle.dsr_graph.proofs.Paired.{paired_back}
 use Rattle.dsr_graph.specs.Graphs.{IsGraphOf, IsOwnerIn, IsWayOf, ways_of}
 use Rattle.dsr_graph.specs.declared.graphs.Graph.{Graph}
-use Rattle.dsr_breaking.specs.declared.causes.Reason.{Reason}
+use Rattle.dsr_graph_theory.specs.declared.causes.Reason.{Reason}
 use Rattle.dsr_ir.specs.declared.constraints.Constraint.{Constraint}
 use Rattle.dsr_ir.specs.declared.constraints.Literal.{Literal}
 use Rattle.dsr_ir.specs.declared.declarations.Spec.{Spec}
 use Rattle.dsr_ir.specs.contracts.updates.TemplatePartialEq.TheImpl as equality
 use Rattle.dsr_ir.specs.declared.updates.Template.{Template}
-use Rattle.dsr_listing.specs.Owners.{Owner}
-use Rattle.dsr_planning.specs.Plans.{IsListedAt, owner_at, way_at}
-use Rattle.dsr_planning.specs.declared.choices.Choice.{Choice}
-use Rattle.dsr_planning.specs.declared.choices.Way.TheVariants.{By}
-use Rattle.dsr_placing.proofs.Once.{breaks_if}
-use Rattle.dsr_updating.specs.Templates.{literal_at}
+use Rattle.dsr_graph_theory.specs.Owners.{Owner}
+use Rattle.dsr_plan_theory.specs.Plans.{IsListedAt, owner_at, way_at}
+use Rattle.dsr_plan_theory.specs.declared.choices.Choice.{Choice}
+use Rattle.dsr_plan_theory.specs.declared.choices.Way.TheVariants.{By}
+use Rattle.dsr_placement.proofs.Once.{breaks_if}
+use Rattle.dsr_update_theory.specs.Templates.{literal_at}
 
 one_item : {T : Type 0} (o : Option T) (a b : T) → o ≡ Some a → o ≡ Some b → a ≡ b
 one_item o a b is too = let both = sym is ∙ too in cc

@@ -3,16 +3,16 @@ use Rattle.std.proofs.Common.{◌≡◌, ◌↔◌, ◌<◌, ◌+◌, ◌++◌, 
 use Rattle.std.specs.Prelude.{Decides, not, option_and_then}
 use Rattle.std.proofs.lemmas.Bool.{false≢true}
 use Rattle.std.proofs.lemmas.List.{map-append, take_more}
-use Rattle.dsr_covering.specs.Atoms as marked
+use Rattle.dsr_placement.specs.Atoms as marked
 use Rattle.dsr_cert.specs.Flaws.{IsUncovered}
 use Rattle.dsr_cert.specs.Searches.{is_test, marks_of}
 use Rattle.dsr_ir.specs.declared.constraints.Constraint.{Constraint}
 use Rattle.dsr_ir.specs.declared.declarations.Spec.{Spec}
-use Rattle.dsr_planning.specs.Plans.{Covers, IsRowOf, IsTested}
-use Rattle.dsr_planning.specs.declared.choices.Choice.{Choice}
-use Rattle.dsr_planning.specs.declared.choices.Row.{Row}
-use Rattle.dsr_planning.specs.declared.choices.Way.{Way}
-use Rattle.dsr_planning.specs.declared.choices.Way.TheVariants.{Test, By}
+use Rattle.dsr_plan_theory.specs.Plans.{Covers, IsRowOf, IsTested}
+use Rattle.dsr_plan_theory.specs.declared.choices.Choice.{Choice}
+use Rattle.dsr_plan_theory.specs.declared.choices.Row.{Row}
+use Rattle.dsr_plan_theory.specs.declared.choices.Way.{Way}
+use Rattle.dsr_plan_theory.specs.declared.choices.Way.TheVariants.{Test, By}
 
 mark_in : (ways : List Way) (n : ℕ) → IsTrue (slice_index_or (map is_test ways) n false) ↔ (slice_get ways n ≡ Some Test)
 mark_in [] n = (λ e. absurd (false≢true e), λ e. absurd cc)

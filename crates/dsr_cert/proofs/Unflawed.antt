@@ -2,7 +2,7 @@
 use Rattle.std.proofs.Common.{◌≡◌, ◌≤◌, ◌<◌, ◌-◌, ℕ, zero, suc, true, false, nat_lt, List, [], ◌∷◌, Option, None, Some, length, slice_get, refl, sym, ap, ◌∙◌, arith}
 use Rattle.std.specs.Prelude.{option_and_then}
 use Rattle.std.proofs.lemmas.Bool.Decides.{nat_tests}
-use Rattle.dsr_breaking.specs.Breaks.{Falsifies}
+use Rattle.dsr_graph_theory.specs.Breaks.{Falsifies}
 use Rattle.dsr_cert.proofs.Stable.{covers_stable}
 use Rattle.dsr_cert.proofs.Taken.{listed_way, way_of}
 use Rattle.dsr_cert.specs.Certificates.{Fits, FitsRow}
@@ -17,13 +17,13 @@ use Rattle.dsr_ir.specs.declared.constraints.Constraint.{Constraint}
 use Rattle.dsr_ir.specs.declared.constraints.Literal.{Literal}
 use Rattle.dsr_ir.specs.declared.declarations.Spec.{Spec}
 use Rattle.dsr_ir.specs.declared.updates.Template.{Template}
-use Rattle.dsr_placing.proofs.Marks.{parts_of}
-use Rattle.dsr_planning.specs.Plans.{AreWaysFor, IsPlan, IsRowOf, IsWayFor, MayRepair, owner_at, way_at}
-use Rattle.dsr_planning.specs.declared.choices.Choice.{Choice}
-use Rattle.dsr_planning.specs.declared.choices.Row.{Row}
-use Rattle.dsr_planning.specs.declared.choices.Way.{Way}
-use Rattle.dsr_planning.specs.declared.choices.Way.TheVariants.{Test, By}
-use Rattle.dsr_updating.specs.Templates.{literal_at}
+use Rattle.dsr_placement.proofs.Marks.{parts_of}
+use Rattle.dsr_plan_theory.specs.Plans.{AreWaysFor, IsPlan, IsRowOf, IsWayFor, MayRepair, owner_at, way_at}
+use Rattle.dsr_plan_theory.specs.declared.choices.Choice.{Choice}
+use Rattle.dsr_plan_theory.specs.declared.choices.Row.{Row}
+use Rattle.dsr_plan_theory.specs.declared.choices.Way.{Way}
+use Rattle.dsr_plan_theory.specs.declared.choices.Way.TheVariants.{Test, By}
+use Rattle.dsr_update_theory.specs.Templates.{literal_at}
 
 -- ---- a row that fits
 

@@ -16,10 +16,10 @@ use Rattle.dsr_cert.specs.declared.faults.CertFault.TheVariants as faults
 use Rattle.dsr_graph.proofs.Paired.{paired_back, paired_got, paired_weaker}
 use Rattle.dsr_ir.specs.declared.constraints.Constraint.{Constraint}
 use Rattle.dsr_ir.specs.declared.declarations.Spec.{Spec}
-use Rattle.dsr_placing.proofs.Marks.{parts_of}
-use Rattle.dsr_planning.specs.Plans.{IsRowOf, owner_at}
-use Rattle.dsr_planning.specs.declared.choices.Choice.{Choice}
-use Rattle.dsr_planning.specs.declared.choices.Row.{Row}
+use Rattle.dsr_placement.proofs.Marks.{parts_of}
+use Rattle.dsr_plan_theory.specs.Plans.{IsRowOf, owner_at}
+use Rattle.dsr_plan_theory.specs.declared.choices.Choice.{Choice}
+use Rattle.dsr_plan_theory.specs.declared.choices.Row.{Row}
 
 -- ---- the lines make up the text
 

@@ -8,14 +8,14 @@ use Rattle.dsr_ir.specs.declared.constraints.Constraint.{Constraint}
 use Rattle.dsr_ir.specs.declared.constraints.Literal.{Literal}
 use Rattle.dsr_ir.specs.declared.declarations.Spec.{Spec}
 use Rattle.dsr_ir.specs.declared.updates.Template.{Template}
-use Rattle.dsr_listing.specs.Owners.{Owner}
+use Rattle.dsr_graph_theory.specs.Owners.{Owner}
 use Rattle.dsr_meaning.specs.Lists.{each_at}
-use Rattle.dsr_planning.specs.Plans.{IsListedAt, IsRowOf, owner_at, way_at}
-use Rattle.dsr_planning.specs.declared.choices.Choice.{Choice}
-use Rattle.dsr_planning.specs.declared.choices.Row.{Row}
-use Rattle.dsr_planning.specs.declared.choices.Way.{Way}
-use Rattle.dsr_planning.specs.declared.choices.Way.TheVariants.{Test, By}
-use Rattle.dsr_updating.specs.Templates.{literal_at}
+use Rattle.dsr_plan_theory.specs.Plans.{IsListedAt, IsRowOf, owner_at, way_at}
+use Rattle.dsr_plan_theory.specs.declared.choices.Choice.{Choice}
+use Rattle.dsr_plan_theory.specs.declared.choices.Row.{Row}
+use Rattle.dsr_plan_theory.specs.declared.choices.Way.{Way}
+use Rattle.dsr_plan_theory.specs.declared.choices.Way.TheVariants.{Test, By}
+use Rattle.dsr_update_theory.specs.Templates.{literal_at}
 
 -- ---- lines
 

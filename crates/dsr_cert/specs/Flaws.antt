@@ -1,7 +1,7 @@
 -- What keeps a choice from being a plan, and the first such flaw.
 use Rattle.std.specs.Prelude.{◌≡◌, ◌⊎◌, ◌<◌, ℕ, true, List, [], ◌∷◌, Some}
-use Rattle.dsr_breaking.specs.Breaks.{Breaks, Falsifies, Relies}
-use Rattle.dsr_breaking.specs.declared.causes.Reason.{Reason}
+use Rattle.dsr_graph_theory.specs.Breaks.{Breaks, Falsifies, Relies}
+use Rattle.dsr_graph_theory.specs.declared.causes.Reason.{Reason}
 use Rattle.dsr_cert.specs.declared.faults.CertFault.{CertFault}
 use Rattle.dsr_cert.specs.declared.faults.CertFault.TheVariants.{Coverage, NotATemplate, Edge, Reliance, NoMemory}
 use Rattle.dsr_cert.specs.declared.faults.CertFault.TheVariants as faults
@@ -9,11 +9,11 @@ use Rattle.dsr_ir.specs.declared.constraints.Constraint.{Constraint}
 use Rattle.dsr_ir.specs.declared.constraints.Literal.{Literal}
 use Rattle.dsr_ir.specs.declared.declarations.Spec.{Spec}
 use Rattle.dsr_ir.specs.declared.updates.Template.{Template}
-use Rattle.dsr_planning.specs.Plans.{Covers, IsListedAt, IsRowOf, IsTested, owner_at, way_at}
-use Rattle.dsr_planning.specs.declared.choices.Choice.{Choice}
-use Rattle.dsr_planning.specs.declared.choices.Row.{Row}
-use Rattle.dsr_planning.specs.declared.choices.Way.TheVariants.{By}
-use Rattle.dsr_updating.specs.Templates.{literal_at}
+use Rattle.dsr_plan_theory.specs.Plans.{Covers, IsListedAt, IsRowOf, IsTested, owner_at, way_at}
+use Rattle.dsr_plan_theory.specs.declared.choices.Choice.{Choice}
+use Rattle.dsr_plan_theory.specs.declared.choices.Row.{Row}
+use Rattle.dsr_plan_theory.specs.declared.choices.Way.TheVariants.{By}
+use Rattle.dsr_update_theory.specs.Templates.{literal_at}
 
 -- of a constraint, of the template of one of its literals, of such a template and another
 -- constraint, or of two constraints

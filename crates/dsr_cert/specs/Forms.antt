@@ -9,10 +9,10 @@ use Rattle.dsr_ir.specs.declared.constraints.Constraint.{Constraint}
 use Rattle.dsr_ir.specs.declared.constraints.Literal.{Literal}
 use Rattle.dsr_ir.specs.declared.declarations.Spec.{Spec}
 use Rattle.dsr_ir.specs.declared.updates.Template.{Template}
-use Rattle.dsr_listing.specs.Owners.{Owner}
+use Rattle.dsr_graph_theory.specs.Owners.{Owner}
 use Rattle.dsr_meaning.specs.Lists.{each_at}
-use Rattle.dsr_planning.specs.Plans.{IsListedAt, owner_at}
-use Rattle.dsr_updating.specs.Templates.{literal_at}
+use Rattle.dsr_plan_theory.specs.Plans.{IsListedAt, owner_at}
+use Rattle.dsr_update_theory.specs.Templates.{literal_at}
 
 -- ---- forms
 

@@ -13,11 +13,11 @@ use Rattle.dsr_ir.specs.declared.constraints.Conj.{Conj}
 use Rattle.dsr_ir.specs.declared.constraints.Constraint.{Constraint}
 use Rattle.dsr_ir.specs.declared.constraints.Literal.{Literal}
 use Rattle.dsr_ir.specs.declared.declarations.Spec.{Spec}
-use Rattle.dsr_listing.specs.Owners.{Owner}
-use Rattle.dsr_planning.specs.Plans.{owner_at}
-use Rattle.dsr_planning.specs.declared.choices.Choice.{Choice}
-use Rattle.dsr_planning.specs.declared.choices.Row.{Row}
-use Rattle.dsr_planning.specs.declared.choices.Way.{Way}
+use Rattle.dsr_graph_theory.specs.Owners.{Owner}
+use Rattle.dsr_plan_theory.specs.Plans.{owner_at}
+use Rattle.dsr_plan_theory.specs.declared.choices.Choice.{Choice}
+use Rattle.dsr_plan_theory.specs.declared.choices.Row.{Row}
+use Rattle.dsr_plan_theory.specs.declared.choices.Way.{Way}
 
 -- what the borrowed lines are
 abbrev pub texts_of : List (Bor (List ℕ)) → List (List ℕ)

@@ -7,12 +7,12 @@ use Rattle.dsr_cert.specs.declared.flaws.Wrong.TheVariants as wrongs
 use Rattle.dsr_ir.specs.declared.constraints.Literal.{Literal}
 use Rattle.dsr_ir.specs.declared.declarations.Spec.{Spec}
 use Rattle.dsr_ir.specs.declared.updates.Template.{Template}
-use Rattle.dsr_planning.specs.Plans.{way_at}
-use Rattle.dsr_planning.specs.declared.choices.Choice.{Choice}
-use Rattle.dsr_planning.specs.declared.choices.Row.{Row}
-use Rattle.dsr_planning.specs.declared.choices.Way.{Way}
-use Rattle.dsr_planning.specs.declared.choices.Way.TheVariants.{Test, By}
-use Rattle.dsr_updating.specs.Templates.{literal_at}
+use Rattle.dsr_plan_theory.specs.Plans.{way_at}
+use Rattle.dsr_plan_theory.specs.declared.choices.Choice.{Choice}
+use Rattle.dsr_plan_theory.specs.declared.choices.Row.{Row}
+use Rattle.dsr_plan_theory.specs.declared.choices.Way.{Way}
+use Rattle.dsr_plan_theory.specs.declared.choices.Way.TheVariants.{Test, By}
+use Rattle.dsr_update_theory.specs.Templates.{literal_at}
 
 abbrev pub BeginsWith : List ℕ → List ℕ → Type 0
 BeginsWith [] ys = Unit {0}

@@ -4,18 +4,17 @@ ghost use Rattle.dsr_cert.specs.Certificates.{Fits};
 ghost use Rattle.dsr_cert.specs.Flaws.{HasWay, IsBreaking, IsFalsifying, IsRelying, IsUncovered, IsUnlisted};
 ghost use Rattle.dsr_cert.specs.Searches as said;
 ghost use Rattle.dsr_cert.specs.Searches.{IsTakenFor, MayAsk, NoneUnder, Searches, kind_of, marks_of};
-ghost use Rattle.dsr_covering.specs.Atoms as marked;
+ghost use Rattle.dsr_placement.specs.Atoms as marked;
 ghost use Rattle.dsr_graph.specs.Graphs.{IsGraphOf, IsOwnerIn};
-ghost use Rattle.dsr_listing.specs.Owners.{Owner as OwnerOf};
+ghost use Rattle.dsr_graph_theory.specs.Owners.{Owner as OwnerOf};
 ghost use Rattle.dsr_meaning.specs.Typed.{IsTyped};
-ghost use Rattle.dsr_planning.specs.Plans.{Covers, IsListedAt};
+ghost use Rattle.dsr_plan_theory.specs.Plans.{Covers, IsListedAt};
 
 use crate::faults::CertFault;
-use dsr_covering::covers;
 use dsr_graph::{Graph, breaks, falsifies, relies, ways};
 use dsr_ir::{Constraint, Literal, NoMemory, Seq, Spec, Template};
-use dsr_placing::Position;
-use dsr_planning::{Choice, Row, Way};
+use dsr_placement::{Position, covers};
+use dsr_plan_theory::{Choice, Row, Way};
 use std::alloc::Global;
 
 // How many constraints, conjunctions and literals there are at most.

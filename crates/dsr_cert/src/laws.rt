@@ -4,8 +4,8 @@ ghost use Rattle.dsr_cert.specs.Flaws.{HasNoFlaw};
 ghost use Rattle.dsr_graph.specs.Graphs.{IsGraphOf};
 ghost use Rattle.dsr_graph.specs.declared.graphs.Graph.{Graph};
 ghost use Rattle.dsr_ir.specs.declared.declarations.Spec.{Spec};
-ghost use Rattle.dsr_planning.specs.Plans.{IsPlan};
-ghost use Rattle.dsr_planning.specs.declared.choices.Choice.{Choice};
+ghost use Rattle.dsr_plan_theory.specs.Plans.{IsPlan};
+ghost use Rattle.dsr_plan_theory.specs.declared.choices.Choice.{Choice};
 
 /// A choice that fits a specification with a graph is a plan where it has no flaw.
 pub fn flawless_choices_are_plans()

@@ -12,8 +12,8 @@ ghost use Rattle.dsr_cert.specs.declared.faults.CertFault.TheVariants as faults;
 ghost use Rattle.dsr_graph.specs.Graphs.{IsGraphOf};
 ghost use Rattle.dsr_meaning.specs.Typed.{IsTyped};
 ghost use Rattle.dsr_cert.specs.Searches.{literal_in};
-ghost use Rattle.dsr_planning.specs.Plans.{IsListedAt, owner_at};
-ghost use Rattle.dsr_planning.specs.declared.choices.Choice.{Choice as ChoiceOf};
+ghost use Rattle.dsr_plan_theory.specs.Plans.{IsListedAt, owner_at};
+ghost use Rattle.dsr_plan_theory.specs.declared.choices.Choice.{Choice as ChoiceOf};
 
 use crate::faults::CertFault;
 use crate::lines::{Said, behind, line_at, number_below, what_is_said};
@@ -21,8 +21,8 @@ use crate::writing::{push_name, push_position};
 use bstr::ByteSlice;
 use dsr_graph::{Graph, ways};
 use dsr_ir::{Conj, Constraint, Literal, NoMemory, Seq, Spec, Template, TryClone};
-use dsr_placing::Position;
-use dsr_planning::{Choice, Row, Way};
+use dsr_placement::Position;
+use dsr_plan_theory::{Choice, Row, Way};
 use std::alloc::Global;
 
 // The levels that are read are below this.

@@ -4,13 +4,13 @@ ghost use Rattle.dsr_cert.specs.Certificates.{Fits};
 ghost use Rattle.dsr_cert.specs.Flaws.{IsFirstFlaw, Tells};
 ghost use Rattle.dsr_graph.specs.Graphs.{IsGraphOf};
 ghost use Rattle.dsr_meaning.specs.Typed.{IsTyped};
-ghost use Rattle.dsr_planning.specs.Plans.{IsPlan};
+ghost use Rattle.dsr_plan_theory.specs.Plans.{IsPlan};
 
 use crate::faults::CertFault;
 use crate::flaws::Chosen;
 use dsr_graph::Graph;
 use dsr_ir::Spec;
-use dsr_planning::{Choice, Plan};
+use dsr_plan_theory::{Choice, Plan};
 use std::alloc::Global;
 
 /// The plan that a choice is, or its first fault.

@@ -6,7 +6,7 @@ ghost use Rattle.dsr_cert.specs.Certificates.{certificate_text, ended, ended_lin
 
 use dsr_answers::{push, push_number};
 use dsr_ir::{NoMemory, Spec};
-use dsr_planning::{Choice, Row, Way};
+use dsr_plan_theory::{Choice, Row, Way};
 use std::alloc::Global;
 
 /// Appends what stands before the way of a literal; conjunctions and literals count from 0.

@@ -1,0 +1,3 @@
+pub mod NoCommand
+pub mod Stages
+pub mod TrialNumbers

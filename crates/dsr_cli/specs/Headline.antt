@@ -1,9 +1,9 @@
 -- What the program does: the theorem of the whole.
 use Rattle.std.specs.Prelude.{ℕ, List}
-use Rattle.dsr_asking.specs.Commands.{asked}
-use Rattle.dsr_headlines.specs.Headlines.{ChecksImages, ChecksNothingElse, PrintsTexts, TellsUsage}
-use Rattle.dsr_plan_headlines.specs.Headlines.{CertifiesNothingElse, CertifiesPlans, FindsNothingElse, FindsPlans, VerifiesCertificates, VerifiesNothingElse}
-use Rattle.dsr_repair_headlines.specs.Headlines.{RepairsImages, RepairsLast, RepairsNothingElse, TellsTrials}
+use Rattle.dsr_command_theory.specs.Commands.{asked}
+use Rattle.dsr_command_laws.specs.ImageHeadlines.{ChecksImages, ChecksNothingElse, PrintsTexts, TellsUsage}
+use Rattle.dsr_command_laws.specs.PlanHeadlines.{CertifiesNothingElse, CertifiesPlans, FindsNothingElse, FindsPlans, VerifiesCertificates, VerifiesNothingElse}
+use Rattle.dsr_command_laws.specs.RepairHeadlines.{RepairsImages, RepairsLast, RepairsNothingElse, TellsTrials}
 use Rattle.dsr_script.specs.Causes.{Causes}
 use Rattle.dsr_script.specs.Outside.{Outside}
 use Rattle.dsr_script.specs.Runs.{Runs}

@@ -3,10 +3,11 @@ ghost use Rattle.std.specs.Prelude.{map, string_bytes};
 ghost use Rattle.dsr_cli.specs.Headline.{Headline};
 ghost use Rattle.dsr_script.specs.Outside.{told_by};
 
-use dsr_commands::Waiting;
-use dsr_headlines::{images_are_checked, texts_are_printed, usage_is_told};
-use dsr_plan_headlines::{certificates_are_verified, plans_are_certified, plans_are_found};
-use dsr_repair_headlines::{images_are_repaired, trials_are_told};
+use crate::waiting::Waiting;
+use dsr_command_laws::{
+    certificates_are_verified, images_are_checked, images_are_repaired, plans_are_certified,
+    plans_are_found, texts_are_printed, trials_are_told, usage_is_told,
+};
 use dsr_script::Status;
 use dsr_store::{Shelf, Sink};
 use std::alloc::Global;

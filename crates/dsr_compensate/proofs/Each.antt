@@ -1,7 +1,7 @@
 -- What holds of each item of a list, by its place, one after the other.
 use Rattle.std.proofs.Common.{◌≡◌, ◌<◌, ◌≤◌, ◌+◌, ◌++◌, ℕ, zero, suc, true, false, nat_eq, List, [], ◌∷◌, Some, length, take, get_or, slice_get, refl, sym, ap, subst, ◌∙◌, arith}
 use Rattle.std.proofs.lemmas.Bool.Decides.{nat_tests}
-use Rattle.dsr_sides.proofs.Standing.{item_got, place_below}
+use Rattle.dsr_compensate.proofs.Standing.{item_got, place_below}
 
 -- the item with a place is there
 pub item_at : {T : Type 0} (xs : List T) (n : ℕ) (x : T) → n < length xs → x ≡ get_or xs n x → slice_get xs n ≡ Some x

@@ -5,10 +5,10 @@ use Rattle.dsr_compensate.proofs.Each.{got_front, got_last, length_more}
 use Rattle.dsr_compensate.specs.Taking.{AreEffectsOf}
 use Rattle.dsr_ir.specs.declared.updates.Goal.{Goal}
 use Rattle.dsr_ir.specs.declared.updates.Update.{Update}
-use Rattle.dsr_listing.specs.Owners.{Owner, change_of, goal_at}
-use Rattle.dsr_sides.proofs.Standing.{place_below}
-use Rattle.dsr_sides.specs.Judged.{IsEffectOf}
-use Rattle.dsr_updating.specs.declared.effects.Effect.{Effect}
+use Rattle.dsr_graph_theory.specs.Owners.{Owner, change_of, goal_at}
+use Rattle.dsr_compensate.proofs.Standing.{place_below}
+use Rattle.dsr_compensate.specs.Judged.{IsEffectOf}
+use Rattle.dsr_update_theory.specs.declared.effects.Effect.{Effect}
 
 same_item : {T : Type 0} (x y : T) → Some x ≡ Some y → x ≡ y
 same_item x y e = cc

@@ -7,9 +7,9 @@ use Rattle.dsr_compensate.specs.Taking.{pairs_of}
 use Rattle.dsr_compensate.specs.declared.passes.Compensable.{Compensable}
 use Rattle.dsr_ir.specs.declared.updates.Template.{Template}
 use Rattle.dsr_ir.specs.declared.updates.Write.{Write}
-use Rattle.dsr_listing.specs.Candidates.{AreCompensations}
-use Rattle.dsr_listing.specs.Lists.{AreCompensable, done, more}
-use Rattle.dsr_listing.specs.Owners.{Owner}
+use Rattle.dsr_graph_theory.specs.Candidates.{AreCompensations}
+use Rattle.dsr_graph_theory.specs.Lists.{AreCompensable, done, more}
+use Rattle.dsr_graph_theory.specs.Owners.{Owner}
 
 map_more : {X Y : Type 0} (f : X → Y) (xs : List X) (x : X) → map f (xs ++ x ∷ []) ≡ map f xs ++ f x ∷ []
 map_more f [] x = refl

@@ -6,11 +6,11 @@ use Rattle.dsr_ir.specs.declared.updates.Write.{Write}
 use Rattle.dsr_compensate.specs.Preventing.{AreCandidates, IsCandidate, prevents_rule}
 use Rattle.dsr_ir.specs.declared.memory.NoMemory.{NoMemory}
 use Rattle.dsr_ir.specs.declared.updates.Template.{Template}
-use Rattle.dsr_listing.specs.Owners.{Owner}
+use Rattle.dsr_graph_theory.specs.Owners.{Owner}
 use Rattle.dsr_ir.specs.declared.declarations.Spec.{Spec}
 use Rattle.dsr_ir.specs.declared.updates.Update.{Update}
-use Rattle.dsr_listing.specs.Candidates.{AreCompensations, ArePreventing, MayGive, compensated, done, prevented, preventing, quiet, some}
-use Rattle.dsr_updating.specs.Changes.{Change}
+use Rattle.dsr_graph_theory.specs.Candidates.{AreCompensations, ArePreventing, MayGive, compensated, done, prevented, preventing, quiet, some}
+use Rattle.dsr_update_theory.specs.Changes.{Change}
 
 -- with the item at which a loop is
 pub take_next : {T : Type 0} (items xs : List T) (all : items ≡ xs) (i : ℕ) (less : i < length items) (x : T) (is : x ≡ get_or items i x) → take (i + 1) xs ≡ take i xs ++ x ∷ []

@@ -1,3 +1,5 @@
+pub mod Standing
+pub mod Deciding
 pub mod Later
 pub mod Each
 pub mod Effects

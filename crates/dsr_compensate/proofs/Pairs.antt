@@ -5,7 +5,7 @@ use Rattle.dsr_compensate.proofs.Later.{take_whole}
 use Rattle.dsr_compensate.specs.Taking.{with_two_of}
 use Rattle.dsr_ir.specs.declared.updates.Template.{Template}
 use Rattle.dsr_ir.specs.declared.updates.Write.{Write}
-use Rattle.dsr_listing.specs.Lists.{compensated_by, two_of, with_two}
+use Rattle.dsr_graph_theory.specs.Lists.{compensated_by, two_of, with_two}
 
 -- a part of the pairs is taken, and those of the writes that are left make them whole
 pub record IsFront (t : Template) (writes : List Write) (i : ℕ) (B : List Template → Type 0) (all : List Template) : Type 0 where

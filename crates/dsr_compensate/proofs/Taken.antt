@@ -7,11 +7,11 @@ use Rattle.dsr_compensate.specs.Taking.{AreTakenOf, AreWell, IsJudged, MayAllBeM
 use Rattle.dsr_compensate.specs.declared.judging.Judged.{Judged}
 use Rattle.dsr_ir.specs.declared.constraints.Atom.{Atom}
 use Rattle.dsr_ir.specs.declared.updates.Template.{Template}
-use Rattle.dsr_listing.specs.Lists.{AreTaken, again, enough, left_out, no_more, taken}
-use Rattle.dsr_listing.specs.Owners.{Owner, change_of, goal_at}
-use Rattle.dsr_listing.specs.Sides.{IsKept, MayBeMade, MayServe}
+use Rattle.dsr_graph_theory.specs.Lists.{AreTaken, again, enough, left_out, no_more, taken}
+use Rattle.dsr_graph_theory.specs.Owners.{Owner, change_of, goal_at}
+use Rattle.dsr_graph_theory.specs.Sides.{IsKept, MayBeMade, MayServe}
 use Rattle.dsr_meaning.specs.Counting.{IsIn}
-use Rattle.dsr_updating.specs.Changes.{Change}
+use Rattle.dsr_update_theory.specs.Changes.{Change}
 
 -- ---- whether a template is kept
 

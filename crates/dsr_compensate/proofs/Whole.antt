@@ -7,8 +7,8 @@ use Rattle.dsr_compensate.specs.Taking.{AreTakenOf, ones_of, pairs_of, twos_of}
 use Rattle.dsr_compensate.specs.declared.passes.Compensable.{Compensable}
 use Rattle.dsr_ir.specs.declared.constraints.Atom.{Atom}
 use Rattle.dsr_ir.specs.declared.updates.Template.{Template}
-use Rattle.dsr_listing.specs.Lists.{AreTaken, all_of, no_more, with_one, with_two}
-use Rattle.dsr_listing.specs.Owners.{Owner}
+use Rattle.dsr_graph_theory.specs.Lists.{AreTaken, all_of, no_more, with_one, with_two}
+use Rattle.dsr_graph_theory.specs.Owners.{Owner}
 
 flat_twice : {X Y Z : Type 0} (f : Y → List Z) (g : X → Y) (xs : List X) → flat_map f (map g xs) ≡ flat_map (λ x. f (g x)) xs
 flat_twice f g [] = refl

@@ -1,2 +1,4 @@
+pub mod Owned
+pub mod Judged
 pub mod Preventing
 pub mod Taking

@@ -9,13 +9,13 @@ use Rattle.dsr_ir.specs.declared.rules.Rule.{Rule}
 use Rattle.dsr_ir.specs.declared.updates.Goal.{Goal}
 use Rattle.dsr_ir.specs.declared.updates.Update.{Update}
 use Rattle.dsr_ir.specs.declared.updates.Write.{Write}
-use Rattle.dsr_listing.specs.Candidates.{ArePreventing, MayGive, preventing}
-use Rattle.dsr_listing.specs.Owners.{Owner, change_of}
+use Rattle.dsr_graph_theory.specs.Candidates.{ArePreventing, MayGive, preventing}
+use Rattle.dsr_graph_theory.specs.Owners.{Owner, change_of}
 use Rattle.dsr_meaning.specs.Lists.{any_of}
 use Rattle.dsr_meaning.specs.Refusals.{first_of}
-use Rattle.dsr_updating.specs.Changes.{Change, paths_of, write_to}
-use Rattle.dsr_updating.specs.Guards.{guard_write}
-use Rattle.dsr_updating.specs.Templates.{is_same_field}
+use Rattle.dsr_update_theory.specs.Changes.{Change, paths_of, write_to}
+use Rattle.dsr_update_theory.specs.Guards.{guard_write}
+use Rattle.dsr_update_theory.specs.Templates.{is_same_field}
 
 -- the update writes the field
 abbrev pub writes_field : Update → FieldRef → Bool

@@ -7,11 +7,11 @@ use Rattle.dsr_ir.specs.declared.updates.Goal.{Goal}
 use Rattle.dsr_ir.specs.declared.updates.Template.{Template}
 use Rattle.dsr_ir.specs.declared.updates.Update.{Update}
 use Rattle.dsr_ir.specs.declared.updates.Write.{Write}
-use Rattle.dsr_listing.specs.Lists.{AreTaken, compensated_by, with_one, with_two}
-use Rattle.dsr_listing.specs.Owners.{Owner, change_of, goal_at}
-use Rattle.dsr_listing.specs.Sides.{MayBeMade, MayServe}
-use Rattle.dsr_sides.specs.Judged.{IsEffectOf}
-use Rattle.dsr_updating.specs.declared.effects.Effect.{Effect}
+use Rattle.dsr_graph_theory.specs.Lists.{AreTaken, compensated_by, with_one, with_two}
+use Rattle.dsr_graph_theory.specs.Owners.{Owner, change_of, goal_at}
+use Rattle.dsr_graph_theory.specs.Sides.{MayBeMade, MayServe}
+use Rattle.dsr_compensate.specs.Judged.{IsEffectOf}
+use Rattle.dsr_update_theory.specs.declared.effects.Effect.{Effect}
 
 -- each effect is exactly what the update with its place in a template for the goal may change
 pub record AreEffectsOf (owner : Owner) (goal : Goal) (updates : List Update) (effects : List Effect) : Type 0 where

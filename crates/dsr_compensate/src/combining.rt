@@ -1,6 +1,6 @@
 // Templates with more writes behind their own.
 ghost use Rattle.std.specs.Prelude.{◌≡◌, IfOk};
-ghost use Rattle.dsr_listing.specs.Lists as lists;
+ghost use Rattle.dsr_graph_theory.specs.Lists as lists;
 
 use dsr_ir::{NoMemory, Seq, Template, Update, Write};
 use std::alloc::Global;

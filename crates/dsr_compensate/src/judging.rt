@@ -1,13 +1,13 @@
 // Whether a template is listed, by what each of its updates may change.
 ghost use Rattle.std.specs.Prelude.{◌≡◌, ◌++◌, [], ◌∷◌, Decides, IfOk, length};
 ghost use Rattle.dsr_compensate.specs.Taking.{AreEffectsOf, MayAllBeMade, MayAllServe};
-ghost use Rattle.dsr_listing.specs.Owners as owners;
+ghost use Rattle.dsr_graph_theory.specs.Owners as owners;
 ghost use Rattle.dsr_meaning.specs.Typed.{IsTypedAtom};
-ghost use Rattle.dsr_sides.specs.Owned.{IsSound, owner_of};
+ghost use Rattle.dsr_compensate.specs.Owned.{IsSound, owner_of};
 
+use crate::owner::Owner;
 use dsr_ir::{Atom, Goal, NoMemory, Seq, Template, Update};
-use dsr_sides::Owner;
-use dsr_updating::Effect;
+use dsr_update_theory::Effect;
 use std::alloc::Global;
 
 /// A template, with what each of its updates may change.

@@ -1,16 +1,16 @@
 // The templates that are listed, taken one after the other.
 ghost use Rattle.std.specs.Prelude.{◌≡◌, ◌++◌, [], ◌∷◌, Decides, List, OnOk};
 ghost use Rattle.dsr_compensate.specs.Taking.{AreTakenOf, AreWell, templates_of, with_two_of};
-ghost use Rattle.dsr_listing.specs.Lists.{with_one, with_two};
+ghost use Rattle.dsr_graph_theory.specs.Lists.{with_one, with_two};
 ghost use Rattle.dsr_ir.specs.declared.updates.Template.{Template as TemplateOf};
 ghost use Rattle.dsr_meaning.specs.Counting.{IsIn};
 ghost use Rattle.dsr_meaning.specs.Typed.{IsTypedAtom};
-ghost use Rattle.dsr_sides.specs.Owned.{IsSound, owner_of};
+ghost use Rattle.dsr_compensate.specs.Owned.{IsSound, owner_of};
 
 use crate::combining::compensated_by;
 use crate::judging::{Judged, effects_of, may_all_be_made, may_all_serve};
+use crate::owner::Owner;
 use dsr_ir::{Atom, NoMemory, Seq, Template, Write};
-use dsr_sides::Owner;
 use std::alloc::Global;
 
 // How many templates of a literal are listed at most.

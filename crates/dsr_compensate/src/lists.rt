@@ -1,14 +1,14 @@
 // The templates that are listed for a literal.
 ghost use Rattle.std.specs.Prelude.{◌≡◌, All, IfOk};
 ghost use Rattle.dsr_compensate.specs.Taking.{IsJudged, templates_of};
-ghost use Rattle.dsr_listing.specs.Lists.{AreListedOf};
-ghost use Rattle.dsr_sides.specs.Owned.{IsSound, owner_of};
-ghost use Rattle.dsr_updating.specs.Templates as templates;
+ghost use Rattle.dsr_graph_theory.specs.Lists.{AreListedOf};
+ghost use Rattle.dsr_compensate.specs.Owned.{IsSound, owner_of};
+ghost use Rattle.dsr_update_theory.specs.Templates as templates;
 
 use crate::judging::Judged;
+use crate::owner::Owner;
 use crate::passes::{all_compensable, take_all};
 use dsr_ir::{Constraint, Literal, NoMemory};
-use dsr_sides::Owner;
 use std::alloc::Global;
 
 // The literal with these numbers.

@@ -3,16 +3,16 @@ ghost use Rattle.std.specs.Prelude.{◌≡◌, ◌++◌, ◌∷◌, [], IfOk, Li
 ghost use Rattle.std.specs.List.{flat_map};
 ghost use Rattle.dsr_compensate.specs.Taking.{AreTakenOf, AreWell, ones_of, pairs_of, templates_of, twos_of};
 ghost use Rattle.dsr_ir.specs.declared.updates.Template.{Template as TemplateOf};
-ghost use Rattle.dsr_listing.specs.Lists.{AreCompensable};
-ghost use Rattle.dsr_listing.specs.Candidates.{AreCompensations};
+ghost use Rattle.dsr_graph_theory.specs.Lists.{AreCompensable};
+ghost use Rattle.dsr_graph_theory.specs.Candidates.{AreCompensations};
 ghost use Rattle.dsr_meaning.specs.Typed.{IsTypedAtom};
-ghost use Rattle.dsr_sides.specs.Owned.{IsSound, owner_of};
+ghost use Rattle.dsr_compensate.specs.Owned.{IsSound, owner_of};
 
 use crate::judging::Judged;
 use crate::listing::{take, take_ones, take_twos};
+use crate::owner::Owner;
 use crate::preventing::compensations;
 use dsr_ir::{Atom, NoMemory, Seq, Template, TryClone, Write};
-use dsr_sides::Owner;
 use std::alloc::Global;
 
 /// A template that is tried, with the writes that may compensate it.

@@ -9,10 +9,10 @@ use Rattle.dsr_tree.specs.declared.tree.Rule.{Rule}
 use Rattle.dsr_tree.specs.declared.tree.Unit.{Unit as UnitOf}
 use Rattle.dsr_tree.specs.Trees.{JoinTree, UnitTree, in_joins, in_units, formula_shape, join_shape, unit_shape}
 use Rattle.dsr_tree.proofs.TreeRows.{formula_is}
-use Rattle.dsr_typing.specs.Constraints.{joins_faults, join_faults, units_faults, unit_faults, has_value, join_has_value, joins_have_value, joins_negations, join_negations, units_negations, unit_negations}
-use Rattle.dsr_typing.specs.TypedConstraints.{Scope, typed_joins, typed_join, typed_units, typed_unit}
-use Rattle.dsr_faults.specs.Telling.{Finds}
-use Rattle.dsr_faults.proofs.Finding.{finds_same, finds_then}
+use Rattle.dsr_language_theory.specs.Constraints.{joins_faults, join_faults, units_faults, unit_faults, has_value, join_has_value, joins_have_value, joins_negations, join_negations, units_negations, unit_negations}
+use Rattle.dsr_language_theory.specs.TypedConstraints.{Scope, typed_joins, typed_join, typed_units, typed_unit}
+use Rattle.dsr_names.specs.Telling.{Finds}
+use Rattle.dsr_names.proofs.Finding.{finds_same, finds_then}
 
 -- the shapes of the items up to one with that one are one more
 shapes_more : {X S : Type 0} (g : X → S) (xs : List X) (i : ℕ) (x : X) → i < length xs → x ≡ get_or xs i x → map g (take (i + 1) xs) ≡ map g (take i xs) ++ g x ∷ []

@@ -4,10 +4,10 @@ use Rattle.std.proofs.Math.Bool.{not-not}
 use Rattle.std.proofs.lemmas.Grind.{common_steps}
 use Rattle.dsr_tree.specs.Faults.{kind_number, is_before}
 use Rattle.dsr_tree.specs.declared.faults.Fault.{Fault}
-use Rattle.dsr_text.specs.Faults.{when}
-use Rattle.dsr_typing.specs.Known.{is_nil}
-use Rattle.dsr_faults.specs.Telling.{told_of, told_after, Finds}
-use Rattle.dsr_faults.proofs.Least.{none_told}
+use Rattle.dsr_language_theory.specs.Faults.{when}
+use Rattle.dsr_language_theory.specs.Known.{is_nil}
+use Rattle.dsr_names.specs.Telling.{told_of, told_after, Finds}
+use Rattle.dsr_names.proofs.Least.{none_told}
 
 -- by place, then by kind
 abbrev earlier : ℕ → ℕ → ℕ → ℕ → Bool

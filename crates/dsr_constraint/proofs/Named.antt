@@ -3,7 +3,7 @@ use Rattle.std.proofs.Common.{◌≡◌, ◌<◌, ◌+◌, ℕ, Bool, true, fals
 use Rattle.std.specs.List.{position_from}
 use Rattle.std.specs.Str.{bytes_eq}
 use Rattle.dsr_ir.specs.declared.declarations.Structures.{Structures}
-use Rattle.dsr_typing.specs.Known.{known_in}
+use Rattle.dsr_language_theory.specs.Known.{known_in}
 use Rattle.dsr_constraint.specs.Widest.{CountRelations}
 
 -- the first item of a mapped list that passes

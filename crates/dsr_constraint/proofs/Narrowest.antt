@@ -12,10 +12,10 @@ use Rattle.dsr_meaning.specs.Lists.{any_of}
 use Rattle.dsr_tree.specs.declared.tree.Inclusion.{Inclusion}
 use Rattle.dsr_tree.specs.declared.tree.Inclusion.TheVariants as inclusions
 use Rattle.dsr_tree.specs.declared.tree.Rule.{Rule}
-use Rattle.dsr_text.specs.Names.{is_at}
-use Rattle.dsr_typing.specs.Known.{Known, field_is}
-use Rattle.dsr_typing.specs.Rules.{Scope, scope_of, path_field}
-use Rattle.dsr_typing.specs.Constraints.{inclusion_field, value_field, is_too_narrow}
+use Rattle.dsr_language_theory.specs.Names.{is_at}
+use Rattle.dsr_language_theory.specs.Known.{Known, field_is}
+use Rattle.dsr_language_theory.specs.Rules.{Scope, scope_of, path_field}
+use Rattle.dsr_language_theory.specs.Constraints.{inclusion_field, value_field, is_too_narrow}
 use Rattle.std.specs.Option.{option_map_or}
 use Rattle.dsr_constraint.specs.Widest.{given_relation, read_field, field_width, given_width, least_width, CountRelations}
 

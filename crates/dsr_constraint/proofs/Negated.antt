@@ -9,11 +9,11 @@ use Rattle.dsr_tree.specs.declared.faults.Fault.{Fault}
 use Rattle.dsr_tree.specs.declared.tree.Atom.{Atom}
 use Rattle.dsr_tree.specs.declared.tree.Atom.TheVariants as atoms
 use Rattle.dsr_tree.specs.Trees.{ConstraintTree, FormulaTree, formula_tree, JoinTrees, no_joins, more_joins, JoinTree, join_tree, UnitTrees, no_units, more_units, UnitTree, not_tree, given_tree, parenthesized_tree, atom_tree}
-use Rattle.dsr_text.specs.Faults.{when}
-use Rattle.dsr_typing.specs.Known.{is_nil}
-use Rattle.dsr_typing.specs.Constraints.{is_value, has_value, joins_have_value, join_has_value, units_have_value, unit_has_value, negations, joins_negations, join_negations, units_negations, unit_negations, refusal_faults}
-use Rattle.dsr_typing.specs.NormalForms.{Refusal, negated_value, too_many_conjunctions, too_many_atoms, is_membership, negates, row_negates, refusal_of}
-use Rattle.dsr_typing.specs.TypedConstraints.{Scope, typed_formula, typed_joins, typed_join, typed_units, typed_unit, typed_atom}
+use Rattle.dsr_language_theory.specs.Faults.{when}
+use Rattle.dsr_language_theory.specs.Known.{is_nil}
+use Rattle.dsr_language_theory.specs.Constraints.{is_value, has_value, joins_have_value, join_has_value, units_have_value, unit_has_value, negations, joins_negations, join_negations, units_negations, unit_negations, refusal_faults}
+use Rattle.dsr_language_theory.specs.NormalForms.{Refusal, negated_value, too_many_conjunctions, too_many_atoms, is_membership, negates, row_negates, refusal_of}
+use Rattle.dsr_language_theory.specs.TypedConstraints.{Scope, typed_formula, typed_joins, typed_join, typed_units, typed_unit, typed_atom}
 
 -- a list is told where one of its parts is
 abbrev tells : List Fault → Bool

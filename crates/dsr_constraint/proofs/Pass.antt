@@ -7,11 +7,11 @@ use Rattle.dsr_tree.specs.declared.faults.Fault.{Fault}
 use Rattle.dsr_tree.specs.declared.tree.Constraint.{Constraint as ConstraintOf}
 use Rattle.dsr_tree.specs.declared.tree.Rule.{Rule}
 use Rattle.dsr_tree.specs.Trees.{constraint_shape}
-use Rattle.dsr_typing.specs.Known.{Known}
-use Rattle.dsr_typing.specs.Constraints.{constraint_faults}
-use Rattle.dsr_typing.specs.TypedConstraints.{typed_constraint}
-use Rattle.dsr_faults.specs.Telling.{Finds}
-use Rattle.dsr_faults.proofs.Finding.{each_next, finds_next}
+use Rattle.dsr_language_theory.specs.Known.{Known}
+use Rattle.dsr_language_theory.specs.Constraints.{constraint_faults}
+use Rattle.dsr_language_theory.specs.TypedConstraints.{typed_constraint}
+use Rattle.dsr_names.specs.Telling.{Finds}
+use Rattle.dsr_names.proofs.Finding.{each_next, finds_next}
 use Rattle.dsr_constraint.proofs.Mapped.{made_next}
 
 -- after some constraints

@@ -13,8 +13,8 @@ use Rattle.dsr_tree.specs.declared.tree.Rule.{Rule}
 use Rattle.dsr_tree.specs.declared.tree.Unit.{Unit as UnitOf}
 use Rattle.dsr_names.specs.Tables.{known_of}
 use Rattle.dsr_names.specs.declared.known.Known.{Known}
-use Rattle.dsr_typing.specs.Constraints.{joins_faults, units_faults, own_faults, form_faults, constraint_faults, constraints_faults}
-use Rattle.dsr_typing.specs.TypedConstraints.{Scope as ScopeOf, named_variable, typed_joins, typed_units, typed_constraint, typed_constraints}
+use Rattle.dsr_language_theory.specs.Constraints.{joins_faults, units_faults, own_faults, form_faults, constraint_faults, constraints_faults}
+use Rattle.dsr_language_theory.specs.TypedConstraints.{Scope as ScopeOf, named_variable, typed_joins, typed_units, typed_constraint, typed_constraints}
 use Rattle.dsr_constraint.specs.Widest.{AreLeast}
 use Rattle.dsr_constraint.specs.declared.checks.Checker.{Checker}
 use Rattle.dsr_constraint.specs.declared.scopes.Scope.{Scope}

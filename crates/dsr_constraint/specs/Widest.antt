@@ -7,9 +7,9 @@ use Rattle.dsr_meaning.specs.Instances.{declared_field}
 use Rattle.dsr_tree.specs.declared.tree.Inclusion.{Inclusion}
 use Rattle.dsr_tree.specs.declared.tree.Inclusion.TheVariants as inclusions
 use Rattle.dsr_tree.specs.declared.tree.Rule.{Rule}
-use Rattle.dsr_text.specs.Names.{is_at}
-use Rattle.dsr_typing.specs.Known.{Known}
-use Rattle.dsr_typing.specs.Rules.{Scope, scope_of, path_field}
+use Rattle.dsr_language_theory.specs.Names.{is_at}
+use Rattle.dsr_language_theory.specs.Known.{Known}
+use Rattle.dsr_language_theory.specs.Rules.{Scope, scope_of, path_field}
 
 -- the relation of the pair that an inclusion gives, where that is known
 abbrev pub given_relation : Known → Inclusion → Option ℕ

@@ -1,18 +1,18 @@
 // The faults of atoms.
 ghost use Rattle.std.specs.Prelude.{◌≡◌, List, None, option_map};
-ghost use Rattle.dsr_faults.specs.Telling.{Finds};
+ghost use Rattle.dsr_names.specs.Telling.{Finds};
 ghost use Rattle.dsr_names.specs.Tables.{known_of};
-ghost use Rattle.dsr_typing.specs.Known.{unknown, set_named};
-ghost use Rattle.dsr_typing.specs.Constraints.{variable_faults, measure_names, measure_mismatches, measure_faults, atom_place, atom_names, pairs_others, atom_mismatches, atom_constants, atom_faults};
+ghost use Rattle.dsr_language_theory.specs.Known.{unknown, set_named};
+ghost use Rattle.dsr_language_theory.specs.Constraints.{variable_faults, measure_names, measure_mismatches, measure_faults, atom_place, atom_names, pairs_others, atom_mismatches, atom_constants, atom_faults};
 ghost use Rattle.dsr_constraint.specs.Scoped.{scope_told, Narrow};
 
 use crate::notes::note_part;
 use crate::scopes::Scope;
 use crate::widths::Constants;
-use dsr_faults::Told;
 use dsr_ir::Rel;
 use dsr_names::{
-    disagree, has_other_source, has_other_target, note_found, note_name, values_others, var_place,
+    Told, disagree, has_other_source, has_other_target, note_found, note_name, values_others,
+    var_place,
 };
 use dsr_tree::{Atom, Condition, Measure, PlacedName, Var};
 

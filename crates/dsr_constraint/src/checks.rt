@@ -2,22 +2,21 @@
 ghost use Rattle.std.specs.Prelude.{◌≡◌, map, IfOk, IsSome, OnOk};
 ghost use Rattle.std.specs.Str.{bytes_eq};
 ghost use Rattle.indexmap.specs.IndexMap.{get};
-ghost use Rattle.dsr_faults.specs.Telling.{Finds};
+ghost use Rattle.dsr_names.specs.Telling.{Finds};
 ghost use Rattle.dsr_meaning.specs.Typed.{constraint_limit};
 ghost use Rattle.dsr_names.specs.Tables.{known_of};
 ghost use Rattle.dsr_normal.specs.Telling.{refusal_told};
-ghost use Rattle.dsr_text.specs.Names.{is_at};
+ghost use Rattle.dsr_language_theory.specs.Names.{is_at};
 ghost use Rattle.dsr_tree.specs.Trees.{constraint_shape};
-ghost use Rattle.dsr_typing.specs.Constraints.{gives_numbers, binder_faults, symbol_faults, quantifier_faults, constraint_number, refusal_faults};
+ghost use Rattle.dsr_language_theory.specs.Constraints.{gives_numbers, binder_faults, symbol_faults, quantifier_faults, constraint_number, refusal_faults};
 ghost use Rattle.dsr_constraint.specs.Scoped.{Narrow, own_faults_of};
 
 use crate::formulas::check_formula;
 use crate::negations::check_negations;
 use crate::scopes::scope_of;
 use crate::widths::Constants;
-use dsr_faults::Told;
 use dsr_ir::{Name, NoMemory};
-use dsr_names::{Known, note_found, numbers_from};
+use dsr_names::{Known, Told, note_found, numbers_from};
 use dsr_normal::NormalFault;
 use dsr_tree::{Binder, Condition, Constraint, PlacedName, Quantifier};
 use indexmap::IndexMap;

@@ -1,12 +1,12 @@
 // The faults of the atoms of a formula.
 ghost use Rattle.dsr_tree.specs.Trees.{formula_shape, join_shape, unit_shape};
-ghost use Rattle.dsr_faults.specs.Telling.{Finds};
-ghost use Rattle.dsr_typing.specs.Constraints.{formula_faults, join_faults, unit_faults};
+ghost use Rattle.dsr_names.specs.Telling.{Finds};
+ghost use Rattle.dsr_language_theory.specs.Constraints.{formula_faults, join_faults, unit_faults};
 ghost use Rattle.dsr_constraint.specs.Scoped.{scope_told, Narrow, faults_of_joins, faults_of_units};
 
 use crate::scopes::Scope;
 use crate::widths::Constants;
-use dsr_faults::Told;
+use dsr_names::Told;
 use dsr_tree::{Formula, Join, Unit};
 
 /// The faults of all atoms of a formula.

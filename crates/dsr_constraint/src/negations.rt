@@ -1,12 +1,12 @@
 // Where `not` stands above a size or a value.
 ghost use Rattle.std.specs.Prelude.{◌≡◌, map};
 ghost use Rattle.dsr_tree.specs.Trees.{formula_shape, join_shape, unit_shape, in_joins, in_units};
-ghost use Rattle.dsr_text.specs.Faults.{when};
+ghost use Rattle.dsr_language_theory.specs.Faults.{when};
 ghost use Rattle.dsr_tree.specs.declared.faults.Condition.TheVariants as conditions;
-ghost use Rattle.dsr_faults.specs.Telling.{Finds};
-ghost use Rattle.dsr_typing.specs.Constraints.{is_value, has_value, joins_have_value, join_has_value, units_have_value, unit_has_value, negations, joins_negations, join_negations, units_negations, unit_negations};
+ghost use Rattle.dsr_names.specs.Telling.{Finds};
+ghost use Rattle.dsr_language_theory.specs.Constraints.{is_value, has_value, joins_have_value, join_has_value, units_have_value, unit_has_value, negations, joins_negations, join_negations, units_negations, unit_negations};
 
-use dsr_faults::Told;
+use dsr_names::Told;
 use dsr_tree::{Atom, Condition, Formula, Join, Unit};
 
 // Whether an atom is a size or a value.

@@ -1,9 +1,9 @@
 // Taking note of faults.
 ghost use Rattle.std.specs.Prelude.{List, None};
 ghost use Rattle.dsr_tree.specs.declared.faults.Fault.{Fault};
-ghost use Rattle.dsr_faults.specs.Telling.{Finds};
+ghost use Rattle.dsr_names.specs.Telling.{Finds};
 
-use dsr_faults::Told;
+use dsr_names::Told;
 
 /// Takes note of the fault that is told of a part.
 pub fn note_part(told: &mut Told, part: &Told)

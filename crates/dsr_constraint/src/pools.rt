@@ -1,7 +1,7 @@
 // Pools of variables.
 ghost use Rattle.std.specs.Prelude.{◌≡◌, Some};
 ghost use Rattle.dsr_tree.specs.declared.tree.Var.TheVariants as vars;
-ghost use Rattle.dsr_typing.specs.Constraints.{var_pool, pool_of};
+ghost use Rattle.dsr_language_theory.specs.Constraints.{var_pool, pool_of};
 ghost use Rattle.dsr_constraint.specs.Scoped.{scope_told};
 
 use crate::scopes::Scope;

@@ -1,7 +1,7 @@
 // What the variables of a constraint stand for.
 ghost use Rattle.std.specs.Prelude.{◌≡◌, Some, option_map};
 ghost use Rattle.dsr_names.specs.Tables.{known_of};
-ghost use Rattle.dsr_typing.specs.TypedConstraints.{scope_of, named_variable, variable, relation_of, set_of};
+ghost use Rattle.dsr_language_theory.specs.TypedConstraints.{scope_of, named_variable, variable, relation_of, set_of};
 ghost use Rattle.dsr_constraint.specs.Scoped.{scope_told};
 
 use dsr_ir::{Name, Quant, Var};

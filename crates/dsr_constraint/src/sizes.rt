@@ -1,16 +1,15 @@
 // Sizes: their names, and whether the relations in them are those of a variable.
 ghost use Rattle.std.specs.Prelude.{◌≡◌, None, Some, option_map};
-ghost use Rattle.dsr_text.specs.Faults.{when};
-ghost use Rattle.dsr_faults.specs.Telling.{Finds};
-ghost use Rattle.dsr_typing.specs.Known.{unknown};
-ghost use Rattle.dsr_typing.specs.TypedConstraints.{counts_targets, counts_sources};
-ghost use Rattle.dsr_typing.specs.Constraints.{size_names, relation_at, size_mismatches, counts_numbers};
+ghost use Rattle.dsr_language_theory.specs.Faults.{when};
+ghost use Rattle.dsr_names.specs.Telling.{Finds};
+ghost use Rattle.dsr_language_theory.specs.Known.{unknown};
+ghost use Rattle.dsr_language_theory.specs.TypedConstraints.{counts_targets, counts_sources};
+ghost use Rattle.dsr_language_theory.specs.Constraints.{size_names, relation_at, size_mismatches, counts_numbers};
 ghost use Rattle.dsr_constraint.specs.Scoped.{scope_told, unknown_place};
 
 use crate::scopes::Scope;
-use dsr_faults::Told;
 use dsr_ir::Rel;
-use dsr_names::{gives_numbers, has_other_source, has_other_targets, note_found};
+use dsr_names::{Told, gives_numbers, has_other_source, has_other_targets, note_found};
 use dsr_tree::{Condition, PlacedName, Size, Var};
 
 impl Scope<'_> {

@@ -1,7 +1,7 @@
 // Typed atoms.
 ghost use Rattle.std.specs.Prelude.{◌≡◌};
-ghost use Rattle.dsr_typing.specs.TypedRules.{number_of};
-ghost use Rattle.dsr_typing.specs.TypedConstraints.{variable_in, typed_size, typed_measure, typed_atom};
+ghost use Rattle.dsr_language_theory.specs.TypedRules.{number_of};
+ghost use Rattle.dsr_language_theory.specs.TypedConstraints.{variable_in, typed_size, typed_measure, typed_atom};
 ghost use Rattle.dsr_tree.specs.declared.tree.Var.TheVariants as vars;
 ghost use Rattle.dsr_constraint.specs.Scoped.{scope_told};
 

@@ -1,6 +1,6 @@
 // Typed constraints, whose complements give way to their bases.
 ghost use Rattle.std.specs.Prelude.{◌≡◌, map, IfOk};
-ghost use Rattle.dsr_typing.specs.TypedConstraints.{base_of, over_base, without_complement, without_complements, typed_quant};
+ghost use Rattle.dsr_language_theory.specs.TypedConstraints.{base_of, over_base, without_complement, without_complements, typed_quant};
 ghost use Rattle.dsr_constraint.specs.Scoped.{scope_told};
 
 use crate::scopes::Scope;

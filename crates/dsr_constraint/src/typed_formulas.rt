@@ -2,7 +2,7 @@
 ghost use Rattle.std.specs.Prelude.{◌≡◌, map, IfOk};
 ghost use Rattle.dsr_ir.specs.Formulas.{in_row, formula_shape};
 ghost use Rattle.dsr_tree.specs.Trees.{formula_shape as formula_tree_of, join_shape, unit_shape};
-ghost use Rattle.dsr_typing.specs.TypedConstraints.{typed_formula, typed_join, typed_unit};
+ghost use Rattle.dsr_language_theory.specs.TypedConstraints.{typed_formula, typed_join, typed_unit};
 ghost use Rattle.dsr_constraint.specs.Scoped.{scope_told, joins_behind, units_behind};
 
 use crate::scopes::Scope;

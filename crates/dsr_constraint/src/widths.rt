@@ -1,8 +1,8 @@
 // How wide the constants may be with which the values of a relation are compared.
 ghost use Rattle.std.specs.Prelude.{◌≡◌, ◌<◌, min, length, slice_index_or, slice_set, IfOk};
 ghost use Rattle.dsr_names.specs.Tables.{known_of};
-ghost use Rattle.dsr_typing.specs.Rules as rules;
-ghost use Rattle.dsr_typing.specs.Constraints.{is_too_great};
+ghost use Rattle.dsr_language_theory.specs.Rules as rules;
+ghost use Rattle.dsr_language_theory.specs.Constraints.{is_too_great};
 ghost use Rattle.dsr_constraint.specs.Scoped.{Narrow};
 ghost use Rattle.dsr_constraint.specs.Widest.{given_relation, read_field, field_width, given_width, least_width, AreLeast, CountRelations};
 

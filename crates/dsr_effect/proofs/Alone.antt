@@ -1,7 +1,7 @@
 -- Sets without numbers, and the set of none alone.
 use Rattle.std.proofs.Common.{◌≡◌, ◌↔◌, inl, inr, ℕ, Bool, true, false, refl, Decides}
 use Rattle.dsr_ir.specs.declared.rules.Test.{Test}
-use Rattle.dsr_updating.specs.Values.{CellValue, ComesOut, IllegalReference, LegalReference, NoneReference, Number, Passes}
+use Rattle.dsr_update_theory.specs.Values.{CellValue, ComesOut, IllegalReference, LegalReference, NoneReference, Number, Passes}
 use Rattle.dsr_effect.specs.ValueSets.{Has, HasNumber, IsInRange}
 use Rattle.dsr_effect.specs.declared.values.Values.{Values}
 

@@ -8,8 +8,8 @@ use Rattle.dsr_ir.specs.declared.constraints.Quant.{Quant}
 use Rattle.dsr_ir.specs.declared.constraints.Var.{Var}
 use Rattle.dsr_ir.specs.declared.constraints.Var.TheVariants.{Head}
 use Rattle.dsr_ir.specs.declared.declarations.Spec.{Spec}
-use Rattle.dsr_updating.specs.KnownSets.{IsKnown}
-use Rattle.dsr_updating.specs.KnownSets.IsKnown.{quantified, source, target, base}
+use Rattle.dsr_update_theory.specs.KnownSets.{IsKnown}
+use Rattle.dsr_update_theory.specs.KnownSets.IsKnown.{quantified, source, target, base}
 use Rattle.dsr_meaning.specs.Counting.{IsIn}
 use Rattle.dsr_meaning.proofs.Lists.{in_front_or_last, last_in}
 use Rattle.dsr_meaning.proofs.Items.{in_left}

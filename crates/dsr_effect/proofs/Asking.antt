@@ -14,8 +14,8 @@ use Rattle.dsr_ir.specs.declared.rules.Rule.{Rule}
 use Rattle.dsr_ir.specs.declared.rules.Span.TheVariants.{Single}
 use Rattle.dsr_ir.specs.declared.updates.Goal.TheVariants.{AddSet, Supply}
 use Rattle.dsr_meaning.specs.Counting.{IsIn}
-use Rattle.dsr_updating.specs.Changes.{Change}
-use Rattle.dsr_updating.specs.Touching.{AsksAllOf, IsQuiet, MakesFire}
+use Rattle.dsr_update_theory.specs.Changes.{Change}
+use Rattle.dsr_update_theory.specs.Touching.{AsksAllOf, IsQuiet, MakesFire}
 use Rattle.dsr_effect.specs.Told.{AsksAllButTarget}
 
 pub premise_same : (a b : Option ℕ) → option_eq nat_eq a b ≡ true → a ≡ b

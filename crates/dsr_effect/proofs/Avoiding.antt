@@ -15,9 +15,9 @@ use Rattle.dsr_facts.proofs.Marking.{marked_from, marked_here, marked_still, non
 use Rattle.dsr_meaning.proofs.Firing.{found_fits}
 use Rattle.dsr_meaning.specs.Counting.{IsIn}
 use Rattle.dsr_meaning.specs.Typed.{IsTyped, IsTypedRule}
-use Rattle.dsr_updating.specs.Avoided.{IsAvoided}
-use Rattle.dsr_updating.specs.Avoided.IsAvoided.{named, given}
-use Rattle.dsr_updating.specs.Givers.{IsGiver}
+use Rattle.dsr_update_theory.specs.Avoided.{IsAvoided}
+use Rattle.dsr_update_theory.specs.Avoided.IsAvoided.{named, given}
+use Rattle.dsr_update_theory.specs.Givers.{IsGiver}
 
 -- ---- the named sets
 

@@ -9,15 +9,15 @@ use Rattle.dsr_effect.specs.declared.touching.Touch.{Touch}
 use Rattle.dsr_ir.specs.Rules.{symbol_of}
 use Rattle.dsr_ir.specs.declared.rules.Rule.{Rule}
 use Rattle.dsr_meaning.proofs.Lists.{in_front_or_last}
-use Rattle.dsr_updating.specs.Changes.{Change}
-use Rattle.dsr_updating.specs.Effects.{MayChange, has_tag}
-use Rattle.dsr_updating.specs.Effects.MayChange.{gain_at_f, gain_at_w, loss_at_f, loss_at_w}
-use Rattle.dsr_updating.specs.Touching.{IsTouchedAtF, IsTouchedAtW}
-use Rattle.dsr_updating.specs.declared.effects.Tag.{Tag}
-use Rattle.dsr_updating.specs.declared.effects.Tag.TheVariants.{Written, Entry, Fresh, Any}
-use Rattle.dsr_updating.specs.declared.effects.Tags.{Tags}
-use Rattle.dsr_updating.specs.declared.effects.Direction.{Direction}
-use Rattle.dsr_updating.specs.declared.effects.Direction.TheVariants.{Gain, Loss}
+use Rattle.dsr_update_theory.specs.Changes.{Change}
+use Rattle.dsr_update_theory.specs.Effects.{MayChange, has_tag}
+use Rattle.dsr_update_theory.specs.Effects.MayChange.{gain_at_f, gain_at_w, loss_at_f, loss_at_w}
+use Rattle.dsr_update_theory.specs.Touching.{IsTouchedAtF, IsTouchedAtW}
+use Rattle.dsr_update_theory.specs.declared.effects.Tag.{Tag}
+use Rattle.dsr_update_theory.specs.declared.effects.Tag.TheVariants.{Written, Entry, Fresh, Any}
+use Rattle.dsr_update_theory.specs.declared.effects.Tags.{Tags}
+use Rattle.dsr_update_theory.specs.declared.effects.Direction.{Direction}
+use Rattle.dsr_update_theory.specs.declared.effects.Direction.TheVariants.{Gain, Loss}
 use Rattle.dsr_meaning.proofs.Items.{in_left, in_right}
 
 joined_has : (a b : Tags) (tag : Tag) → has_tag tag (joined a b) ≡ has_tag tag a || has_tag tag b

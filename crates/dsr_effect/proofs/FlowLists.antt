@@ -15,14 +15,14 @@ use Rattle.dsr_meaning.specs.Lists.{each_at}
 use Rattle.dsr_meaning.specs.Models.{base_of}
 use Rattle.dsr_meaning.proofs.Lists.{in_front_or_last, last_in}
 use Rattle.dsr_facts.proofs.Taking.{each_more}
-use Rattle.dsr_updating.specs.Changes.{Change}
-use Rattle.dsr_updating.specs.Effects.{IsLeftOut, other_direction}
-use Rattle.dsr_updating.specs.Givers.{is_own}
-use Rattle.dsr_updating.specs.Touching.{IsBlockedAtF, IsBlockedAtW}
-use Rattle.dsr_updating.specs.declared.effects.Tag.{Tag}
-use Rattle.dsr_updating.specs.declared.effects.Tag.TheVariants.{Written, Entry, Fresh, Any}
-use Rattle.dsr_updating.specs.declared.effects.Direction.{Direction}
-use Rattle.dsr_updating.specs.declared.effects.Direction.TheVariants.{Gain, Loss}
+use Rattle.dsr_update_theory.specs.Changes.{Change}
+use Rattle.dsr_update_theory.specs.Effects.{IsLeftOut, other_direction}
+use Rattle.dsr_update_theory.specs.Givers.{is_own}
+use Rattle.dsr_update_theory.specs.Touching.{IsBlockedAtF, IsBlockedAtW}
+use Rattle.dsr_update_theory.specs.declared.effects.Tag.{Tag}
+use Rattle.dsr_update_theory.specs.declared.effects.Tag.TheVariants.{Written, Entry, Fresh, Any}
+use Rattle.dsr_update_theory.specs.declared.effects.Direction.{Direction}
+use Rattle.dsr_update_theory.specs.declared.effects.Direction.TheVariants.{Gain, Loss}
 use Rattle.dsr_meaning.proofs.Items.{in_either, in_left, in_right}
 
 -- ---- what the premise of one rule hands on

@@ -9,10 +9,10 @@ use Rattle.dsr_effect.specs.Rows.IsHandedOn.{begins, goes}
 use Rattle.dsr_effect.specs.Settling.{AreHandedOn, AreKept, IsDone, count_missing, handed_on, missing, row_at}
 use Rattle.dsr_effect.specs.declared.flows.Flow.{Flow}
 use Rattle.dsr_meaning.specs.Counting.{IsIn}
-use Rattle.dsr_updating.specs.Effects.{has_tag}
-use Rattle.dsr_updating.specs.declared.effects.Tag.{Tag}
-use Rattle.dsr_updating.specs.declared.effects.Tag.TheVariants.{Written, Entry, Fresh, Any}
-use Rattle.dsr_updating.specs.declared.effects.Tags.{Tags}
+use Rattle.dsr_update_theory.specs.Effects.{has_tag}
+use Rattle.dsr_update_theory.specs.declared.effects.Tag.{Tag}
+use Rattle.dsr_update_theory.specs.declared.effects.Tag.TheVariants.{Written, Entry, Fresh, Any}
+use Rattle.dsr_update_theory.specs.declared.effects.Tags.{Tags}
 use Rattle.dsr_meaning.proofs.Items.{of_all}
 
 -- ---- truth

@@ -8,7 +8,7 @@ use Rattle.dsr_ir.specs.declared.rules.Test.{Test}
 use Rattle.dsr_ir.specs.declared.rules.Test.TheVariants.{Cmp, Legal, Illegal, IsNone, IsSome}
 use Rattle.dsr_meaning.specs.Cells.{width_bits}
 use Rattle.dsr_meaning.specs.Instances.{Compares, kind_pool}
-use Rattle.dsr_updating.specs.Values.{CellValue, ComesOut, IllegalReference, LegalReference, MayHold, NoneReference, Number, Passes}
+use Rattle.dsr_update_theory.specs.Values.{CellValue, ComesOut, IllegalReference, LegalReference, MayHold, NoneReference, Number, Passes}
 use Rattle.dsr_effect.specs.ValueSets.{Has, IsComparing, IsInRange, IsNumberIn, IsNumberWanted}
 use Rattle.dsr_effect.specs.declared.values.Values.{Values}
 

@@ -13,8 +13,8 @@ use Rattle.dsr_ir.specs.declared.rules.Rule.{Rule}
 use Rattle.dsr_ir.specs.declared.updates.Write.{Write}
 use Rattle.dsr_meaning.specs.Lists.{any_of}
 use Rattle.dsr_meaning.proofs.Lists.{in_front_or_last, last_in}
-use Rattle.dsr_updating.specs.Changes.{Change, is_at_entry, is_foreign, is_touched, reads_touched, target_paths, write_to}
-use Rattle.dsr_updating.specs.Touching.{IsBlockedAtW, IsSure, IsSureAtW, IsUnmovedAtW, LeavesNone, write_read}
+use Rattle.dsr_update_theory.specs.Changes.{Change, is_at_entry, is_foreign, is_touched, reads_touched, target_paths, write_to}
+use Rattle.dsr_update_theory.specs.Touching.{IsBlockedAtW, IsSure, IsSureAtW, IsUnmovedAtW, LeavesNone, write_read}
 use Rattle.dsr_effect.specs.Told.{AreRead, IsPathReading, IsReading, both}
 use Rattle.dsr_effect.specs.declared.readings.Reading.{Reading}
 use Rattle.dsr_effect.proofs.Guards.{EachIn, SomeIn}

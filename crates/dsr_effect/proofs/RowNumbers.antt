@@ -14,9 +14,9 @@ use Rattle.dsr_meaning.specs.Counting.{IsIn}
 use Rattle.dsr_meaning.specs.Models.{base_of}
 use Rattle.dsr_meaning.specs.Typed.{IsPlainSetOf, IsTyped, IsTypedInc, IsTypedRule, IsTypedSet}
 use Rattle.dsr_meaning.proofs.Firing.{found_fits}
-use Rattle.dsr_updating.specs.Effects.{IsDeclared}
-use Rattle.dsr_updating.specs.declared.effects.Direction.{Direction}
-use Rattle.dsr_updating.specs.declared.effects.Direction.TheVariants.{Gain, Loss}
+use Rattle.dsr_update_theory.specs.Effects.{IsDeclared}
+use Rattle.dsr_update_theory.specs.declared.effects.Direction.{Direction}
+use Rattle.dsr_update_theory.specs.declared.effects.Direction.TheVariants.{Gain, Loss}
 use Rattle.dsr_effect.proofs.ListItems.{within}
 use Rattle.dsr_meaning.proofs.Items.{of_all}
 

@@ -4,14 +4,14 @@ use Rattle.std.proofs.lemmas.Bool.{false≢true}
 use Rattle.dsr_effect.specs.Rows.{joined, no_tags, only}
 use Rattle.dsr_effect.specs.Told.{MayChangeAtF, MayChangeAtW}
 use Rattle.dsr_ir.specs.declared.rules.Rule.{Rule}
-use Rattle.dsr_updating.specs.Changes.{Change}
-use Rattle.dsr_updating.specs.Effects.{MayChange, has_tag}
-use Rattle.dsr_updating.specs.Effects.MayChange.{gain_at_f, gain_at_w, loss_at_f, loss_at_w}
-use Rattle.dsr_updating.specs.declared.effects.Tag.{Tag}
-use Rattle.dsr_updating.specs.declared.effects.Tag.TheVariants.{Written, Entry, Fresh, Any}
-use Rattle.dsr_updating.specs.declared.effects.Tags.{Tags}
-use Rattle.dsr_updating.specs.declared.effects.Direction.{Direction}
-use Rattle.dsr_updating.specs.declared.effects.Direction.TheVariants.{Gain, Loss}
+use Rattle.dsr_update_theory.specs.Changes.{Change}
+use Rattle.dsr_update_theory.specs.Effects.{MayChange, has_tag}
+use Rattle.dsr_update_theory.specs.Effects.MayChange.{gain_at_f, gain_at_w, loss_at_f, loss_at_w}
+use Rattle.dsr_update_theory.specs.declared.effects.Tag.{Tag}
+use Rattle.dsr_update_theory.specs.declared.effects.Tag.TheVariants.{Written, Entry, Fresh, Any}
+use Rattle.dsr_update_theory.specs.declared.effects.Tags.{Tags}
+use Rattle.dsr_update_theory.specs.declared.effects.Direction.{Direction}
+use Rattle.dsr_update_theory.specs.declared.effects.Direction.TheVariants.{Gain, Loss}
 
 own_tag : (tag : Tag) → has_tag tag (only tag) ≡ true
 own_tag Written = refl

@@ -12,9 +12,9 @@ use Rattle.dsr_ir.specs.declared.rules.Rule.{Rule}
 use Rattle.dsr_meaning.specs.Counting.{IsIn}
 use Rattle.dsr_meaning.specs.Instances.{pool_of_premise, premise_pool}
 use Rattle.dsr_meaning.specs.Typed.{IsPoolNumber, IsTyped, IsTypedSet, pool_at}
-use Rattle.dsr_updating.specs.Avoided.{IsAvoided}
-use Rattle.dsr_updating.specs.Changes.{fresh_pool}
-use Rattle.dsr_updating.specs.Touching.{IsKeptApartBy, IsTouchedAtF, named_by}
+use Rattle.dsr_update_theory.specs.Avoided.{IsAvoided}
+use Rattle.dsr_update_theory.specs.Changes.{fresh_pool}
+use Rattle.dsr_update_theory.specs.Touching.{IsKeptApartBy, IsTouchedAtF, named_by}
 use Rattle.dsr_effect.specs.Told.{IsTold, change_of}
 use Rattle.dsr_effect.specs.declared.changes.Change.{Change as OwnChange}
 use Rattle.dsr_meaning.proofs.Firing.{found_fits}

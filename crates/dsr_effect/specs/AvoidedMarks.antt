@@ -7,8 +7,8 @@ use Rattle.dsr_ir.specs.declared.declarations.Spec.{Spec}
 use Rattle.dsr_ir.specs.declared.rules.Rule.{Rule}
 use Rattle.dsr_ir.specs.declared.updates.Symbol.TheVariants.{Set}
 use Rattle.dsr_meaning.specs.Counting.{IsIn}
-use Rattle.dsr_updating.specs.Avoided.{IsAvoided}
-use Rattle.dsr_updating.specs.Givers.{is_own}
+use Rattle.dsr_update_theory.specs.Avoided.{IsAvoided}
+use Rattle.dsr_update_theory.specs.Givers.{is_own}
 
 -- the rule gives members of a premise that is marked
 pub record GivesAvoided (marks : List Bool) (rule : Rule) : Type 0 where

@@ -9,8 +9,8 @@ use Rattle.dsr_ir.specs.declared.updates.Goal.{Goal}
 use Rattle.dsr_ir.specs.declared.updates.Update.{Update}
 use Rattle.dsr_meaning.specs.Counting.{IsIn}
 use Rattle.dsr_meaning.specs.Typed.{IsTyped, IsTypedQuant}
-use Rattle.dsr_updating.specs.Changes.{Change}
-use Rattle.dsr_updating.specs.KnownSets.{IsKnown}
+use Rattle.dsr_update_theory.specs.Changes.{Change}
+use Rattle.dsr_update_theory.specs.KnownSets.{IsKnown}
 
 -- the variable's record is known to be a member of a set with which this one has no member in
 -- common

@@ -3,10 +3,10 @@ use Rattle.std.specs.Prelude.{◌≡◌, ◌<◌, ◌&&◌, ◌||◌, ℕ, Bool,
 use Rattle.std.specs.Option.{option_map_or}
 use Rattle.dsr_effect.specs.declared.flows.Flow.{Flow}
 use Rattle.dsr_meaning.specs.Counting.{IsIn}
-use Rattle.dsr_updating.specs.Effects.{has_tag}
-use Rattle.dsr_updating.specs.declared.effects.Tag.{Tag}
-use Rattle.dsr_updating.specs.declared.effects.Tag.TheVariants.{Written, Entry, Fresh, Any}
-use Rattle.dsr_updating.specs.declared.effects.Tags.{Tags}
+use Rattle.dsr_update_theory.specs.Effects.{has_tag}
+use Rattle.dsr_update_theory.specs.declared.effects.Tag.{Tag}
+use Rattle.dsr_update_theory.specs.declared.effects.Tag.TheVariants.{Written, Entry, Fresh, Any}
+use Rattle.dsr_update_theory.specs.declared.effects.Tags.{Tags}
 
 abbrev pub no_tags : Tags
 no_tags = record { written = false; entry = false; fresh = false; any = false }

@@ -2,8 +2,8 @@
 use Rattle.std.specs.Prelude.{◌≡◌, ◌+◌, ℕ, true, List, cond, slice_index_or, slice_set, sum_by}
 use Rattle.dsr_effect.specs.Rows.{IsHandedOn, has_row_tag, joined, no_tags, passed_tags}
 use Rattle.dsr_effect.specs.declared.flows.Flow.{Flow}
-use Rattle.dsr_updating.specs.declared.effects.Tag.{Tag}
-use Rattle.dsr_updating.specs.declared.effects.Tags.{Tags}
+use Rattle.dsr_update_theory.specs.declared.effects.Tag.{Tag}
+use Rattle.dsr_update_theory.specs.declared.effects.Tags.{Tags}
 
 abbrev pub row_at : List Tags → ℕ → Tags
 row_at rows row = slice_index_or rows row no_tags

@@ -11,12 +11,12 @@ use Rattle.dsr_ir.specs.declared.updates.Symbol.{Symbol}
 use Rattle.dsr_ir.specs.declared.updates.Symbol.TheVariants.{Set}
 use Rattle.dsr_meaning.specs.Counting.{IsIn}
 use Rattle.dsr_meaning.specs.Models.{base_of}
-use Rattle.dsr_updating.specs.Changes.{Change}
-use Rattle.dsr_updating.specs.Effects.{IsLeftOut, MayChange, other_direction, symbol_number}
-use Rattle.dsr_updating.specs.Givers.{is_own}
-use Rattle.dsr_updating.specs.declared.effects.Tag.{Tag}
-use Rattle.dsr_updating.specs.declared.effects.Direction.{Direction}
-use Rattle.dsr_updating.specs.declared.effects.Direction.TheVariants.{Gain, Loss}
+use Rattle.dsr_update_theory.specs.Changes.{Change}
+use Rattle.dsr_update_theory.specs.Effects.{IsLeftOut, MayChange, other_direction, symbol_number}
+use Rattle.dsr_update_theory.specs.Givers.{is_own}
+use Rattle.dsr_update_theory.specs.declared.effects.Tag.{Tag}
+use Rattle.dsr_update_theory.specs.declared.effects.Direction.{Direction}
+use Rattle.dsr_update_theory.specs.declared.effects.Direction.TheVariants.{Gain, Loss}
 
 abbrev pub symbol_count : Structures → ℕ
 symbol_count base = length base.sets + length base.rels

@@ -15,14 +15,14 @@ use Rattle.dsr_effect.specs.declared.values.Values.{Values}
 use Rattle.dsr_meaning.specs.Counting.{IsIn}
 use Rattle.dsr_meaning.specs.Lists.{any_of}
 use Rattle.dsr_meaning.specs.Typed.{IsTyped}
-use Rattle.dsr_updating.specs.Avoided.{IsAvoided}
-use Rattle.dsr_updating.specs.Changes.{Change, are_related, fresh_pool, is_at_entry, is_foreign, is_touched, is_written, reads_touched, written_pool}
-use Rattle.dsr_updating.specs.Effects.{tag_at_f, tag_at_w}
-use Rattle.dsr_updating.specs.Touching.{IsBlockedAtF, IsBlockedAtW, IsKeptApartBy, IsSure, IsSureAtW, IsTouchedAtF, IsTouchedAtW, IsUnmovedAtW, Leaves, LeavesNone, StaysAtF, StaysAtW, named_by, write_read}
-use Rattle.dsr_updating.specs.Values.{CellValue}
-use Rattle.dsr_updating.specs.declared.effects.Tag.{Tag}
-use Rattle.dsr_updating.specs.declared.effects.Direction.{Direction}
-use Rattle.dsr_updating.specs.declared.effects.Direction.TheVariants.{Gain, Loss}
+use Rattle.dsr_update_theory.specs.Avoided.{IsAvoided}
+use Rattle.dsr_update_theory.specs.Changes.{Change, are_related, fresh_pool, is_at_entry, is_foreign, is_touched, is_written, reads_touched, written_pool}
+use Rattle.dsr_update_theory.specs.Effects.{tag_at_f, tag_at_w}
+use Rattle.dsr_update_theory.specs.Touching.{IsBlockedAtF, IsBlockedAtW, IsKeptApartBy, IsSure, IsSureAtW, IsTouchedAtF, IsTouchedAtW, IsUnmovedAtW, Leaves, LeavesNone, StaysAtF, StaysAtW, named_by, write_read}
+use Rattle.dsr_update_theory.specs.Values.{CellValue}
+use Rattle.dsr_update_theory.specs.declared.effects.Tag.{Tag}
+use Rattle.dsr_update_theory.specs.declared.effects.Direction.{Direction}
+use Rattle.dsr_update_theory.specs.declared.effects.Direction.TheVariants.{Gain, Loss}
 
 -- the update
 abbrev pub change_of : OwnChange → Change

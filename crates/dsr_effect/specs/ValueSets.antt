@@ -7,7 +7,7 @@ use Rattle.dsr_ir.specs.declared.rules.Op.{Op}
 use Rattle.dsr_ir.specs.declared.rules.Test.{Test}
 use Rattle.dsr_meaning.specs.Cells.{width_bits}
 use Rattle.dsr_meaning.specs.Instances.{Compares}
-use Rattle.dsr_updating.specs.Values.{CellValue, ComesOut, IllegalReference, LegalReference, NoneReference, Number}
+use Rattle.dsr_update_theory.specs.Values.{CellValue, ComesOut, IllegalReference, LegalReference, NoneReference, Number}
 
 abbrev pub IsInRange : Range → ℕ → Type 0
 IsInRange range n = (range.first ≤ n) × (n ≤ range.last)

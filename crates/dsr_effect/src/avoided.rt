@@ -4,7 +4,7 @@ ghost use Rattle.dsr_effect.specs.AvoidedMarks.{AreAvoided, AreNamed, AreStillMa
 ghost use Rattle.dsr_facts.specs.Marks.{IsMarked};
 ghost use Rattle.dsr_meaning.specs.Counting.{IsIn};
 ghost use Rattle.dsr_meaning.specs.Typed.{IsTyped};
-ghost use Rattle.dsr_updating.specs.Avoided.{IsAvoided};
+ghost use Rattle.dsr_update_theory.specs.Avoided.{IsAvoided};
 
 use dsr_facts::MOST_SETS;
 use dsr_ir::{Inc, Rule, Spec, Symbol};

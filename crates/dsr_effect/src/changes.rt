@@ -3,7 +3,7 @@ ghost use Rattle.std.specs.Prelude.{◌≡◌, option_map};
 ghost use Rattle.dsr_effect.specs.Told as told;
 ghost use Rattle.dsr_effect.specs.Told.{IsTold, change_of};
 ghost use Rattle.dsr_meaning.specs.Lists.{any_of};
-ghost use Rattle.dsr_updating.specs.Changes as said;
+ghost use Rattle.dsr_update_theory.specs.Changes as said;
 
 use crate::fields::{MOST_STRUCTURES, is_foreign};
 use dsr_facts::MOST_SETS;

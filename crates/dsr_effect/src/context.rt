@@ -3,18 +3,18 @@ ghost use Rattle.std.specs.Prelude.{◌≡◌, ◌<◌, ◌↔◌, ℕ, [], IfOk
 ghost use Rattle.dsr_effect.specs.Contexts.{IsApartFrom, IsContextOf, IsSound, change_for, change_in};
 ghost use Rattle.dsr_effect.specs.Told.{ChangesAtW, IsTold, change_of};
 ghost use Rattle.dsr_ir.specs.declared.rules.Rule.{Rule as RuleOf};
-ghost use Rattle.dsr_updating.specs.declared.effects.Direction.TheVariants.{Gain};
+ghost use Rattle.dsr_update_theory.specs.declared.effects.Direction.TheVariants.{Gain};
 ghost use Rattle.dsr_goal.specs.Knowing.{known_by};
 ghost use Rattle.dsr_effect.specs.Table.{symbol_count};
 ghost use Rattle.dsr_ir.specs.declared.updates.Goal.{Goal as GoalOf};
 ghost use Rattle.dsr_ir.specs.declared.updates.Update.{Update as UpdateOf};
-ghost use Rattle.dsr_updating.specs.Touching.{IsKeptApartBy};
+ghost use Rattle.dsr_update_theory.specs.Touching.{IsKeptApartBy};
 ghost use Rattle.dsr_ir.specs.declared.updates.Symbol.{Symbol as SymbolOf};
 ghost use Rattle.dsr_meaning.specs.Counting.{IsIn};
-ghost use Rattle.dsr_updating.specs.Avoided.{IsAvoided};
-ghost use Rattle.dsr_updating.specs.Effects.{InTable, IsDeclared, changes};
-ghost use Rattle.dsr_updating.specs.declared.effects.Tag.{Tag as TagOf};
-ghost use Rattle.dsr_updating.specs.declared.effects.Direction.{Direction as DirectionOf};
+ghost use Rattle.dsr_update_theory.specs.Avoided.{IsAvoided};
+ghost use Rattle.dsr_update_theory.specs.Effects.{InTable, IsDeclared, changes};
+ghost use Rattle.dsr_update_theory.specs.declared.effects.Tag.{Tag as TagOf};
+ghost use Rattle.dsr_update_theory.specs.declared.effects.Direction.{Direction as DirectionOf};
 ghost use Rattle.dsr_meaning.specs.Typed.{IsTyped, IsTypedQuant};
 
 use crate::avoided::avoided_sets;
@@ -24,7 +24,7 @@ use crate::rows::effect_of;
 use dsr_facts::{Facts, MOST_SETS};
 use dsr_goal::Known;
 use dsr_ir::{Goal, NoMemory, Place, Pool, Quant, Spec, Update, Var};
-use dsr_updating::Effect;
+use dsr_update_theory::Effect;
 use std::alloc::Global;
 
 // The most rules of a specification.

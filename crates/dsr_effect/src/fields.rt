@@ -4,7 +4,7 @@ ghost use Rattle.dsr_effect.specs.Told.{is_foreign_structure};
 ghost use Rattle.dsr_meaning.specs.Instances as meaning;
 ghost use Rattle.dsr_meaning.specs.Typed as typed;
 ghost use Rattle.dsr_meaning.specs.Typed.{AreTyped};
-ghost use Rattle.dsr_updating.specs.Changes as said;
+ghost use Rattle.dsr_update_theory.specs.Changes as said;
 
 use dsr_ir::{Place, Pool, Quant, Spec, Structure, Structures, Var, Write};
 use dsr_layout::premise_pool;

@@ -1,9 +1,9 @@
 // Whether instances of a rule at the written and at the fresh record fire after an update.
 ghost use Rattle.std.specs.Prelude.{◌≡◌, Decides, Some, option_and_then, option_map, slice_get};
 ghost use Rattle.dsr_effect.specs.Told.{AsksAllButTarget, IsReading, IsTold, change_of};
-ghost use Rattle.dsr_updating.specs.Touching as said;
-ghost use Rattle.dsr_updating.specs.Values.{NoneReference, reset_of};
-ghost use Rattle.dsr_updating.specs.Touching.{IsBlockedAtF, IsQuiet, IsSureAtF, StaysAtF, StaysAtW};
+ghost use Rattle.dsr_update_theory.specs.Touching as said;
+ghost use Rattle.dsr_update_theory.specs.Values.{NoneReference, reset_of};
+ghost use Rattle.dsr_update_theory.specs.Touching.{IsBlockedAtF, IsQuiet, IsSureAtF, StaysAtF, StaysAtW};
 
 use crate::changes::Change;
 use crate::fields::descends;

@@ -2,10 +2,10 @@
 ghost use Rattle.std.specs.Prelude.{◌≡◌, ◌<◌, ◌↔◌, ℕ, All, IsTrue, MatchBool, length};
 ghost use Rattle.dsr_effect.specs.Rows.{IsBetween, IsHandedOn, has_row_tag, open_tags, passed_tags};
 ghost use Rattle.dsr_effect.specs.Settling.{AreHandedOn, AreKept, IsDone, handed_on, missing};
-ghost use Rattle.dsr_updating.specs.declared.effects.Tag.{Tag as TagOf};
+ghost use Rattle.dsr_update_theory.specs.declared.effects.Tag.{Tag as TagOf};
 
 use crate::tags::{NO_TAGS, is_some, joined, only};
-use dsr_updating::{Tag, Tags};
+use dsr_update_theory::{Tag, Tags};
 
 /// What one row hands on to another one.
 #[derive(Clone, Copy)]

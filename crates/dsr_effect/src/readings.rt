@@ -2,8 +2,8 @@
 ghost use Rattle.std.specs.Prelude.{◌≡◌, Decides, false, true};
 ghost use Rattle.dsr_effect.specs.Told as told;
 ghost use Rattle.dsr_effect.specs.Told.{AreRead, IsGuardReading, IsLeft, IsReading, IsTargetReading, IsTold, change_of};
-ghost use Rattle.dsr_updating.specs.Touching as said;
-ghost use Rattle.dsr_updating.specs.Touching.{IsSure, LeavesNone};
+ghost use Rattle.dsr_update_theory.specs.Touching as said;
+ghost use Rattle.dsr_update_theory.specs.Touching.{IsSure, LeavesNone};
 
 use crate::changes::Change;
 use crate::values::Values;

@@ -10,11 +10,11 @@ ghost use Rattle.dsr_ir.specs.declared.updates.Symbol.{Symbol as SymbolOf};
 ghost use Rattle.dsr_meaning.specs.Counting.{IsIn};
 ghost use Rattle.dsr_meaning.specs.Lists.{each_at};
 ghost use Rattle.dsr_meaning.specs.Typed.{AreTyped};
-ghost use Rattle.dsr_updating.specs.Effects as said;
-ghost use Rattle.dsr_updating.specs.Effects.{InTable, IsDeclared, MayChange, changes, has_tag};
-ghost use Rattle.dsr_updating.specs.declared.effects.Tag.{Tag as TagOf};
-ghost use Rattle.dsr_updating.specs.declared.effects.Direction.{Direction as DirectionOf};
-ghost use Rattle.dsr_updating.specs.declared.effects.Direction.TheVariants.{Gain, Loss};
+ghost use Rattle.dsr_update_theory.specs.Effects as said;
+ghost use Rattle.dsr_update_theory.specs.Effects.{InTable, IsDeclared, MayChange, changes, has_tag};
+ghost use Rattle.dsr_update_theory.specs.declared.effects.Tag.{Tag as TagOf};
+ghost use Rattle.dsr_update_theory.specs.declared.effects.Direction.{Direction as DirectionOf};
+ghost use Rattle.dsr_update_theory.specs.declared.effects.Direction.TheVariants.{Gain, Loss};
 
 use crate::changes::Change;
 use crate::flows::{Flow, settle};
@@ -22,7 +22,7 @@ use crate::readings::Reading;
 use crate::tags::{NO_TAGS, is_some, joined};
 use crate::touching::{Touch, is_own};
 use dsr_ir::{NoMemory, Rule, Seq, SetDecl, Structures, Symbol};
-use dsr_updating::{Direction, Effect, Tags};
+use dsr_update_theory::{Direction, Effect, Tags};
 use std::alloc::Global;
 
 // How many symbols there are.

@@ -2,7 +2,7 @@
 ghost use Rattle.std.specs.Prelude.{◌≡◌};
 ghost use Rattle.dsr_effect.specs.Rows as rows;
 
-use dsr_updating::{Tag, Tags};
+use dsr_update_theory::{Tag, Tags};
 
 /// No tag.
 pub const NO_TAGS: Tags = Tags {

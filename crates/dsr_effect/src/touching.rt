@@ -2,12 +2,12 @@
 ghost use Rattle.std.specs.Prelude.{◌≡◌, ◌↔◌, ◌||◌, Decides, IsTrue};
 ghost use Rattle.dsr_effect.specs.Told.{ChangesAtF, ChangesAtW, IsReading, IsTold, IsTouchOf, MayChangeAtF, MayChangeAtW, change_of};
 ghost use Rattle.dsr_meaning.specs.Counting.{IsIn};
-ghost use Rattle.dsr_updating.specs.Effects as said;
-ghost use Rattle.dsr_updating.specs.Effects.{MayChange, has_tag};
-ghost use Rattle.dsr_updating.specs.Givers as givers;
-ghost use Rattle.dsr_updating.specs.Touching.{IsKeptApartBy, IsTouchedAtF, IsTouchedAtW};
-ghost use Rattle.dsr_updating.specs.declared.effects.Tag.{Tag as TagOf};
-ghost use Rattle.dsr_updating.specs.declared.effects.Direction.TheVariants.{Gain};
+ghost use Rattle.dsr_update_theory.specs.Effects as said;
+ghost use Rattle.dsr_update_theory.specs.Effects.{MayChange, has_tag};
+ghost use Rattle.dsr_update_theory.specs.Givers as givers;
+ghost use Rattle.dsr_update_theory.specs.Touching.{IsKeptApartBy, IsTouchedAtF, IsTouchedAtW};
+ghost use Rattle.dsr_update_theory.specs.declared.effects.Tag.{Tag as TagOf};
+ghost use Rattle.dsr_update_theory.specs.declared.effects.Direction.TheVariants.{Gain};
 
 use crate::avoided::is_marked;
 use crate::changes::Change;
@@ -15,7 +15,7 @@ use crate::readings::Reading;
 use crate::tags::{NO_TAGS, joined, only};
 use dsr_ir::{FieldRef, Inc, Pick, Place, Rule};
 use dsr_layout::premise_pool;
-use dsr_updating::{Direction, Tag, Tags};
+use dsr_update_theory::{Direction, Tag, Tags};
 
 /// Whether the record itself is the member or the source.
 pub fn is_own(inc: &Inc) -> bool

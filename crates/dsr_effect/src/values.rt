@@ -4,7 +4,7 @@ ghost use Rattle.dsr_ir.specs.declared.rules.Test.TheVariants.{Cmp};
 ghost use Rattle.dsr_meaning.specs.Cells as cells;
 ghost use Rattle.dsr_meaning.specs.Instances.{Compares};
 ghost use Rattle.dsr_meaning.specs.Placeable.{IsLegalWidth};
-ghost use Rattle.dsr_updating.specs.Values.{CellValue, ComesOut, IllegalReference, IsPicked, LegalReference, MayHold, MayLeave, NoneReference, Number, Passes, reset_of};
+ghost use Rattle.dsr_update_theory.specs.Values.{CellValue, ComesOut, IllegalReference, IsPicked, LegalReference, MayHold, MayLeave, NoneReference, Number, Passes, reset_of};
 ghost use Rattle.dsr_effect.specs.ValueSets.{AllReferencesComeOut, Has, HasNumber, IsComparing, IsInRange, IsNumberIn, IsNumberWanted, IsReferenceOf, IsReferenceWanted};
 
 use dsr_ir::{Field, Kind, Op, Pick, Test, Width, Write};

@@ -24,15 +24,15 @@ use Rattle.dsr_meaning.specs.Instances.{Gives, GuardHolds, HasTarget, Includes, 
 use Rattle.dsr_meaning.specs.Models.{Chain, IsDerived, IsDerivedBy}
 use Rattle.dsr_meaning.specs.Models.Chain.{begin, follow}
 use Rattle.dsr_meaning.specs.Typed.{IsTypedInc, IsTypedRule, Reads}
-use Rattle.dsr_stepping.specs.declared.steps.Step.{Step}
-use Rattle.dsr_updating.specs.Avoided.{IsAvoided}
-use Rattle.dsr_updating.specs.Changes.{Change}
-use Rattle.dsr_updating.specs.Givers.{IsGiver}
-use Rattle.dsr_updating.specs.Touching.{AsksAllOf, IsQuiet}
+use Rattle.dsr_step_theory.specs.declared.steps.Step.{Step}
+use Rattle.dsr_update_theory.specs.Avoided.{IsAvoided}
+use Rattle.dsr_update_theory.specs.Changes.{Change}
+use Rattle.dsr_update_theory.specs.Givers.{IsGiver}
+use Rattle.dsr_update_theory.specs.Touching.{AsksAllOf, IsQuiet}
 use Rattle.dsr_effect_laws.specs.Judged.{IsSilent}
 use Rattle.dsr_effect_laws.proofs.ChainChanges.{HasPremise}
 use Rattle.dsr_effect_laws.proofs.GivenFacts.{own_subject, target_there}
-use Rattle.dsr_stepped.proofs.GivenSymbols.{giver_of}
+use Rattle.dsr_step_laws.proofs.GivenSymbols.{giver_of}
 use Rattle.dsr_meaning.proofs.Options.{some_and}
 use Rattle.dsr_meaning.proofs.Items.{all_of, of_all}
 

@@ -1,19 +1,19 @@
 -- A complement gains what its base loses, and loses what that gains.
 use Rattle.std.proofs.Common.{◌≡◌, ◌⊎◌, ℕ, List, Option, None, Some, inl, inr, refl, sym, subst}
-use Rattle.dsr_applying.specs.Changed.{IsGained, IsGainedBy}
+use Rattle.dsr_repair_theory.specs.Changed.{IsGained, IsGainedBy}
 use Rattle.dsr_ir.specs.declared.layouts.Layout.{Layout}
 use Rattle.dsr_ir.specs.declared.tuples.Element.{Element}
 use Rattle.dsr_ir.specs.declared.tuples.Fact.{Fact}
 use Rattle.dsr_ir.specs.declared.tuples.Fact.TheVariants.{Member, Pair}
 use Rattle.dsr_ir.specs.declared.tuples.Instance.{Instance}
 use Rattle.dsr_meaning.specs.Models.{IsDerived, IsDerivedBy, IsInComplement, IsMemberBy, base_of}
-use Rattle.dsr_stepping.specs.declared.steps.Step.{Step}
-use Rattle.dsr_updating.specs.Changes.{Change}
-use Rattle.dsr_updating.specs.Effects.{InTable, other_direction}
-use Rattle.dsr_updating.specs.Effects.InTable.{swapped}
+use Rattle.dsr_step_theory.specs.declared.steps.Step.{Step}
+use Rattle.dsr_update_theory.specs.Changes.{Change}
+use Rattle.dsr_update_theory.specs.Effects.{InTable, other_direction}
+use Rattle.dsr_update_theory.specs.Effects.InTable.{swapped}
 use Rattle.dsr_ir.specs.declared.updates.Symbol.TheVariants.{Set}
-use Rattle.dsr_updating.specs.declared.effects.Direction.{Direction}
-use Rattle.dsr_updating.specs.declared.effects.Direction.TheVariants.{Gain, Loss}
+use Rattle.dsr_update_theory.specs.declared.effects.Direction.{Direction}
+use Rattle.dsr_update_theory.specs.declared.effects.Direction.TheVariants.{Gain, Loss}
 use Rattle.dsr_effect_laws.specs.Allowed.{Lies}
 
 back : (direction : Direction) → other_direction (other_direction direction) ≡ direction

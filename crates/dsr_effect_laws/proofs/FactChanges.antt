@@ -1,9 +1,9 @@
 -- Facts that come and go lie in the table, and what no tag allows stays.
 use Rattle.std.proofs.Common.{◌≡◌, ◌⊎◌, ℕ, List, Option, None, Some, inl, inr, refl, subst}
-use Rattle.dsr_decided.proofs.Active.{active_decided}
-use Rattle.dsr_decided.proofs.Instances.{compared_facts}
-use Rattle.dsr_decided.proofs.Models.{chains_decided, facts_listed}
-use Rattle.dsr_decided.proofs.Truths.{fact_decided}
+use Rattle.dsr_model_laws.proofs.Active.{active_decided}
+use Rattle.dsr_model_laws.proofs.Instances.{compared_facts}
+use Rattle.dsr_model_laws.proofs.Models.{chains_decided, facts_listed}
+use Rattle.dsr_model_laws.proofs.Truths.{fact_decided}
 use Rattle.dsr_ir.specs.declared.layouts.Layout.{Layout}
 use Rattle.dsr_ir.specs.declared.tuples.Element.{Element}
 use Rattle.dsr_ir.specs.declared.tuples.Fact.{Fact}
@@ -12,14 +12,14 @@ use Rattle.dsr_ir.specs.declared.tuples.Instance.{Instance}
 use Rattle.dsr_meaning.proofs.Firing.{derived_once}
 use Rattle.dsr_meaning.specs.Legal.{IsLegalLayout}
 use Rattle.dsr_meaning.specs.Models.{IsDerived, IsDerivedBy, IsFact, IsMemberBy, base_of}
-use Rattle.dsr_stepping.specs.declared.steps.Step.{Step}
-use Rattle.dsr_updating.specs.Changes.{Change}
-use Rattle.dsr_updating.specs.Effects.{other_direction}
-use Rattle.dsr_updating.specs.declared.effects.Direction.{Direction}
-use Rattle.dsr_updating.specs.declared.effects.Direction.TheVariants.{Gain, Loss}
+use Rattle.dsr_step_theory.specs.declared.steps.Step.{Step}
+use Rattle.dsr_update_theory.specs.Changes.{Change}
+use Rattle.dsr_update_theory.specs.Effects.{other_direction}
+use Rattle.dsr_update_theory.specs.declared.effects.Direction.{Direction}
+use Rattle.dsr_update_theory.specs.declared.effects.Direction.TheVariants.{Gain, Loss}
 use Rattle.dsr_effect_laws.specs.Allowed.{Lies}
 use Rattle.dsr_effect_laws.specs.Judged.{IsMadeAsJudged}
-use Rattle.dsr_applying.specs.Changed.{IsGained, IsLost}
+use Rattle.dsr_repair_theory.specs.Changed.{IsGained, IsLost}
 use Rattle.dsr_effect_laws.proofs.Complements.{gained, joined}
 use Rattle.dsr_effect_laws.proofs.InstanceChanges.{newly_derived, newly_given, no_more_derived, no_more_given}
 use Rattle.dsr_effect_laws.proofs.TestedValues.{AreTold}

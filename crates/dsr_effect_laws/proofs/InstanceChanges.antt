@@ -16,23 +16,23 @@ use Rattle.dsr_meaning.specs.Counting.{IsIn}
 use Rattle.dsr_meaning.specs.Instances.{Gives, Includes, LeadsTo, pool_of_premise}
 use Rattle.dsr_meaning.specs.Models.{IsDerived, IsDerivedBy}
 use Rattle.dsr_meaning.specs.Typed.{IsTypedRule}
-use Rattle.dsr_stepping.specs.declared.steps.Step.{Step}
-use Rattle.dsr_updating.specs.Avoided.{IsAvoided}
-use Rattle.dsr_updating.specs.Changes.{Change, fresh_pool, is_at_entry}
-use Rattle.dsr_updating.specs.Effects.{InTable, IsLeftOut, gets_fresh, is_gain, tag_at_f, tag_at_w, tag_passed}
-use Rattle.dsr_updating.specs.Effects.InTable.{touched, passed}
-use Rattle.dsr_updating.specs.Effects.MayChange.{gain_at_f, gain_at_w, loss_at_f, loss_at_w}
-use Rattle.dsr_updating.specs.Touching.{IsKeptApartBy, IsTouchedAtF, IsTouchedAtW, StaysAtW, named_by}
-use Rattle.dsr_updating.specs.declared.effects.Direction.{Direction}
-use Rattle.dsr_updating.specs.declared.effects.Direction.TheVariants.{Gain, Loss}
-use Rattle.dsr_updating.specs.declared.effects.Tag.{Tag}
-use Rattle.dsr_updating.specs.declared.effects.Tag.TheVariants.{Written, Entry, Fresh, Any}
+use Rattle.dsr_step_theory.specs.declared.steps.Step.{Step}
+use Rattle.dsr_update_theory.specs.Avoided.{IsAvoided}
+use Rattle.dsr_update_theory.specs.Changes.{Change, fresh_pool, is_at_entry}
+use Rattle.dsr_update_theory.specs.Effects.{InTable, IsLeftOut, gets_fresh, is_gain, tag_at_f, tag_at_w, tag_passed}
+use Rattle.dsr_update_theory.specs.Effects.InTable.{touched, passed}
+use Rattle.dsr_update_theory.specs.Effects.MayChange.{gain_at_f, gain_at_w, loss_at_f, loss_at_w}
+use Rattle.dsr_update_theory.specs.Touching.{IsKeptApartBy, IsTouchedAtF, IsTouchedAtW, StaysAtW, named_by}
+use Rattle.dsr_update_theory.specs.declared.effects.Direction.{Direction}
+use Rattle.dsr_update_theory.specs.declared.effects.Direction.TheVariants.{Gain, Loss}
+use Rattle.dsr_update_theory.specs.declared.effects.Tag.{Tag}
+use Rattle.dsr_update_theory.specs.declared.effects.Tag.TheVariants.{Written, Entry, Fresh, Any}
 use Rattle.dsr_effect_laws.specs.Allowed.{Allows, Lies, subject_of}
 use Rattle.dsr_effect_laws.specs.Judged.{IsMadeAsJudged}
 use Rattle.dsr_effect_laws.proofs.AvoidedSets.{avoided_free, quiet_silent}
 use Rattle.dsr_effect_laws.proofs.ChainChanges.{HasPremise, changed, derived_changed}
 use Rattle.dsr_effect_laws.proofs.GivenFacts.{gives_same}
-use Rattle.dsr_stepped.proofs.GivenSymbols.{symbol_is}
+use Rattle.dsr_step_laws.proofs.GivenSymbols.{symbol_is}
 use Rattle.dsr_effect_laws.proofs.RulePaths.{in_target}
 use Rattle.dsr_effect_laws.proofs.GuardsAfter.{IsAtW, not_blocked, not_blocked_fresh, stays_fresh, unmoved_gives}
 use Rattle.dsr_effect_laws.proofs.TouchedInstances.{IsTouchedThere, placed}

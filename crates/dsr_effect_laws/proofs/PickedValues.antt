@@ -20,9 +20,9 @@ use Rattle.dsr_meaning.specs.Instances.{Meets, kind_pool, referred_pool}
 use Rattle.dsr_meaning.specs.References.{IsLegal, IsNoneOf}
 use Rattle.dsr_meaning.specs.Refusals.{is_code_below}
 use Rattle.dsr_meaning.specs.Truth.{element_of}
-use Rattle.dsr_stepping.specs.Steps.{IsSlot, code_of, picked_number}
-use Rattle.dsr_stepping.specs.declared.steps.Step.{Step}
-use Rattle.dsr_updating.specs.Values.{CellValue, Number, LegalReference, IllegalReference, NoneReference, IsPicked, MayHold, MayLeaveWanted}
+use Rattle.dsr_step_theory.specs.Steps.{IsSlot, code_of, picked_number}
+use Rattle.dsr_step_theory.specs.declared.steps.Step.{Step}
+use Rattle.dsr_update_theory.specs.Values.{CellValue, Number, LegalReference, IllegalReference, NoneReference, IsPicked, MayHold, MayLeaveWanted}
 use Rattle.dsr_effect_laws.specs.Leaving.{IsTestOf, StandsFor}
 use Rattle.std.proofs.lemmas.Bool.{cases_eq}
 use Rattle.dsr_effect_laws.proofs.TestedValues.{AreTold, meets_passes, passes_meets}

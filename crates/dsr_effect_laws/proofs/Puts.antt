@@ -12,9 +12,9 @@ use Rattle.dsr_meaning.specs.Counting.{IsIn}
 use Rattle.dsr_meaning.specs.Lists.{each_at}
 use Rattle.dsr_meaning.specs.Writes.{AreCellsApart}
 use Rattle.std.proofs.lemmas.Bool.{cases_eq}
-use Rattle.dsr_kept.proofs.EachPut.{AreEach, Put}
-use Rattle.dsr_stepping.specs.Puts.{ArePut, IsPut}
-use Rattle.dsr_stepping.specs.Puts.ArePut.{done, put}
+use Rattle.dsr_repair_laws.proofs.EachPut.{AreEach, Put}
+use Rattle.dsr_step_theory.specs.Puts.{ArePut, IsPut}
+use Rattle.dsr_step_theory.specs.Puts.ArePut.{done, put}
 
 -- one of them is of the kind
 abbrev pub HasSome : (Put → Type 0) → List Put → Type 0

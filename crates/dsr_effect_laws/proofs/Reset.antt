@@ -10,17 +10,17 @@ use Rattle.dsr_ir.specs.declared.layouts.Cell.{Cell}
 use Rattle.dsr_ir.specs.declared.layouts.Layout.{Layout}
 use Rattle.dsr_ir.specs.declared.layouts.PoolNumbers.{PoolNumbers}
 use Rattle.dsr_ir.specs.declared.tuples.Element.{Element}
-use Rattle.dsr_kept.proofs.Clear.{puts_as_long}
-use Rattle.dsr_kept.proofs.EachPut.{AreEach, IsFieldPut, Put, record_each, reset_each, zeros_each}
-use Rattle.dsr_kept.proofs.EntryOnce.{is_formed}
-use Rattle.dsr_kept.proofs.HeadApart.{LiesInSlot}
-use Rattle.dsr_kept.proofs.ResetPuts.{byte_lies, entry_lies}
+use Rattle.dsr_repair_laws.proofs.Clear.{puts_as_long}
+use Rattle.dsr_repair_laws.proofs.EachPut.{AreEach, IsFieldPut, Put, record_each, reset_each, zeros_each}
+use Rattle.dsr_repair_laws.proofs.EntryOnce.{is_formed}
+use Rattle.dsr_repair_laws.proofs.HeadApart.{LiesInSlot}
+use Rattle.dsr_repair_laws.proofs.ResetPuts.{byte_lies, entry_lies}
 use Rattle.dsr_meaning.proofs.Options.{and_some}
 use Rattle.dsr_meaning.specs.Cells.{bit_of, cell_value, record_start}
 use Rattle.dsr_meaning.specs.Writes.{IsBitOf}
-use Rattle.dsr_stepping.specs.Puts.{ArePut}
-use Rattle.dsr_stepping.specs.Puts.ArePut.{done, put}
-use Rattle.dsr_stepping.specs.Resets.{byte_cell, record_puts, reset_puts, slot_zeros, zeros}
+use Rattle.dsr_step_theory.specs.Puts.{ArePut}
+use Rattle.dsr_step_theory.specs.Puts.ArePut.{done, put}
+use Rattle.dsr_step_theory.specs.Resets.{byte_cell, record_puts, reset_puts, slot_zeros, zeros}
 use Rattle.dsr_update.proofs.ByteCells.{byte_value}
 use Rattle.dsr_update.proofs.RecordEntries.{has_entry, legal_where_small}
 use Rattle.dsr_update.proofs.RecordSlots.{in_pool, start_is}

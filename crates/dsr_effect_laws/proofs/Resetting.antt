@@ -3,8 +3,8 @@ use Rattle.std.proofs.Common.{◌≡◌, ◌+◌, ◌⊎◌, ◌∙◌, ℕ, Lis
 use Rattle.std.specs.List.{flat_map}
 use Rattle.std.specs.Option.{option_map_or}
 use Rattle.std.proofs.lemmas.Option.{same_Some}
-use Rattle.dsr_apart.proofs.Fields.{in_other_fields}
-use Rattle.dsr_apart.specs.Entries.{IsEntry}
+use Rattle.dsr_layout_laws.proofs.Fields.{in_other_fields}
+use Rattle.dsr_layout_laws.specs.Entries.{IsEntry}
 use Rattle.dsr_ir.specs.Layouts.{field_place}
 use Rattle.dsr_ir.specs.declared.declarations.Field.{Field}
 use Rattle.dsr_ir.specs.declared.declarations.FieldRef.{FieldRef}
@@ -19,15 +19,15 @@ use Rattle.dsr_meaning.specs.Instances.{declared_field}
 use Rattle.dsr_meaning.specs.Legal.{entry_count}
 use Rattle.dsr_meaning.specs.Lists.{each_at}
 use Rattle.dsr_meaning.specs.Typed.{Descends, ancestors, pool_at}
-use Rattle.dsr_stepped.proofs.Related.{in_line}
-use Rattle.dsr_stepping.specs.Puts.{ArePut}
-use Rattle.dsr_stepping.specs.Resets.{entry_puts, field_puts, record_puts, reset_number, reset_puts, slot_zeros, structure_puts}
+use Rattle.dsr_step_laws.proofs.Related.{in_line}
+use Rattle.dsr_step_theory.specs.Puts.{ArePut}
+use Rattle.dsr_step_theory.specs.Resets.{entry_puts, field_puts, record_puts, reset_number, reset_puts, slot_zeros, structure_puts}
 use Rattle.dsr_update.proofs.RecordEntries.{has_entry}
 use Rattle.dsr_update.specs.Claims.{CanReset, IsRecordField, IsRecordStructure}
 use Rattle.std.proofs.lemmas.Bool.{cases_eq}
 use Rattle.dsr_meaning.proofs.Options.{some_and}
 use Rattle.dsr_effect_laws.proofs.Puts.{HasSome, IsInto, IsIntoOrBeside, at_has, entries_has, flat_has, gives, split}
-use Rattle.dsr_kept.proofs.EachPut.{AreEach, IsFieldPut, Put, record_each}
+use Rattle.dsr_repair_laws.proofs.EachPut.{AreEach, IsFieldPut, Put, record_each}
 use Rattle.dsr_effect_laws.proofs.Slots.{entries_apart}
 
 pub same_place : (a b : FieldRef) → (a ≡ b) ⊎ (a ≡ b → ⊥)

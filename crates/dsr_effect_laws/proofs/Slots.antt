@@ -4,9 +4,9 @@ use Rattle.std.specs.Prelude.{slice_get}
 use Rattle.std.specs.Option.{option_map_or}
 use Rattle.std.proofs.lemmas.Bool.{cases_lt}
 use Rattle.std.proofs.lemmas.Option.{same_Some}
-use Rattle.dsr_apart.proofs.Ranges.{pools_apart, row_step, slots_apart}
-use Rattle.dsr_apart.proofs.Records.{entry_cell}
-use Rattle.dsr_apart.specs.Entries.{IsEntry}
+use Rattle.dsr_layout_laws.proofs.Ranges.{pools_apart, row_step, slots_apart}
+use Rattle.dsr_layout_laws.proofs.Records.{entry_cell}
+use Rattle.dsr_layout_laws.specs.Entries.{IsEntry}
 use Rattle.dsr_ir.specs.Layouts.{pool_numbers}
 use Rattle.dsr_ir.specs.declared.declarations.Field.{Field}
 use Rattle.dsr_ir.specs.declared.declarations.FieldRef.{FieldRef}
@@ -15,7 +15,7 @@ use Rattle.dsr_ir.specs.declared.layouts.Cell.{Cell}
 use Rattle.dsr_ir.specs.declared.layouts.Layout.{Layout}
 use Rattle.dsr_ir.specs.declared.layouts.PoolNumbers.{PoolNumbers}
 use Rattle.dsr_ir.specs.declared.tuples.Element.{Element}
-use Rattle.dsr_kept.proofs.HeadApart.{LiesInSlot, entry_in_slot, slot_apart}
+use Rattle.dsr_repair_laws.proofs.HeadApart.{LiesInSlot, entry_in_slot, slot_apart}
 use Rattle.dsr_layout.proofs.Enclosed.{field_within, sized_end}
 use Rattle.dsr_layout.proofs.Fitting.{field_found, has_size}
 use Rattle.dsr_layout.proofs.Meanings.{legal_pool}
@@ -28,7 +28,7 @@ use Rattle.dsr_meaning.specs.Refusals.{IsLayoutOf}
 use Rattle.dsr_meaning.specs.Truth.{head}
 use Rattle.dsr_meaning.specs.Typed.{Descends, IsTyped}
 use Rattle.dsr_meaning.specs.Writes.{AreBitsApart, AreCellsApart}
-use Rattle.dsr_resolved.proofs.Descent.{descended_end}
+use Rattle.dsr_resolve.proofs.Descent.{descended_end}
 use Rattle.std.proofs.lemmas.Bool.{cases_eq}
 use Rattle.dsr_meaning.proofs.Options.{some_and}
 

@@ -4,8 +4,8 @@ use Rattle.std.specs.Prelude.{IsTrue, option_map, ◌&&◌, if◌then◌else◌}
 use Rattle.std.specs.Option.{option_and_then, option_map_or}
 use Rattle.std.proofs.lemmas.Bool.{and_parts, false≢true, not-false, not-true, or_parts}
 use Rattle.std.proofs.lemmas.Option.{same_Some}
-use Rattle.dsr_apart.proofs.Fields.{in_other_fields}
-use Rattle.dsr_apart.specs.Entries.{IsEntry}
+use Rattle.dsr_layout_laws.proofs.Fields.{in_other_fields}
+use Rattle.dsr_layout_laws.specs.Entries.{IsEntry}
 use Rattle.dsr_ir.specs.Layouts.{pool_numbers}
 use Rattle.dsr_ir.specs.declared.declarations.Field.{Field}
 use Rattle.dsr_ir.specs.declared.declarations.FieldRef.{FieldRef}
@@ -21,7 +21,7 @@ use Rattle.dsr_ir.specs.declared.tuples.Instance.{Instance}
 use Rattle.dsr_ir.specs.declared.updates.Pick.{Pick}
 use Rattle.dsr_ir.specs.declared.updates.Pick.TheVariants as picks
 use Rattle.dsr_ir.specs.declared.updates.Write.{Write}
-use Rattle.dsr_kept.proofs.Clear.{writes_leave}
+use Rattle.dsr_repair_laws.proofs.Clear.{writes_leave}
 use Rattle.dsr_layout.proofs.Codes.{one_slot}
 use Rattle.dsr_layout.proofs.Fitting.{field_found}
 use Rattle.dsr_layout.proofs.Meanings.{legal_pool}
@@ -32,22 +32,22 @@ use Rattle.dsr_meaning.specs.Lists.{any_of}
 use Rattle.dsr_meaning.specs.References.{IsCodeOf}
 use Rattle.dsr_meaning.specs.Typed.{Descends, IsTyped, IsTypedKind, IsTypedPath, IsTypedRule, ancestors, pool_at, premise_structure}
 use Rattle.dsr_meaning.specs.Writes.{AreCellsApart}
-use Rattle.dsr_resolved.proofs.Entries.{numbers_of, path_has_entry}
-use Rattle.dsr_stepped.proofs.Related.{in_line, lines_related, related_lines, some_is}
-use Rattle.dsr_stepping.specs.Puts.{ArePut}
-use Rattle.dsr_stepping.specs.Resets.{reset_number, reset_puts}
-use Rattle.dsr_stepping.specs.Steps.{IsSlot, code_of, picked_number, written_cell, written_index}
-use Rattle.dsr_stepping.specs.declared.steps.Step.{Step}
+use Rattle.dsr_resolve.proofs.Entries.{numbers_of, path_has_entry}
+use Rattle.dsr_step_laws.proofs.Related.{in_line, lines_related, related_lines, some_is}
+use Rattle.dsr_step_theory.specs.Puts.{ArePut}
+use Rattle.dsr_step_theory.specs.Resets.{reset_number, reset_puts}
+use Rattle.dsr_step_theory.specs.Steps.{IsSlot, code_of, picked_number, written_cell, written_index}
+use Rattle.dsr_step_theory.specs.declared.steps.Step.{Step}
 use Rattle.dsr_update.specs.Claims.{CanReset, IsRecordField}
-use Rattle.dsr_updating.specs.Changes.{Change, are_related, descends, is_at_entry, is_foreign, is_touched, is_written, paths_of, write_to}
-use Rattle.dsr_updating.specs.Effects.{gets_fresh, is_fresh_pick}
-use Rattle.dsr_updating.specs.Templates.{is_same_field}
-use Rattle.dsr_updating.specs.Touching.{Leaves, reset_value}
-use Rattle.dsr_updating.specs.Values.{CellValue, Number, NoneReference, reset_of}
+use Rattle.dsr_update_theory.specs.Changes.{Change, are_related, descends, is_at_entry, is_foreign, is_touched, is_written, paths_of, write_to}
+use Rattle.dsr_update_theory.specs.Effects.{gets_fresh, is_fresh_pick}
+use Rattle.dsr_update_theory.specs.Templates.{is_same_field}
+use Rattle.dsr_update_theory.specs.Touching.{Leaves, reset_value}
+use Rattle.dsr_update_theory.specs.Values.{CellValue, Number, NoneReference, reset_of}
 use Rattle.dsr_effect_laws.specs.Leaving.{HasValueOf, IsLeftAs, IsRead, IsSameAt, StandsFor}
 use Rattle.dsr_effect_laws.proofs.RulePaths.{alike, path_typed, same_index}
 use Rattle.dsr_effect_laws.proofs.WrittenFields.{field_same, found_in, no_some, not_found, same_field, some_of, some_there}
-use Rattle.dsr_stepped.proofs.HeadRules.{no_set, only_head}
+use Rattle.dsr_step_laws.proofs.HeadRules.{no_set, only_head}
 use Rattle.dsr_effect_laws.specs.Fitting.{IsFitStep, IsFitWrite, IsPickFor}
 use Rattle.dsr_effect_laws.proofs.Resetting.{reset_to, same_place}
 use Rattle.dsr_effect_laws.proofs.Slots.{LiesIn, beside_slot, entries_apart, entry_lies, records_apart}

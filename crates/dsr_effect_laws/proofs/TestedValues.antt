@@ -8,7 +8,7 @@ use Rattle.dsr_ir.specs.declared.rules.Test.{Test}
 use Rattle.dsr_ir.specs.declared.rules.Test.TheVariants as tests
 use Rattle.dsr_meaning.specs.Instances.{Compares, Meets}
 use Rattle.dsr_meaning.specs.References.{IsLegal, IsNoneOf}
-use Rattle.dsr_updating.specs.Values.{CellValue, Number, LegalReference, IllegalReference, NoneReference, Passes}
+use Rattle.dsr_update_theory.specs.Values.{CellValue, Number, LegalReference, IllegalReference, NoneReference, Passes}
 use Rattle.dsr_effect_laws.specs.Leaving.{IsTestOf, StandsFor}
 
 -- no code of a slot is the one of no slot

@@ -3,37 +3,37 @@ use Rattle.std.proofs.Common.{◌≡◌, ◌<◌, ◌^◌, ◌⊎◌, ◌∙◌,
 use Rattle.std.specs.Prelude.{option_map}
 use Rattle.std.specs.Option.{option_and_then}
 use Rattle.std.proofs.lemmas.Option.{same_Some}
-use Rattle.dsr_apart.proofs.Fields.{in_other_fields}
-use Rattle.dsr_apart.specs.Entries.{IsEntry}
+use Rattle.dsr_layout_laws.proofs.Fields.{in_other_fields}
+use Rattle.dsr_layout_laws.specs.Entries.{IsEntry}
 use Rattle.dsr_ir.specs.declared.declarations.Field.{Field}
 use Rattle.dsr_ir.specs.declared.declarations.FieldRef.{FieldRef}
 use Rattle.dsr_ir.specs.declared.layouts.Cell.{Cell}
 use Rattle.dsr_ir.specs.declared.layouts.Layout.{Layout}
 use Rattle.dsr_ir.specs.declared.tuples.Element.{Element}
 use Rattle.dsr_ir.specs.declared.updates.Write.{Write}
-use Rattle.dsr_kept.proofs.Clear.{puts_leave, writes_leave}
-use Rattle.dsr_kept.proofs.HeadApart.{LiesInSlot}
-use Rattle.dsr_kept.proofs.ResetPuts.{reset_clear}
+use Rattle.dsr_repair_laws.proofs.Clear.{puts_leave, writes_leave}
+use Rattle.dsr_repair_laws.proofs.HeadApart.{LiesInSlot}
+use Rattle.dsr_repair_laws.proofs.ResetPuts.{reset_clear}
 use Rattle.dsr_layout.proofs.HeldCells.{cell_form}
 use Rattle.dsr_meaning.specs.Cells.{IsFieldCell, cell_value, is_bytewise, placed_cell, record_start, width_bits}
 use Rattle.dsr_meaning.specs.Counting.{IsIn}
 use Rattle.dsr_meaning.specs.Instances.{Meets, declared_field, kind_pool, referred_pool}
 use Rattle.dsr_meaning.specs.Legal.{IsLegalLayout}
 use Rattle.dsr_meaning.specs.Writes.{AreCellsApart}
-use Rattle.dsr_resolved.proofs.AcceptedLayouts.{legal_of}
-use Rattle.dsr_stepped.proofs.Beside.{first_beside, rest_together}
-use Rattle.dsr_stepped.proofs.Related.{related_lines}
-use Rattle.dsr_stepping.specs.Puts.{ArePut}
-use Rattle.dsr_stepping.specs.Resets.{reset_puts}
-use Rattle.dsr_stepping.specs.Steps.{AreWritten, IsWanted, written_cell, written_index, written_number}
-use Rattle.dsr_stepping.specs.Steps.AreWritten.{made, skipped}
-use Rattle.dsr_stepping.specs.declared.steps.Step.{Step}
+use Rattle.dsr_resolve.proofs.AcceptedLayouts.{legal_of}
+use Rattle.dsr_step_laws.proofs.Beside.{first_beside, rest_together}
+use Rattle.dsr_step_laws.proofs.Related.{related_lines}
+use Rattle.dsr_step_theory.specs.Puts.{ArePut}
+use Rattle.dsr_step_theory.specs.Resets.{reset_puts}
+use Rattle.dsr_step_theory.specs.Steps.{AreWritten, IsWanted, written_cell, written_index, written_number}
+use Rattle.dsr_step_theory.specs.Steps.AreWritten.{made, skipped}
+use Rattle.dsr_step_theory.specs.declared.steps.Step.{Step}
 use Rattle.dsr_update.proofs.RecordEntries.{same_width}
 use Rattle.dsr_update.specs.Claims.{CanReset}
-use Rattle.dsr_updating.specs.Changes.{Change}
-use Rattle.dsr_updating.specs.Together.{MayStandBeside, MayStandTogether}
-use Rattle.dsr_updating.specs.Touching.{Leaves, is_removal}
-use Rattle.dsr_updating.specs.Values.{CellValue, MayLeave}
+use Rattle.dsr_update_theory.specs.Changes.{Change}
+use Rattle.dsr_update_theory.specs.Together.{MayStandBeside, MayStandTogether}
+use Rattle.dsr_update_theory.specs.Touching.{Leaves, is_removal}
+use Rattle.dsr_update_theory.specs.Values.{CellValue, MayLeave}
 use Rattle.dsr_effect_laws.specs.Leaving.{StandsFor}
 use Rattle.dsr_effect_laws.proofs.TestedValues.{AreTold}
 use Rattle.dsr_effect_laws.proofs.TestedValues.{none_told}

@@ -8,7 +8,7 @@ use Rattle.dsr_ir.specs.declared.declarations.FieldRef.{FieldRef}
 use Rattle.dsr_ir.specs.declared.updates.Write.{Write}
 use Rattle.dsr_meaning.specs.Counting.{IsIn}
 use Rattle.dsr_meaning.specs.Lists.{any_of}
-use Rattle.dsr_updating.specs.Templates.{is_same_field}
+use Rattle.dsr_update_theory.specs.Templates.{is_same_field}
 
 pub field_same : (a b : FieldRef) → is_same_field a b ≡ true → a ≡ b
 field_same a b e =

@@ -11,13 +11,13 @@ use Rattle.dsr_meaning.specs.Cells.{cell_value}
 use Rattle.dsr_meaning.specs.Counting.{IsIn}
 use Rattle.dsr_meaning.specs.Instances.{declared_field, kind_pool}
 use Rattle.dsr_meaning.specs.Truth.{element_of, head}
-use Rattle.dsr_stepping.specs.Images.{IsImageOf, IsOfHead}
+use Rattle.dsr_step_theory.specs.Images.{IsImageOf, IsOfHead}
 use Rattle.dsr_effect_laws.specs.Leaving.{IsTestOf}
-use Rattle.dsr_stepping.specs.Steps.{CanWrite, IsSlot, IsStepped, IsWanted, written_cell, written_number}
-use Rattle.dsr_stepping.specs.declared.steps.Step.{Step}
-use Rattle.dsr_updating.specs.Changes.{Change}
-use Rattle.dsr_updating.specs.Together.{MayStandTogether}
-use Rattle.dsr_updating.specs.Touching.{is_removal}
+use Rattle.dsr_step_theory.specs.Steps.{CanWrite, IsSlot, IsStepped, IsWanted, written_cell, written_number}
+use Rattle.dsr_step_theory.specs.declared.steps.Step.{Step}
+use Rattle.dsr_update_theory.specs.Changes.{Change}
+use Rattle.dsr_update_theory.specs.Together.{MayStandTogether}
+use Rattle.dsr_update_theory.specs.Touching.{is_removal}
 
 -- what is picked is of the field's kind: a number, or none or a slot of the pool to which the field
 -- refers

@@ -13,9 +13,9 @@ use Rattle.dsr_meaning.specs.Counting.{IsIn}
 use Rattle.dsr_meaning.specs.Legal.{IsLegalLayout}
 use Rattle.dsr_meaning.specs.Models.{IsDerived, IsDerivedBy}
 use Rattle.dsr_meaning.specs.Typed.{IsTyped}
-use Rattle.dsr_stepping.specs.declared.steps.Step.{Step}
-use Rattle.dsr_updating.specs.Changes.{Change, fresh_pool, written_pool}
-use Rattle.dsr_updating.specs.Touching.{IsKeptApartBy, MakesFire, named_by}
+use Rattle.dsr_step_theory.specs.declared.steps.Step.{Step}
+use Rattle.dsr_update_theory.specs.Changes.{Change, fresh_pool, written_pool}
+use Rattle.dsr_update_theory.specs.Touching.{IsKeptApartBy, MakesFire, named_by}
 use Rattle.dsr_effect_laws.specs.Leaving.{IsLeftAs}
 
 -- the update's own rule has no index, and gives nothing at the written record

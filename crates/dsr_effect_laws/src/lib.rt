@@ -3,7 +3,7 @@
 //! function that does nothing when it runs.
 #![tactic(auto)]
 
-ghost use Rattle.dsr_applying.specs.Changed.{IsGained, IsLost};
+ghost use Rattle.dsr_repair_theory.specs.Changed.{IsGained, IsLost};
 ghost use Rattle.dsr_effect_laws.specs.Allowed.{Lies};
 ghost use Rattle.dsr_effect_laws.specs.Fitting.{IsFitStep};
 ghost use Rattle.dsr_effect_laws.specs.Judged.{IsMadeAsJudged};
@@ -14,13 +14,13 @@ ghost use Rattle.dsr_ir.specs.declared.tuples.Element.{Element};
 ghost use Rattle.dsr_ir.specs.declared.tuples.Fact.{Fact};
 ghost use Rattle.dsr_ir.specs.declared.tuples.Instance.{Instance};
 ghost use Rattle.dsr_meaning.specs.Models.{IsDerivedBy, IsFact};
-ghost use Rattle.dsr_stepping.specs.Puts.{ArePut};
-ghost use Rattle.dsr_stepping.specs.Resets.{reset_puts};
-ghost use Rattle.dsr_stepping.specs.declared.steps.Step.{Step};
+ghost use Rattle.dsr_step_theory.specs.Puts.{ArePut};
+ghost use Rattle.dsr_step_theory.specs.Resets.{reset_puts};
+ghost use Rattle.dsr_step_theory.specs.declared.steps.Step.{Step};
 ghost use Rattle.dsr_update.specs.Claims.{CanReset};
 ghost use Rattle.dsr_update.specs.Resets.{IsReset};
-ghost use Rattle.dsr_updating.specs.Changes.{Change};
-ghost use Rattle.dsr_updating.specs.declared.effects.Direction.TheVariants.{Gain, Loss};
+ghost use Rattle.dsr_update_theory.specs.Changes.{Change};
+ghost use Rattle.dsr_update_theory.specs.declared.effects.Direction.TheVariants.{Gain, Loss};
 ghost use Rattle.std.specs.Prelude.{List, ℕ, length};
 
 /// Where a step is made as its update is judged, each fact that is gained or lost lies in the

@@ -12,8 +12,8 @@ use Rattle.dsr_ir.specs.declared.constraints.Var.TheVariants.{Head, First, Secon
 use Rattle.dsr_ir.specs.declared.declarations.Spec.{Spec}
 use Rattle.dsr_ir.specs.declared.updates.Symbol.TheVariants.{Set, Rel}
 use Rattle.dsr_meaning.specs.Typed.{IsTyped, IsTypedQuant}
-use Rattle.dsr_updating.specs.KnownSets.{IsKnown}
-use Rattle.dsr_updating.specs.KnownSets.IsKnown.{quantified, source, target, base}
+use Rattle.dsr_update_theory.specs.KnownSets.{IsKnown}
+use Rattle.dsr_update_theory.specs.KnownSets.IsKnown.{quantified, source, target, base}
 use Rattle.dsr_facts.specs.Marks.{Begins, IsBelow, IsClosed, IsMarked, IsNoneBelow, LeadsTo}
 use Rattle.dsr_facts.specs.Marks.LeadsTo.{here, on}
 use Rattle.dsr_facts.proofs.Marking.{marked_from, marked_here, marked_still, none_marked}

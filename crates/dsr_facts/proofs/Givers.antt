@@ -12,8 +12,8 @@ use Rattle.dsr_ir.specs.declared.updates.Symbol.{Symbol}
 use Rattle.dsr_ir.specs.declared.updates.Symbol.TheVariants.{Set}
 use Rattle.dsr_meaning.proofs.Firing.{found_fits}
 use Rattle.dsr_meaning.specs.Typed.{IsTyped, IsTypedInc, IsTypedRule}
-use Rattle.dsr_updating.specs.Givers.{HasGiver, IsGiver, IsGivenBy}
-use Rattle.dsr_updating.specs.KnownSets.{GivesMembersOf, GivesTargetsTo}
+use Rattle.dsr_update_theory.specs.Givers.{HasGiver, IsGiver, IsGivenBy}
+use Rattle.dsr_update_theory.specs.KnownSets.{GivesMembersOf, GivesTargetsTo}
 use Rattle.dsr_facts.specs.Marks.{IsBelow, IsNoneBelow}
 
 -- ---- the items that pass a test

@@ -22,7 +22,7 @@ use Rattle.dsr_ir.specs.contracts.rules.PathPartialEq.TheImpl as path
 use Rattle.dsr_ir.specs.contracts.rules.SpanPartialEq.TheImpl as span
 use Rattle.dsr_ir.specs.contracts.rules.TestPartialEq.TheImpl as test
 use Rattle.dsr_meaning.specs.Counting.{IsIn}
-use Rattle.dsr_updating.specs.KnownSets.{IsCounterpart}
+use Rattle.dsr_update_theory.specs.KnownSets.{IsCounterpart}
 use Rattle.dsr_facts.specs.Marks.{GivesTargetOf}
 
 field_decides : (a b : FieldRef) → Decides (place.ghosts.eq a b) (a ≡ b)

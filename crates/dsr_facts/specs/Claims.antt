@@ -1,7 +1,7 @@
 -- What the code's claims mean.
 use Rattle.dsr_facts.specs.declared.claims.Claim.{Claim}
 use Rattle.dsr_facts.specs.declared.claims.Claim.TheVariants as own
-use Rattle.dsr_updating.specs.Facts.{ConstraintFact, Injective, Exclusive, Apart}
+use Rattle.dsr_update_theory.specs.Facts.{ConstraintFact, Injective, Exclusive, Apart}
 
 -- the fact that a claim states
 abbrev pub claimed : Claim → ConstraintFact

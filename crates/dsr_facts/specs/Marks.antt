@@ -10,8 +10,8 @@ use Rattle.dsr_ir.specs.declared.rules.Inc.{Inc}
 use Rattle.dsr_ir.specs.declared.rules.Inc.TheVariants.{Target}
 use Rattle.dsr_ir.specs.declared.rules.Path.{Path}
 use Rattle.dsr_ir.specs.declared.updates.Symbol.TheVariants.{Set, Rel}
-use Rattle.dsr_updating.specs.Givers.{IsGivenBy}
-use Rattle.dsr_updating.specs.KnownSets.{GivesMembersOf, GivesTargetsTo}
+use Rattle.dsr_update_theory.specs.Givers.{IsGivenBy}
+use Rattle.dsr_update_theory.specs.KnownSets.{GivesMembersOf, GivesTargetsTo}
 
 -- the other inclusion gives the target of this one to the set
 pub record GivesTargetOf (inc other : Inc) (set : ℕ) : Type 0 where

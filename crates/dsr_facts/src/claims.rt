@@ -3,7 +3,7 @@ ghost use Rattle.std.specs.Prelude.{◌≡◌, false, option_map};
 ghost use Rattle.dsr_ir.specs.declared.constraints.Atom.TheVariants.{Count};
 ghost use Rattle.dsr_ir.specs.declared.constraints.Quant.TheVariants.{Each, Pairs};
 ghost use Rattle.dsr_ir.specs.declared.declarations.Spec.{Spec};
-ghost use Rattle.dsr_updating.specs.Facts as said;
+ghost use Rattle.dsr_update_theory.specs.Facts as said;
 ghost use Rattle.dsr_facts.specs.Claims.{claimed};
 
 use dsr_ir::{Atom, Constraint, Literal, Measure, Op, Quant, Spec, Var};

@@ -1,7 +1,7 @@
 // The facts that constraints give.
 ghost use Rattle.std.specs.Prelude.{◌≡◌, ◌≤◌, ◌^◌, ◌++◌, [], ◌∷◌, IfOk, length, option_map};
 ghost use Rattle.dsr_meaning.specs.Lists.{each_at};
-ghost use Rattle.dsr_updating.specs.Facts as said;
+ghost use Rattle.dsr_update_theory.specs.Facts as said;
 ghost use Rattle.dsr_facts.specs.Claims.{claimed};
 
 use crate::claims::{Claim, claim_of};

@@ -5,8 +5,8 @@ ghost use Rattle.dsr_ir.specs.declared.rules.Guard.{Guard};
 ghost use Rattle.dsr_ir.specs.declared.updates.Symbol.TheVariants as symbols;
 ghost use Rattle.dsr_meaning.specs.Counting.{IsIn};
 ghost use Rattle.dsr_meaning.specs.Typed.{IsTyped, IsTypedQuant};
-ghost use Rattle.dsr_updating.specs.Givers.{HasGiver, IsGivenBy};
-ghost use Rattle.dsr_updating.specs.KnownSets.{GivesMembersOf, GivesTargetsTo, IsCounterpart, IsKnown};
+ghost use Rattle.dsr_update_theory.specs.Givers.{HasGiver, IsGivenBy};
+ghost use Rattle.dsr_update_theory.specs.KnownSets.{GivesMembersOf, GivesTargetsTo, IsCounterpart, IsKnown};
 ghost use Rattle.dsr_facts.specs.Marks.{Begins, GivesTargetOf, IsClosed, IsMarked, IsNoneBelow, LeadsTo};
 
 use dsr_ir::{Inc, NoMemory, Quant, Rule, Spec, Symbol, Var};

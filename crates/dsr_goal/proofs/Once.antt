@@ -2,8 +2,8 @@
 use Rattle.std.proofs.Common.{◌≡◌, ◌⊎◌, ◌||◌, inl, inr, Bool, true, false, not, List, [], ◌∷◌, ◌++◌, Decides, MatchBool, refl, sym, ap, ◌∙◌}
 use Rattle.std.specs.List.{list_any}
 use Rattle.dsr_meaning.specs.Counting.{IsIn}
-use Rattle.dsr_updating.specs.Templates.{AreOnce}
-use Rattle.dsr_updating.specs.Templates.AreOnce.{done, again, first}
+use Rattle.dsr_update_theory.specs.Templates.{AreOnce}
+use Rattle.dsr_update_theory.specs.Templates.AreOnce.{done, again, first}
 
 -- what a search by a test for equal items finds
 module _ {T : Type 0} (E : T → T → Bool) (is : (a b : T) → Decides (E a b) (a ≡ b)) where

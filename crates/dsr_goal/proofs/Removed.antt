@@ -10,10 +10,10 @@ use Rattle.dsr_ir.specs.declared.updates.Goal.{Goal}
 use Rattle.dsr_ir.specs.declared.updates.Symbol.{Symbol}
 use Rattle.dsr_ir.specs.declared.updates.Template.{Template}
 use Rattle.dsr_meaning.specs.Counting.{IsIn}
-use Rattle.dsr_updating.specs.Givers.{givers}
-use Rattle.dsr_updating.specs.Options.{options}
-use Rattle.dsr_updating.specs.Templates as defined
-use Rattle.dsr_updating.specs.Templates.{AreOnce}
+use Rattle.dsr_update_theory.specs.Givers.{givers}
+use Rattle.dsr_update_theory.specs.Options.{options}
+use Rattle.dsr_update_theory.specs.Templates as defined
+use Rattle.dsr_update_theory.specs.Templates.{AreOnce}
 use Rattle.dsr_goal.specs.declared.removing.Removal.{Removal}
 use Rattle.dsr_goal.specs.Removing.{removal_by, update_at, template_at, most_options, lacks_option, templates_of}
 use Rattle.dsr_goal.proofs.Once.{once_again, once_first}

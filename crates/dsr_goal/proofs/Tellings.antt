@@ -4,9 +4,9 @@ use Rattle.dsr_ir.specs.declared.constraints.Quant.{Quant}
 use Rattle.dsr_ir.specs.declared.constraints.Var.{Var}
 use Rattle.dsr_ir.specs.declared.constraints.Var.TheVariants.{Head, First, Second}
 use Rattle.dsr_ir.specs.declared.declarations.Spec.{Spec}
-use Rattle.dsr_updating.specs.KnownSets.{IsKnown}
-use Rattle.dsr_updating.specs.KnownSets.IsKnown.{quantified, source, target, base}
-use Rattle.dsr_updating.specs.Templates.{TellsKnown}
+use Rattle.dsr_update_theory.specs.KnownSets.{IsKnown}
+use Rattle.dsr_update_theory.specs.KnownSets.IsKnown.{quantified, source, target, base}
+use Rattle.dsr_update_theory.specs.Templates.{TellsKnown}
 use Rattle.dsr_goal.specs.Knowing.{known_by}
 use Rattle.dsr_goal.specs.declared.known.Known.{Known}
 

@@ -6,8 +6,8 @@ use Rattle.dsr_ir.specs.declared.declarations.Structures.{Structures}
 use Rattle.dsr_ir.specs.declared.rules.Guard.{Guard}
 use Rattle.dsr_ir.specs.declared.updates.Write.{Write}
 use Rattle.dsr_meaning.specs.Lists.{any_of}
-use Rattle.dsr_updating.specs.Guards.{guard_write}
-use Rattle.dsr_updating.specs.Templates.{all_true, is_on, others}
+use Rattle.dsr_update_theory.specs.Guards.{guard_write}
+use Rattle.dsr_update_theory.specs.Templates.{all_true, is_on, others}
 
 -- ---- guards on other fields
 

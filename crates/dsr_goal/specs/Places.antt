@@ -4,7 +4,7 @@ use Rattle.dsr_ir.specs.declared.constraints.Var.{Var}
 use Rattle.dsr_ir.specs.declared.rules.Rule.{Rule}
 use Rattle.dsr_ir.specs.declared.updates.Place.{Place}
 use Rattle.dsr_ir.specs.declared.updates.Place.TheVariants.{Head, Of, Deriver}
-use Rattle.dsr_updating.specs.Givers.{is_own}
+use Rattle.dsr_update_theory.specs.Givers.{is_own}
 
 -- the record of the instance that gives what is to be removed
 abbrev pub instance_place : Rule → Place

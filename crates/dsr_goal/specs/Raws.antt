@@ -7,7 +7,7 @@ use Rattle.dsr_ir.specs.declared.updates.Goal.TheVariants.{ExactlyOne, SetValue}
 use Rattle.dsr_ir.specs.declared.updates.Place.TheVariants.{Head}
 use Rattle.dsr_ir.specs.declared.updates.Template.{Template}
 use Rattle.dsr_ir.specs.declared.updates.Write.{Write}
-use Rattle.dsr_updating.specs.Templates.{AreRawOf}
+use Rattle.dsr_update_theory.specs.Templates.{AreRawOf}
 
 -- the item of a list that has no other one
 abbrev pub only : {T : Type 0} → List T → Option T

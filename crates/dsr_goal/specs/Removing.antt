@@ -9,8 +9,8 @@ use Rattle.dsr_ir.specs.declared.updates.Goal.{Goal}
 use Rattle.dsr_ir.specs.declared.updates.Template.{Template}
 use Rattle.dsr_ir.specs.declared.updates.Update.{Update}
 use Rattle.dsr_ir.specs.declared.updates.Write.{Write}
-use Rattle.dsr_updating.specs.Options.{options}
-use Rattle.dsr_updating.specs.Templates.{removal_place, removal_at, item_or_last}
+use Rattle.dsr_update_theory.specs.Options.{options}
+use Rattle.dsr_update_theory.specs.Templates.{removal_place, removal_at, item_or_last}
 
 -- the removal by the rule with this number
 abbrev pub removal_by : Structures → Option Var → ℕ → Rule → Removal

@@ -2,10 +2,10 @@
 ghost use Rattle.std.specs.Prelude.{◌≡◌, ◌++◌, IfOk, OnOk, option_map, if◌then◌else◌, None, true};
 ghost use Rattle.dsr_meaning.specs.Lists.{any_of};
 ghost use Rattle.dsr_meaning.specs.Typed.{AreTyped};
-ghost use Rattle.dsr_updating.specs.Givers as givers;
-ghost use Rattle.dsr_updating.specs.Guards as guards;
-ghost use Rattle.dsr_updating.specs.Templates as templates;
-ghost use Rattle.dsr_updating.specs.Templates.{listed};
+ghost use Rattle.dsr_update_theory.specs.Givers as givers;
+ghost use Rattle.dsr_update_theory.specs.Guards as guards;
+ghost use Rattle.dsr_update_theory.specs.Templates as templates;
+ghost use Rattle.dsr_update_theory.specs.Templates.{listed};
 ghost use Rattle.dsr_goal.specs.Knowing.{known_by};
 
 use crate::fields::{reference_write, referred};

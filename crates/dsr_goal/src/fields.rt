@@ -1,8 +1,8 @@
 // Fields of a specification, and what is written to them.
 ghost use Rattle.std.specs.Prelude.{◌≡◌, option_map};
 ghost use Rattle.dsr_meaning.specs.Instances as meaning;
-ghost use Rattle.dsr_updating.specs.Options as options;
-ghost use Rattle.dsr_updating.specs.Templates as templates;
+ghost use Rattle.dsr_update_theory.specs.Options as options;
+ghost use Rattle.dsr_update_theory.specs.Templates as templates;
 
 use dsr_ir::{Field, FieldRef, Kind, Path, Pick, Structures, Write};
 

@@ -3,7 +3,7 @@ ghost use Rattle.std.specs.Prelude.{◌≡◌, ◌+◌, ◌^◌, nat_lt, option_
 ghost use Rattle.dsr_meaning.specs.Cells as cells;
 ghost use Rattle.dsr_meaning.specs.Placeable.{IsLegalWidth};
 ghost use Rattle.dsr_meaning.specs.Typed.{AreTyped};
-ghost use Rattle.dsr_updating.specs.Guards as guards;
+ghost use Rattle.dsr_update_theory.specs.Guards as guards;
 
 use crate::fields::declared_field;
 use dsr_ir::{Field, Guard, Op, Pick, Structures, Test, Width, Write};

@@ -3,9 +3,9 @@ ghost use Rattle.std.specs.Prelude.{◌≡◌, [], IfOk, if◌then◌else◌};
 ghost use Rattle.dsr_ir.specs.Rules.{gives};
 ghost use Rattle.dsr_ir.specs.declared.updates.Symbol.TheVariants as symbols;
 ghost use Rattle.dsr_meaning.specs.Typed.{IsTyped};
-ghost use Rattle.dsr_updating.specs.Givers.{each_giver};
-ghost use Rattle.dsr_updating.specs.Templates as templates;
-ghost use Rattle.dsr_updating.specs.Templates.{listed};
+ghost use Rattle.dsr_update_theory.specs.Givers.{each_giver};
+ghost use Rattle.dsr_update_theory.specs.Templates as templates;
+ghost use Rattle.dsr_update_theory.specs.Templates.{listed};
 ghost use Rattle.dsr_goal.specs.Knowing.{known_by};
 
 use crate::adding::{joins_by, push_made, relates_by};

@@ -1,6 +1,6 @@
 // Kinds of rules.
 ghost use Rattle.std.specs.Prelude.{◌≡◌};
-ghost use Rattle.dsr_updating.specs.Givers as rules;
+ghost use Rattle.dsr_update_theory.specs.Givers as rules;
 
 use dsr_ir::{Inc, Span};
 

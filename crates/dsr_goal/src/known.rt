@@ -1,7 +1,7 @@
 // Of which sets the variables of a constraint are known to be members.
 ghost use Rattle.std.specs.Prelude.{◌≡◌, false, slice_index_or};
 ghost use Rattle.dsr_meaning.specs.Typed.{IsTyped, IsTypedQuant};
-ghost use Rattle.dsr_updating.specs.Templates.{TellsKnown};
+ghost use Rattle.dsr_update_theory.specs.Templates.{TellsKnown};
 ghost use Rattle.dsr_goal.specs.Knowing.{known_by};
 
 use dsr_facts::{MOST_SETS, known_sets};

@@ -5,8 +5,8 @@ ghost use Rattle.dsr_ir.specs.declared.constraints.Quant as declared;
 ghost use Rattle.dsr_ir.specs.declared.rules.Op.TheVariants as operators;
 ghost use Rattle.dsr_ir.specs.declared.updates.Symbol.TheVariants as symbols;
 ghost use Rattle.dsr_meaning.specs.Typed.{IsTyped};
-ghost use Rattle.dsr_updating.specs.Templates as templates;
-ghost use Rattle.dsr_updating.specs.Templates.{AreSized, AreTemplates, AreValued};
+ghost use Rattle.dsr_update_theory.specs.Templates as templates;
+ghost use Rattle.dsr_update_theory.specs.Templates.{AreSized, AreTemplates, AreValued};
 ghost use Rattle.dsr_goal.specs.Knowing.{known_by};
 ghost use Rattle.dsr_goal.specs.Raws.{with_trim};
 

@@ -3,7 +3,7 @@ ghost use Rattle.std.specs.Prelude.{◌≡◌, IfOk, option_and_then};
 ghost use Rattle.dsr_meaning.specs.Typed.{AreTyped};
 ghost use Rattle.dsr_ir.specs.Rules.{target_of};
 ghost use Rattle.dsr_ir.specs.declared.updates.Pick.TheVariants.{NoneCode};
-ghost use Rattle.dsr_updating.specs.Options as updating;
+ghost use Rattle.dsr_update_theory.specs.Options as updating;
 
 use crate::fields::reference_write;
 use crate::guards::guard_write;

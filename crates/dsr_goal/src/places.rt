@@ -1,7 +1,7 @@
 // Where a removal by a rule writes.
 ghost use Rattle.std.specs.Prelude.{◌≡◌};
 ghost use Rattle.dsr_goal.specs.Places as places;
-ghost use Rattle.dsr_updating.specs.Templates as templates;
+ghost use Rattle.dsr_update_theory.specs.Templates as templates;
 
 use crate::kinds::{is_own, is_slot};
 use dsr_ir::{At, Place, Rule, Span, Var};

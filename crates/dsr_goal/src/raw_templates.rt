@@ -1,8 +1,8 @@
 // The updates that are tried for a literal of a constraint, before any is left out.
 ghost use Rattle.std.specs.Prelude.{◌≡◌, IfOk};
 ghost use Rattle.dsr_meaning.specs.Typed.{IsTyped};
-ghost use Rattle.dsr_updating.specs.Templates as templates;
-ghost use Rattle.dsr_updating.specs.Templates.{AreRawOf, TellsKnown};
+ghost use Rattle.dsr_update_theory.specs.Templates as templates;
+ghost use Rattle.dsr_update_theory.specs.Templates.{AreRawOf, TellsKnown};
 ghost use Rattle.dsr_goal.specs.Knowing.{known_by};
 ghost use Rattle.dsr_goal.specs.Raws.{AreRawAt};
 

@@ -3,9 +3,9 @@ ghost use Rattle.std.specs.Prelude.{◌≡◌, ◌≤◌, ◌^◌, [], IfOk, Mat
 ghost use Rattle.dsr_goal.specs.Removing as removing;
 ghost use Rattle.dsr_meaning.specs.Typed.{AreTyped};
 ghost use Rattle.dsr_meaning.specs.Counting.{IsIn};
-ghost use Rattle.dsr_updating.specs.Givers as rules;
-ghost use Rattle.dsr_updating.specs.Templates as updating;
-ghost use Rattle.dsr_updating.specs.Templates.{AreOnce, AreRemovals, AreTrims};
+ghost use Rattle.dsr_update_theory.specs.Givers as rules;
+ghost use Rattle.dsr_update_theory.specs.Templates as updating;
+ghost use Rattle.dsr_update_theory.specs.Templates.{AreOnce, AreRemovals, AreTrims};
 
 use crate::options::options;
 use crate::places::{removal_at, removal_place};

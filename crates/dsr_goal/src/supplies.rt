@@ -4,9 +4,9 @@ ghost use Rattle.std.specs.List.{flat_map};
 ghost use Rattle.dsr_ir.specs.Rules.{gives};
 ghost use Rattle.dsr_ir.specs.declared.updates.Symbol.TheVariants as symbols;
 ghost use Rattle.dsr_meaning.specs.Typed.{AreTyped, IsTyped};
-ghost use Rattle.dsr_updating.specs.Givers as givers;
-ghost use Rattle.dsr_updating.specs.Templates as templates;
-ghost use Rattle.dsr_updating.specs.Templates.{listed};
+ghost use Rattle.dsr_update_theory.specs.Givers as givers;
+ghost use Rattle.dsr_update_theory.specs.Templates as templates;
+ghost use Rattle.dsr_update_theory.specs.Templates.{listed};
 ghost use Rattle.dsr_goal.specs.Knowing.{known_by};
 
 use crate::adding::{push_made, supplies_by};

@@ -3,9 +3,9 @@ ghost use Rattle.std.specs.Prelude.{◌≡◌, [], ◌∷◌, IfOk, None, is_som
 ghost use Rattle.dsr_ir.specs.declared.updates.Goal.TheVariants as goals;
 ghost use Rattle.dsr_ir.specs.declared.updates.Symbol.TheVariants as symbols;
 ghost use Rattle.dsr_meaning.specs.Typed.{IsTyped};
-ghost use Rattle.dsr_updating.specs.Givers.{givers};
-ghost use Rattle.dsr_updating.specs.Givers as kinds;
-ghost use Rattle.dsr_updating.specs.Templates as templates;
+ghost use Rattle.dsr_update_theory.specs.Givers.{givers};
+ghost use Rattle.dsr_update_theory.specs.Givers as kinds;
+ghost use Rattle.dsr_update_theory.specs.Templates as templates;
 ghost use Rattle.dsr_goal.specs.Raws.{only, slot_template};
 
 use crate::adding::{adding, push_made};

@@ -5,23 +5,23 @@ use Rattle.std.specs.List.{flat_map}
 use Rattle.std.proofs.lemmas.Bool.{false≢true}
 use Rattle.std.proofs.lemmas.Bool.Decides.{nat_tests}
 use Rattle.std.proofs.lemmas.List.Elements.{All-head, All-tail}
-use Rattle.dsr_breaking.specs.Breaks.{Breaks, IsFirstReason, MayBreakBy, MayFalsify, SomeUpdate, first, later, none}
-use Rattle.dsr_breaking.specs.Causes.{constraint_causes, is_once, literal_causes, literals_of, quantifier_causes, symbol_of}
-use Rattle.dsr_breaking.specs.declared.causes.Cause.{Cause}
-use Rattle.dsr_breaking.specs.declared.causes.Reason.{Reason}
-use Rattle.dsr_edges.proofs.Once.{of_once}
-use Rattle.dsr_edges.specs.Told.{IsOfDeclared}
+use Rattle.dsr_graph_theory.specs.Breaks.{Breaks, IsFirstReason, MayBreakBy, MayFalsify, SomeUpdate, first, later, none}
+use Rattle.dsr_graph_theory.specs.Causes.{constraint_causes, is_once, literal_causes, literals_of, quantifier_causes, symbol_of}
+use Rattle.dsr_graph_theory.specs.declared.causes.Cause.{Cause}
+use Rattle.dsr_graph_theory.specs.declared.causes.Reason.{Reason}
+use Rattle.dsr_graph.proofs.Once.{of_once}
+use Rattle.dsr_graph.specs.Told.{IsOfDeclared}
 use Rattle.dsr_ir.specs.declared.constraints.Constraint.{Constraint}
 use Rattle.dsr_ir.specs.declared.constraints.Literal.{Literal}
 use Rattle.dsr_ir.specs.declared.constraints.Quant.{Quant}
 use Rattle.dsr_ir.specs.declared.constraints.Quant.TheVariants.{Once, Each, Pairs}
 use Rattle.dsr_ir.specs.declared.declarations.Structures.{Structures}
 use Rattle.dsr_ir.specs.declared.updates.Template.{Template}
-use Rattle.dsr_breaking.specs.Excuses.{MayHappen}
-use Rattle.dsr_listing.specs.Owners.{Owner}
+use Rattle.dsr_graph_theory.specs.Excuses.{MayHappen}
+use Rattle.dsr_graph_theory.specs.Owners.{Owner}
 use Rattle.dsr_meaning.specs.Counting.{IsIn}
-use Rattle.dsr_updating.specs.Effects.{IsDeclared}
-use Rattle.dsr_updating.specs.Templates.{AreOnce}
+use Rattle.dsr_update_theory.specs.Effects.{IsDeclared}
+use Rattle.dsr_update_theory.specs.Templates.{AreOnce}
 
 abbrev causes_by : Bool → Quant → List Literal → List Cause
 causes_by own quant literals = quantifier_causes quant ++ (if own && is_once quant then [] else flat_map literal_causes literals)

@@ -1,5 +1,5 @@
 -- What is listed for a literal, as the graph keeps it.
-use Rattle.dsr_sides.proofs.Standing.{place_below}
+use Rattle.dsr_compensate.proofs.Standing.{place_below}
 use Rattle.std.proofs.Common.{◌≡◌, ◌<◌, arith, ℕ, List, [], Option, None, Some, slice_get, refl, sym, ap, subst, ◌∙◌}
 use Rattle.std.specs.Prelude.{IsSomeAnd, MatchOption, option_and_then}
 use Rattle.std.specs.Option.{option_map_or}
@@ -13,10 +13,10 @@ use Rattle.dsr_graph.specs.declared.listings.Listing.{Listing}
 use Rattle.dsr_ir.specs.declared.constraints.Conj.{Conj}
 use Rattle.dsr_ir.specs.declared.constraints.Literal.{Literal}
 use Rattle.dsr_ir.specs.declared.updates.Template.{Template}
-use Rattle.dsr_listing.specs.Lists.{AreListed, AreListedOf}
-use Rattle.dsr_listing.specs.Owners.{Owner}
-use Rattle.dsr_updating.specs.Facts.{from}
-use Rattle.dsr_updating.specs.Templates.{literal_at}
+use Rattle.dsr_graph_theory.specs.Lists.{AreListed, AreListedOf}
+use Rattle.dsr_graph_theory.specs.Owners.{Owner}
+use Rattle.dsr_update_theory.specs.Facts.{from}
+use Rattle.dsr_update_theory.specs.Templates.{literal_at}
 
 pub got : {T : Type 0} (P : T → Type 0) (o : Option T) → IsSomeAnd o P → (x : T) × (o ≡ Some x) × P x
 got P None has = absurd has

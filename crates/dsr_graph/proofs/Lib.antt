@@ -1,3 +1,9 @@
+pub mod Tagged
+pub mod Declared
+pub mod Deciding
+pub mod SameCauses
+pub mod Once
+pub mod Firsts
 pub mod Paired
 pub mod Growing
 pub mod Found

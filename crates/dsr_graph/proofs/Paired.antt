@@ -5,7 +5,7 @@ use Rattle.std.proofs.lemmas.List.{take_more}
 use Rattle.dsr_compensate.proofs.Each.{got_front, got_last, item_at, length_more, take_length}
 use Rattle.dsr_compensate.proofs.Later.{take_whole}
 use Rattle.dsr_graph.specs.Paired.{ArePaired}
-use Rattle.dsr_sides.proofs.Standing.{item_got, item_in_front, place_below}
+use Rattle.dsr_compensate.proofs.Standing.{item_got, item_in_front, place_below}
 
 same_item : {T : Type 0} (x y : T) → Some x ≡ Some y → x ≡ y
 same_item x y e = cc

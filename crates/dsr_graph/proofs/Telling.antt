@@ -3,8 +3,8 @@ use Rattle.std.proofs.Common.{◌≡◌, ◌<◌, ◌+◌, ◌↔◌, ℕ, zero,
 use Rattle.std.specs.Prelude.{option_and_then}
 use Rattle.std.specs.Option.{option_map_or}
 use Rattle.std.proofs.lemmas.Bool.{false≢true}
-use Rattle.dsr_breaking.specs.Breaks.{Breaks, Falsifies, MayFalsify, MayFalsifyOther}
-use Rattle.dsr_breaking.specs.Causes.{atom_causes, literal_causes}
+use Rattle.dsr_graph_theory.specs.Breaks.{Breaks, Falsifies, MayFalsify, MayFalsifyOther}
+use Rattle.dsr_graph_theory.specs.Causes.{atom_causes, literal_causes}
 use Rattle.dsr_graph.proofs.Found.{few_kinds, found_for, got, kind_of, literal_of, no_listing, node_of, ways_if}
 use Rattle.dsr_graph.proofs.Marked.{Turns, none_marked, some_marked, turns_if, turns_marked, turns_other}
 use Rattle.dsr_graph.proofs.Paired.{paired_got}
@@ -16,9 +16,9 @@ use Rattle.dsr_graph.specs.declared.listings.Outcome.{Outcome}
 use Rattle.dsr_ir.specs.declared.constraints.Constraint.{Constraint}
 use Rattle.dsr_ir.specs.declared.constraints.Literal.{Literal}
 use Rattle.dsr_ir.specs.declared.updates.Template.{Template}
-use Rattle.dsr_listing.specs.Owners.{Owner}
+use Rattle.dsr_graph_theory.specs.Owners.{Owner}
 use Rattle.dsr_meaning.specs.Counting.{IsIn}
-use Rattle.dsr_updating.specs.Templates.{literal_at}
+use Rattle.dsr_update_theory.specs.Templates.{literal_at}
 
 alike_causes : (a b : Literal) → AreAlike a b → literal_causes a ≡ literal_causes b
 alike_causes a b alike = ap (λ n. atom_causes n a.atom) alike.negated ∙ ap (atom_causes b.negated) alike.atom

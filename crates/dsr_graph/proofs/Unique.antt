@@ -2,10 +2,10 @@
 use Rattle.std.proofs.Common.{◌≡◌, ℕ, Bool, [], List, Option, Some, sym, subst}
 use Rattle.dsr_ir.specs.declared.constraints.Literal.{Literal}
 use Rattle.dsr_ir.specs.declared.updates.Template.{Template}
-use Rattle.dsr_listing.proofs.Unique.{Listed, Tried}
-use Rattle.dsr_listing.specs.Lists.{AreListed, AreListedOf, AreTaken, all_of}
-use Rattle.dsr_listing.specs.Owners.{Owner}
-use Rattle.dsr_updating.specs.Templates.{AreTemplates, KnownSets, TellsKnown, literal_at}
+use Rattle.dsr_plan_laws.proofs.Unique.{Listed, Tried}
+use Rattle.dsr_graph_theory.specs.Lists.{AreListed, AreListedOf, AreTaken, all_of}
+use Rattle.dsr_graph_theory.specs.Owners.{Owner}
+use Rattle.dsr_update_theory.specs.Templates.{AreTemplates, KnownSets, TellsKnown, literal_at}
 use Rattle.dsr_graph.specs.Kinds.{AreAlike}
 
 module _ (owner : Owner) where

@@ -1,18 +1,18 @@
 -- What is asked for each template of a constraint.
 use Rattle.std.specs.Prelude.{◌≡◌, ℕ, All, List, [], false}
-use Rattle.dsr_breaking.specs.Causes.{constraint_causes, literal_causes}
-use Rattle.dsr_breaking.specs.declared.causes.Cause.{Cause}
-use Rattle.dsr_edges.specs.Told.{IsOfDeclared, TellsExcuses}
-use Rattle.dsr_edges.specs.declared.excuses.Excuses.{Excuses}
+use Rattle.dsr_graph_theory.specs.Causes.{constraint_causes, literal_causes}
+use Rattle.dsr_graph_theory.specs.declared.causes.Cause.{Cause}
+use Rattle.dsr_graph.specs.Told.{IsOfDeclared, TellsExcuses}
+use Rattle.dsr_graph.specs.declared.excuses.Excuses.{Excuses}
 use Rattle.dsr_ir.specs.declared.constraints.Constraint.{Constraint}
 use Rattle.dsr_ir.specs.declared.declarations.Spec.{Spec}
 use Rattle.dsr_ir.specs.declared.declarations.Structures.{Structures}
-use Rattle.dsr_listing.specs.Owners.{Owner}
-use Rattle.dsr_sides.specs.declared.owner.Owner.{Owner as Kept}
+use Rattle.dsr_graph_theory.specs.Owners.{Owner}
+use Rattle.dsr_compensate.specs.declared.owner.Owner.{Owner as Kept}
 use Rattle.dsr_facts.specs.declared.gathering.Facts.{Facts}
-use Rattle.dsr_updating.specs.Facts as said
-use Rattle.dsr_sides.specs.Owned.{IsSound, owner_of}
-use Rattle.dsr_updating.specs.Templates.{AreOnce}
+use Rattle.dsr_update_theory.specs.Facts as said
+use Rattle.dsr_compensate.specs.Owned.{IsSound, owner_of}
+use Rattle.dsr_update_theory.specs.Templates.{AreOnce}
 use Rattle.dsr_graph.specs.Graphs.{owner_at}
 use Rattle.dsr_graph.specs.Paired.{ArePaired}
 use Rattle.dsr_graph.specs.declared.kinds.First.{First}

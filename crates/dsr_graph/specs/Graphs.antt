@@ -1,18 +1,18 @@
 -- What a graph tells, as it is kept.
 use Rattle.std.specs.Prelude.{◌≡◌, ◌&&◌, ◌↔◌, ℕ, suc, nat_eq, Bool, false, not, IsTrue, List, [], ◌∷◌, Option, None, Some, option_and_then, slice_get, slice_index_or, if◌then◌else◌}
 use Rattle.std.specs.Option.{option_map_or}
-use Rattle.dsr_breaking.specs.Breaks.{Breaks, MayFalsify}
-use Rattle.dsr_breaking.specs.declared.causes.Reason.{Reason}
-use Rattle.dsr_breaking.specs.declared.causes.Reason.TheVariants.{Gain, Loss}
+use Rattle.dsr_graph_theory.specs.Breaks.{Breaks, MayFalsify}
+use Rattle.dsr_graph_theory.specs.declared.causes.Reason.{Reason}
+use Rattle.dsr_graph_theory.specs.declared.causes.Reason.TheVariants.{Gain, Loss}
 use Rattle.dsr_ir.specs.declared.constraints.Constraint.{Constraint}
 use Rattle.dsr_ir.specs.declared.constraints.Literal.{Literal}
 use Rattle.dsr_ir.specs.declared.declarations.Spec.{Spec}
 use Rattle.dsr_ir.specs.declared.updates.Symbol.TheVariants.{Set, Rel}
 use Rattle.dsr_ir.specs.declared.updates.Template.{Template}
-use Rattle.dsr_listing.specs.Lists.{AreListedOf}
-use Rattle.dsr_listing.specs.Owners.{Owner}
-use Rattle.dsr_updating.specs.Facts.{from}
-use Rattle.dsr_updating.specs.Templates.{literal_at}
+use Rattle.dsr_graph_theory.specs.Lists.{AreListedOf}
+use Rattle.dsr_graph_theory.specs.Owners.{Owner}
+use Rattle.dsr_update_theory.specs.Facts.{from}
+use Rattle.dsr_update_theory.specs.Templates.{literal_at}
 use Rattle.dsr_graph.specs.Kinds.{AreAlike, AreKindsOf}
 use Rattle.dsr_graph.specs.Paired.{ArePaired}
 use Rattle.dsr_graph.specs.declared.edges.Edge.{Edge}

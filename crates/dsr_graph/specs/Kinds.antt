@@ -2,7 +2,7 @@
 use Rattle.std.specs.Prelude.{◌≡◌, ◌⊎◌, ◌≤◌, ◌++◌, ℕ, All, IsSomeAnd, List, [], ◌∷◌, Some, length, slice_get}
 use Rattle.dsr_ir.specs.declared.constraints.Constraint.{Constraint}
 use Rattle.dsr_ir.specs.declared.constraints.Literal.{Literal}
-use Rattle.dsr_updating.specs.Templates.{literal_at}
+use Rattle.dsr_update_theory.specs.Templates.{literal_at}
 use Rattle.dsr_graph.specs.Paired.{ArePaired}
 use Rattle.dsr_graph.specs.declared.kinds.First.{First}
 use Rattle.dsr_graph.specs.declared.kinds.Kinds.{Kinds}

@@ -1,3 +1,4 @@
+pub mod Told
 pub mod Paired
 pub mod Kinds
 pub mod Graphs

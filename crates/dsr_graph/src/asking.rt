@@ -1,17 +1,17 @@
 // What the graph tells.
 ghost use Rattle.std.specs.Prelude.{◌≡◌, Decides, List, Some, option_map, slice_get};
-ghost use Rattle.dsr_breaking.specs.Breaks.{Breaks, Falsifies, Relies};
+ghost use Rattle.dsr_graph_theory.specs.Breaks.{Breaks, Falsifies, Relies};
 ghost use Rattle.dsr_graph.specs.Graphs as said;
 ghost use Rattle.dsr_graph.specs.Graphs.{IsOwnerIn, IsWayOf, owner_at, ways_of};
 ghost use Rattle.dsr_ir.specs.declared.constraints.Constraint.{Constraint as ConstraintOf};
 ghost use Rattle.dsr_ir.specs.declared.updates.Template.{Template as TemplateOf};
-ghost use Rattle.dsr_listing.specs.Lists.{AreListedOf};
-ghost use Rattle.dsr_listing.specs.Owners.{Owner as OwnerOf};
+ghost use Rattle.dsr_graph_theory.specs.Lists.{AreListedOf};
+ghost use Rattle.dsr_graph_theory.specs.Owners.{Owner as OwnerOf};
 ghost use Rattle.dsr_meaning.specs.Counting.{IsIn};
 
 use crate::graphs::{Graph, Node};
 use crate::listings::{Listing, Outcome};
-use dsr_breaking::Reason;
+use dsr_graph_theory::Reason;
 use dsr_ir::Template;
 
 // The kinds of the literals of the conjunction with this number.

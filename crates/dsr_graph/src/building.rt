@@ -1,21 +1,22 @@
 // How the graph is built.
 ghost use Rattle.std.specs.Prelude.{◌≡◌, All, IfOk};
-ghost use Rattle.dsr_edges.specs.Told.{AreFactsOf};
+ghost use Rattle.dsr_graph.specs.Told.{AreFactsOf};
 ghost use Rattle.dsr_graph.specs.Asking.{AllCauses, AllExcuses, AllFacts, AllOwners, AreOwnCauses};
 ghost use Rattle.dsr_graph.specs.Graphs.{AreListingsOf, IsGraphOf, IsNodeOf};
 ghost use Rattle.dsr_graph.specs.Kinds.{IsFirstIn};
-ghost use Rattle.dsr_updating.specs.Facts as said;
+ghost use Rattle.dsr_update_theory.specs.Facts as said;
 ghost use Rattle.dsr_meaning.specs.Typed.{IsTyped};
-ghost use Rattle.dsr_sides.specs.Owned.{IsSound, owner_of};
+ghost use Rattle.dsr_compensate.specs.Owned.{IsSound, owner_of};
 
+use crate::causes::{constraint_causes, literal_causes};
+use crate::excuses::Excuses;
 use crate::graphs::{Graph, Node};
 use crate::kinds::{First, kinds_of};
 use crate::listings::{Asked, Listing};
-use dsr_breaking::Cause;
-use dsr_edges::{Excuses, constraint_causes, literal_causes};
+use dsr_compensate::Owner;
 use dsr_facts::{Facts, facts_before};
+use dsr_graph_theory::Cause;
 use dsr_ir::{NoMemory, Seq, Spec};
-use dsr_sides::Owner;
 use std::alloc::Global;
 
 // The facts that each constraint uses.

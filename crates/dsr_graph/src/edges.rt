@@ -1,11 +1,11 @@
 // Reasons, kept in two bytes each.
 ghost use Rattle.std.specs.Prelude.{◌≡◌, IfSome};
-ghost use Rattle.dsr_breaking.specs.Causes.{symbol_of};
+ghost use Rattle.dsr_graph_theory.specs.Causes.{symbol_of};
 ghost use Rattle.dsr_graph.specs.Graphs as graphs;
 ghost use Rattle.dsr_meaning.specs.Typed.{AreTyped};
-ghost use Rattle.dsr_updating.specs.Effects.{IsDeclared};
+ghost use Rattle.dsr_update_theory.specs.Effects.{IsDeclared};
 
-use dsr_breaking::Reason;
+use dsr_graph_theory::Reason;
 use dsr_ir::{Structures, Symbol};
 
 /// Why a template breaks a constraint, if it does; there are at most 64 sets and relations, by

@@ -7,11 +7,19 @@
 
 mod asking;
 mod building;
+mod causes;
 mod edges;
+mod excuses;
 mod graphs;
+mod happening;
 mod kinds;
 mod listings;
+mod reasons;
+mod variables;
 
 pub use asking::{breaks, falsifies, relies, ways};
 pub use building::graph;
+pub use causes::{constraint_causes, literal_causes};
+pub use excuses::Excuses;
 pub use graphs::Graph;
+pub use reasons::{first_reason, may_falsify};

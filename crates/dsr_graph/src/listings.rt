@@ -1,24 +1,24 @@
 // What is listed for a kind of literals, and what may come of each template.
 ghost use Rattle.std.specs.Prelude.{◌≡◌, ◌<◌, ◌&&◌, All, IfOk, IfSome, Some, length, nat_eq, slice_get};
-ghost use Rattle.dsr_breaking.specs.Breaks.{Breaks};
-ghost use Rattle.dsr_breaking.specs.Causes.{is_once, symbol_of};
-ghost use Rattle.dsr_edges.specs.Told.{TellsExcuses};
-ghost use Rattle.dsr_listing.specs.Owners.{Owner as OwnerOf};
+ghost use Rattle.dsr_graph_theory.specs.Breaks.{Breaks};
+ghost use Rattle.dsr_graph_theory.specs.Causes.{is_once, symbol_of};
+ghost use Rattle.dsr_graph.specs.Told.{TellsExcuses};
+ghost use Rattle.dsr_graph_theory.specs.Owners.{Owner as OwnerOf};
 ghost use Rattle.dsr_compensate.specs.Taking.{IsJudged, templates_of};
 ghost use Rattle.dsr_graph.specs.Asking.{IsAskedOf};
 ghost use Rattle.dsr_graph.specs.Graphs.{AreBroken, AreFalsified, AreListingsOf, AreOutcomesOf, IsListingOf, IsOutcomeOf, owner_at};
 ghost use Rattle.dsr_graph.specs.Kinds.{IsFirstIn};
 ghost use Rattle.dsr_ir.specs.declared.constraints.Constraint.{Constraint as ConstraintOf};
-ghost use Rattle.dsr_sides.specs.Owned.{owner_of};
-ghost use Rattle.dsr_updating.specs.Effects.{IsDeclared};
+ghost use Rattle.dsr_compensate.specs.Owned.{owner_of};
+ghost use Rattle.dsr_update_theory.specs.Effects.{IsDeclared};
 
 use crate::edges::Edge;
+use crate::excuses::Excuses;
 use crate::kinds::First;
-use dsr_breaking::{Cause, Reason};
-use dsr_compensate::{Judged, listed};
-use dsr_edges::{Excuses, first_reason, may_falsify};
+use crate::reasons::{first_reason, may_falsify};
+use dsr_compensate::{Judged, Owner, listed};
+use dsr_graph_theory::{Cause, Reason};
 use dsr_ir::{NoMemory, Quant, Seq, Template, TryClone};
-use dsr_sides::Owner;
 use std::alloc::Global;
 
 /// What may come of a template.

@@ -1,14 +1,14 @@
 -- Four constraints of which an update is applied, by one step each.
 use Rattle.std.proofs.Common.{◌≡◌, ℕ, false, List, [], ◌∷◌, None, Some, inl, refl, slice_get, arith}
-use Rattle.dsr_applied.proofs.Choosing.{step_of}
-use Rattle.dsr_applied.proofs.Given.{image, slot}
-use Rattle.dsr_applied.proofs.Putting.{puts_byte_2, puts_byte_5}
-use Rattle.dsr_applied.proofs.Stepping.{joined, unmarked}
-use Rattle.dsr_applied.proofs.Tried.{plain, template_of}
-use Rattle.dsr_applied.proofs.Violated.{literal_of}
-use Rattle.dsr_applying.specs.Applications.{FactsHold}
-use Rattle.dsr_applying.specs.Choices.{IsChosen}
-use Rattle.dsr_applying.specs.Choices.IsUpdateAt.{adds}
+use Rattle.dsr_step_laws.proofs.Choosing.{step_of}
+use Rattle.dsr_step_laws.proofs.Given.{image, slot}
+use Rattle.dsr_step_laws.proofs.Putting.{puts_byte_2, puts_byte_5}
+use Rattle.dsr_step_laws.proofs.Stepping.{joined, unmarked}
+use Rattle.dsr_step_laws.proofs.Tried.{plain, template_of}
+use Rattle.dsr_step_laws.proofs.Violated.{literal_of}
+use Rattle.dsr_repair_theory.specs.Applications.{FactsHold}
+use Rattle.dsr_repair_theory.specs.Choices.{IsChosen}
+use Rattle.dsr_repair_theory.specs.Choices.IsUpdateAt.{adds}
 use Rattle.dsr_graph_examples.proofs.Facts.{IsTrueNow, first_in_c, first_mark, first_value, in_a, in_p}
 use Rattle.dsr_graph_examples.proofs.Given.{constraints, layout, numbered, sharing}
 use Rattle.dsr_graph_examples.proofs.Holding.{other_number, uses_apart, uses_both_at_5, uses_both_at_7, uses_nothing, violated_where}
@@ -30,16 +30,16 @@ use Rattle.dsr_ir.specs.declared.updates.Template.{Template}
 use Rattle.dsr_ir.specs.declared.updates.Write.{Write}
 use Rattle.dsr_meaning.specs.Consistency.{IsBinding}
 use Rattle.dsr_meaning.specs.Truth.{LiteralHolds, element_of, head}
-use Rattle.dsr_stepped.proofs.Beside.{nothing_together, together_more}
-use Rattle.dsr_stepping.specs.Resets.{byte_cell}
-use Rattle.dsr_stepping.specs.Steps.{IsStepped}
-use Rattle.dsr_stepping.specs.Steps.AreWritten.{done, made}
-use Rattle.dsr_stepping.specs.declared.steps.Step.{Step}
+use Rattle.dsr_step_laws.proofs.Beside.{nothing_together, together_more}
+use Rattle.dsr_step_theory.specs.Resets.{byte_cell}
+use Rattle.dsr_step_theory.specs.Steps.{IsStepped}
+use Rattle.dsr_step_theory.specs.Steps.AreWritten.{done, made}
+use Rattle.dsr_step_theory.specs.declared.steps.Step.{Step}
 use Rattle.dsr_template_laws.proofs.ListedTemplates.{tried_at}
 use Rattle.dsr_template_laws.specs.Judging.{Application, owner_of}
 use Rattle.dsr_template_laws.specs.Tried.{IsTried}
-use Rattle.dsr_updating.specs.Templates.{AreRawOf}
-use Rattle.dsr_updating.specs.Together.{MayStandTogether}
+use Rattle.dsr_update_theory.specs.Templates.{AreRawOf}
+use Rattle.dsr_update_theory.specs.Together.{MayStandTogether}
 
 zero_one : ◌≡◌ {A = ℕ} 0 1 → ⊥
 zero_one same = omega (arith, same)

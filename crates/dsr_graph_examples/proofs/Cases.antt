@@ -1,15 +1,15 @@
 -- For each kind of excuse an application by which another constraint isn't broken, since it is excused.
 use Rattle.std.proofs.Common.{◌≡◌, ◌≢◌, ◌∙◌, ℕ, false, [], ◌∷◌, None, Some, inl, inr, refl, sym, ap, subst, slice_get, codes, arith}
 use Rattle.std.proofs.lemmas.Option.{same_Some}
-use Rattle.dsr_applied.proofs.Given.{slot}
-use Rattle.dsr_applied.proofs.Model.{slots_differ}
-use Rattle.dsr_applied.proofs.Tried.{template_of}
-use Rattle.dsr_breaking.specs.Breaks.{Breaks, IsFirstReason, MayBreakBy, SomeUpdate}
-use Rattle.dsr_breaking.specs.Causes.{gain}
-use Rattle.dsr_breaking.specs.Excuses.{AreDifferentRecords, AreSecondsApart, HappensOnlyAt, IsExcused, IsExcusedAt, IsExcusedAtRecord, IsExcusedAtSlot, IsSameBinding, MayHappen}
-use Rattle.dsr_breaking.specs.declared.causes.Cause.{Cause}
-use Rattle.dsr_breaking.specs.declared.causes.Reason.{Reason}
-use Rattle.dsr_breaking.specs.declared.causes.Reason.TheVariants.{Gain}
+use Rattle.dsr_step_laws.proofs.Given.{slot}
+use Rattle.dsr_step_laws.proofs.Model.{slots_differ}
+use Rattle.dsr_step_laws.proofs.Tried.{template_of}
+use Rattle.dsr_graph_theory.specs.Breaks.{Breaks, IsFirstReason, MayBreakBy, SomeUpdate}
+use Rattle.dsr_graph_theory.specs.Causes.{gain}
+use Rattle.dsr_graph_theory.specs.Excuses.{AreDifferentRecords, AreSecondsApart, HappensOnlyAt, IsExcused, IsExcusedAt, IsExcusedAtRecord, IsExcusedAtSlot, IsSameBinding, MayHappen}
+use Rattle.dsr_graph_theory.specs.declared.causes.Cause.{Cause}
+use Rattle.dsr_graph_theory.specs.declared.causes.Reason.{Reason}
+use Rattle.dsr_graph_theory.specs.declared.causes.Reason.TheVariants.{Gain}
 use Rattle.dsr_graph_examples.proofs.Applied.{assignment_each, assignment_here, assignment_left, marking, marking_tried, tried_each, tried_here, tried_left}
 use Rattle.dsr_graph_examples.proofs.Facts.{IsTrueNow, in_b, in_q, second_in_c, second_mark, second_value}
 use Rattle.dsr_graph_examples.proofs.Given.{numbered, sharing}
@@ -29,19 +29,19 @@ use Rattle.dsr_ir.specs.declared.tuples.Binding.TheVariants as bindings
 use Rattle.dsr_ir.specs.declared.updates.Goal.TheVariants.{SetValue}
 use Rattle.dsr_ir.specs.declared.updates.Symbol.TheVariants.{Set, Rel}
 use Rattle.dsr_ir.specs.declared.updates.Update.{Update}
-use Rattle.dsr_listing.specs.Owners.{Owner, change_of}
+use Rattle.dsr_graph_theory.specs.Owners.{Owner, change_of}
 use Rattle.dsr_meaning.proofs.Items.{only_item}
 use Rattle.dsr_meaning.specs.Consistency.{IsViolated}
 use Rattle.dsr_meaning.specs.Counting.{IsIn}
 use Rattle.dsr_meaning.specs.Models.{IsFact}
 use Rattle.dsr_meaning.specs.Truth.{head}
-use Rattle.dsr_planning.specs.Plans.{owner_at}
+use Rattle.dsr_plan_theory.specs.Plans.{owner_at}
 use Rattle.dsr_template_laws.specs.Judging.{Application, change_in, owner_of}
 use Rattle.dsr_template_laws.specs.Tried.{IsTried}
-use Rattle.dsr_updating.specs.Changes.{Change}
-use Rattle.dsr_updating.specs.Facts.{exclusive}
-use Rattle.dsr_updating.specs.KnownSets.{IsKnown}
-use Rattle.dsr_updating.specs.declared.effects.Tag.TheVariants.{Written, Entry}
+use Rattle.dsr_update_theory.specs.Changes.{Change}
+use Rattle.dsr_update_theory.specs.Facts.{exclusive}
+use Rattle.dsr_update_theory.specs.KnownSets.{IsKnown}
+use Rattle.dsr_update_theory.specs.declared.effects.Tag.TheVariants.{Written, Entry}
 
 -- ---- a template of one update that sets a value
 

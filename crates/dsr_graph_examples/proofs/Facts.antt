@@ -3,12 +3,12 @@ use Rattle.std.proofs.Common.{◌≡◌, ◌<◌, ◌+◌, ◌*◌, ◌∙◌, �
 use Rattle.std.specs.Prelude.{IsTrue}
 use Rattle.std.proofs.lemmas.List.Elements.{All-nil}
 use Rattle.std.proofs.lemmas.Option.{same_Some}
-use Rattle.dsr_applied.proofs.Given.{image, path_to, slot}
-use Rattle.dsr_applied.proofs.Giving.{at, element_same}
-use Rattle.dsr_applied.proofs.Model.{slots_differ}
-use Rattle.dsr_decided.proofs.Functional.{one_target}
-use Rattle.dsr_stepped.proofs.GivenSymbols.{giver_of}
-use Rattle.dsr_feasible.proofs.FormItems.{giver_in}
+use Rattle.dsr_step_laws.proofs.Given.{image, path_to, slot}
+use Rattle.dsr_step_laws.proofs.Giving.{at, element_same}
+use Rattle.dsr_step_laws.proofs.Model.{slots_differ}
+use Rattle.dsr_model_laws.proofs.Functional.{one_target}
+use Rattle.dsr_step_laws.proofs.GivenSymbols.{giver_of}
+use Rattle.dsr_repair_laws.proofs.FormItems.{giver_in}
 use Rattle.dsr_graph_examples.proofs.Given.{base, entry_path, layout, leading, marking, numbers, pairing, rules, sharing, valuing}
 use Rattle.dsr_graph_examples.proofs.Placed.{legal, placed}
 use Rattle.dsr_graph_examples.proofs.Typed.{typed}
@@ -28,7 +28,7 @@ use Rattle.dsr_meaning.specs.Models.{IsDerived, IsFact}
 use Rattle.dsr_meaning.specs.Models.Chain.{begin, follow}
 use Rattle.dsr_meaning.specs.Truth.{head}
 use Rattle.dsr_template_laws.proofs.KnownMembers.{last}
-use Rattle.dsr_updating.specs.Givers.{IsGiver, givers, is_functional}
+use Rattle.dsr_update_theory.specs.Givers.{IsGiver, givers, is_functional}
 
 -- the facts of the image
 abbrev pub IsTrueNow : Fact → Type 0

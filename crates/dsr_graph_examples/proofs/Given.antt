@@ -1,6 +1,6 @@
 -- The specification and the layout of the examples; the image is that of the examples of applications.
 use Rattle.std.specs.Prelude.{ℕ, true, false, List, [], ◌∷◌, None, Some, codes}
-use Rattle.dsr_applied.proofs.Given.{byte_at, constraint_of, path_to, scalar}
+use Rattle.dsr_step_laws.proofs.Given.{byte_at, constraint_of, path_to, scalar}
 use Rattle.dsr_ir.specs.Exprs.{NumOf}
 use Rattle.dsr_ir.specs.declared.constraints.Atom.TheVariants as atoms
 use Rattle.dsr_ir.specs.declared.constraints.Bound.TheVariants as bounds

@@ -3,10 +3,10 @@ use Rattle.std.proofs.Common.{◌≡◌, ◌∙◌, ℕ, Bool, true, false, List
 use Rattle.std.specs.Prelude.{IsTrue}
 use Rattle.std.proofs.lemmas.List.Elements.{All-cons, All-head, All-nil}
 use Rattle.std.proofs.lemmas.Option.{same_Some}
-use Rattle.dsr_applied.proofs.Given.{constraint_of, image}
-use Rattle.dsr_applied.proofs.Violated.{literal_of}
-use Rattle.dsr_applying.specs.Applications.{FactsHold}
-use Rattle.dsr_decided.proofs.Functional.{one_target}
+use Rattle.dsr_step_laws.proofs.Given.{constraint_of, image}
+use Rattle.dsr_step_laws.proofs.Violated.{literal_of}
+use Rattle.dsr_repair_theory.specs.Applications.{FactsHold}
+use Rattle.dsr_model_laws.proofs.Functional.{one_target}
 use Rattle.dsr_graph_examples.proofs.Facts.{IsTrueNow, apart, exclusive}
 use Rattle.dsr_graph_examples.proofs.Given.{constraints, layout, sharing}
 use Rattle.dsr_graph_examples.proofs.Placed.{legal}
@@ -28,7 +28,7 @@ use Rattle.dsr_ir.specs.declared.tuples.Target.TheVariants.{Num}
 use Rattle.dsr_meaning.specs.Consistency.{ConjHolds, IsBinding, IsViolated}
 use Rattle.dsr_meaning.specs.Counting.{IsIn}
 use Rattle.dsr_meaning.specs.Truth.{LiteralHolds, element_of}
-use Rattle.dsr_updating.specs.Givers.{is_functional}
+use Rattle.dsr_update_theory.specs.Givers.{is_functional}
 
 -- ---- a constraint of one literal
 

@@ -1,15 +1,15 @@
 -- The layout is that of the specification on the image, which isn't refused.
 use Rattle.std.proofs.Common.{◌≡◌, refl, arith}
 use Rattle.std.specs.Prelude.{[], Some}
-use Rattle.dsr_applied.proofs.Given.{image}
-use Rattle.dsr_applied.proofs.Putting.{bytes_of_image}
+use Rattle.dsr_step_laws.proofs.Given.{image}
+use Rattle.dsr_step_laws.proofs.Putting.{bytes_of_image}
 use Rattle.dsr_graph_examples.proofs.Given.{base, layout, sharing}
 use Rattle.dsr_graph_examples.proofs.Typed.{typed}
 use Rattle.dsr_meaning.specs.Layouts.{layout_of}
 use Rattle.dsr_meaning.specs.Legal.{IsLegalLayout}
 use Rattle.dsr_meaning.specs.Refusals.{IsLayoutOf, refusals}
-use Rattle.dsr_resolved.proofs.AcceptedLayouts.{legal_of}
-use Rattle.dsr_stepping.specs.Images.{IsImageOf}
+use Rattle.dsr_resolve.proofs.AcceptedLayouts.{legal_of}
+use Rattle.dsr_step_theory.specs.Images.{IsImageOf}
 
 numbers : layout_of base image ≡ Some layout
 numbers = refl

@@ -2,7 +2,7 @@
 use Rattle.std.proofs.Common.{◌≡◌, ◌∙◌, ◌⊎◌, ℕ, false, List, [], ◌∷◌, None, Some, inl, inr, refl, sym, ap, subst, arith}
 use Rattle.std.proofs.lemmas.Bool.{false≢true}
 use Rattle.std.proofs.lemmas.Option.{same_Some, none-some}
-use Rattle.dsr_applied.proofs.Tried.{plain, updating}
+use Rattle.dsr_step_laws.proofs.Tried.{plain, updating}
 use Rattle.dsr_graph_examples.proofs.Given.{base, entry_path, leading, marking, pairing, rules, sharing, valuing}
 use Rattle.dsr_ir.specs.Rules.{symbol_of}
 use Rattle.dsr_ir.specs.declared.constraints.Quant.{Quant}
@@ -21,14 +21,14 @@ use Rattle.dsr_ir.specs.declared.updates.Write.{Write}
 use Rattle.dsr_meaning.specs.Counting.{IsIn}
 use Rattle.dsr_meaning.specs.Instances.{pool_of_premise}
 use Rattle.dsr_meaning.specs.Typed.{pool_of_var}
-use Rattle.dsr_updating.specs.Changes.{Change, reads_touched}
-use Rattle.dsr_updating.specs.Effects.{InTable, MayChange, tag_at_w}
-use Rattle.dsr_updating.specs.Touching.{IsBlockedAtW, IsKeptApartBy, IsTouchedAtF, IsTouchedAtW}
-use Rattle.dsr_updating.specs.Values.{NoneReference, Number}
-use Rattle.dsr_updating.specs.declared.effects.Direction.{Direction}
-use Rattle.dsr_updating.specs.declared.effects.Direction.TheVariants.{Gain}
-use Rattle.dsr_updating.specs.declared.effects.Tag.{Tag}
-use Rattle.dsr_updating.specs.declared.effects.Tag.TheVariants.{Written, Entry}
+use Rattle.dsr_update_theory.specs.Changes.{Change, reads_touched}
+use Rattle.dsr_update_theory.specs.Effects.{InTable, MayChange, tag_at_w}
+use Rattle.dsr_update_theory.specs.Touching.{IsBlockedAtW, IsKeptApartBy, IsTouchedAtF, IsTouchedAtW}
+use Rattle.dsr_update_theory.specs.Values.{NoneReference, Number}
+use Rattle.dsr_update_theory.specs.declared.effects.Direction.{Direction}
+use Rattle.dsr_update_theory.specs.declared.effects.Direction.TheVariants.{Gain}
+use Rattle.dsr_update_theory.specs.declared.effects.Tag.{Tag}
+use Rattle.dsr_update_theory.specs.declared.effects.Tag.TheVariants.{Written, Entry}
 
 -- ---- tables
 

@@ -1,23 +1,23 @@
 -- Applications by which another constraint would be broken, but for an excuse of each kind.
 use Rattle.std.specs.Prelude.{◌≡◌, ◌≢◌, ℕ, nat_eq, None, Some, slice_get}
-use Rattle.dsr_breaking.specs.Breaks.{Breaks}
-use Rattle.dsr_breaking.specs.Causes.{constraint_causes}
-use Rattle.dsr_breaking.specs.Excuses.{AreDifferentRecords, AreSecondsApart, HappensOnlyAt, IsSameBinding, MayHappen}
-use Rattle.dsr_breaking.specs.declared.causes.Cause.{Cause}
+use Rattle.dsr_graph_theory.specs.Breaks.{Breaks}
+use Rattle.dsr_graph_theory.specs.Causes.{constraint_causes}
+use Rattle.dsr_graph_theory.specs.Excuses.{AreDifferentRecords, AreSecondsApart, HappensOnlyAt, IsSameBinding, MayHappen}
+use Rattle.dsr_graph_theory.specs.declared.causes.Cause.{Cause}
 use Rattle.dsr_ir.specs.declared.constraints.Constraint.{Constraint}
 use Rattle.dsr_ir.specs.declared.constraints.Var.{Var}
 use Rattle.dsr_ir.specs.declared.tuples.Binding.{Binding}
 use Rattle.dsr_ir.specs.declared.updates.At.TheVariants.{SlotOf}
 use Rattle.dsr_ir.specs.declared.updates.Place.TheVariants.{Of}
-use Rattle.dsr_listing.specs.Owners.{Owner}
+use Rattle.dsr_graph_theory.specs.Owners.{Owner}
 use Rattle.dsr_meaning.specs.Consistency.{IsBinding, IsViolated}
 use Rattle.dsr_meaning.specs.Counting.{IsIn}
 use Rattle.dsr_meaning.specs.Models.{IsFact}
-use Rattle.dsr_planning.specs.Plans.{owner_at}
+use Rattle.dsr_plan_theory.specs.Plans.{owner_at}
 use Rattle.dsr_template_laws.specs.Judging.{Application, change_in, owner_of}
 use Rattle.dsr_template_laws.specs.Tried.{IsTried}
-use Rattle.dsr_updating.specs.Changes.{Change}
-use Rattle.dsr_updating.specs.declared.effects.Tag.TheVariants.{Written, Entry}
+use Rattle.dsr_update_theory.specs.Changes.{Change}
+use Rattle.dsr_update_theory.specs.declared.effects.Tag.TheVariants.{Written, Entry}
 
 -- Why a change is excused: it is at the record of the binding for which the update is made, which
 -- no other binding has; at another record than the one that is read; at a target of one relation,

@@ -4,7 +4,7 @@ use Rattle.std.specs.Prelude.{MatchBool, if◌then◌else◌, ◌||◌, nat_eq}
 use Rattle.std.proofs.lemmas.Bool.{eqb-true}
 use Rattle.std.proofs.lemmas.List.Elements.{All-cons, All-head, All-nil}
 use Rattle.std.proofs.lemmas.Option.{same_Some, none-some}
-use Rattle.dsr_applying.specs.Applications.{FactsHold}
+use Rattle.dsr_repair_theory.specs.Applications.{FactsHold}
 use Rattle.dsr_ir.specs.declared.constraints.Atom.{Atom}
 use Rattle.dsr_ir.specs.declared.constraints.Atom.TheVariants as atoms
 use Rattle.dsr_ir.specs.declared.constraints.Conj.{Conj}
@@ -26,7 +26,7 @@ use Rattle.dsr_meaning.specs.Consistency.{ConjHolds, IsBinding}
 use Rattle.dsr_meaning.specs.Counting.{AreMany, IsIn}
 use Rattle.dsr_meaning.specs.Models.{IsFact}
 use Rattle.dsr_meaning.specs.Truth.{AtomHolds, LiteralHolds}
-use Rattle.dsr_updating.specs.Facts.{ConstraintFact, Exclusive, Injective, Apart, apart, apart_by, are_complements, bounded_fact, earlier, exclusive_fact, fact_by, fact_of, fact_of_conjs, fact_of_literals, from, injective, injective_by}
+use Rattle.dsr_update_theory.specs.Facts.{ConstraintFact, Exclusive, Injective, Apart, apart, apart_by, are_complements, bounded_fact, earlier, exclusive_fact, fact_by, fact_of, fact_of_conjs, fact_of_literals, from, injective, injective_by}
 use Rattle.dsr_meaning.proofs.Items.{in_flat, place_of}
 
 -- it says that what has a source under the one relation has at most so many under the other

@@ -5,13 +5,13 @@ use Rattle.std.specs.List.{flat_map}
 use Rattle.std.specs.Option.{option_and_then}
 use Rattle.std.proofs.lemmas.Bool.{and_parts, eqb-true, false≢true}
 use Rattle.std.proofs.lemmas.Option.{same_Some}
-use Rattle.dsr_breaking.specs.Breaks.{Breaks, MayBreakBy, SomeUpdate}
-use Rattle.dsr_breaking.specs.Causes.{constraint_causes, direction_of, gain, is_once, literal_causes, literals_of, quantifier_causes, symbol_of}
-use Rattle.dsr_breaking.specs.Excuses.{IsExcused}
-use Rattle.dsr_breaking.specs.declared.causes.Cause.{Cause}
-use Rattle.dsr_breaking.specs.declared.causes.Reason.TheVariants.{Gain, Loss}
-use Rattle.dsr_decided.proofs.Models.{facts_listed}
-use Rattle.dsr_decided.proofs.Truths.{fact_decided}
+use Rattle.dsr_graph_theory.specs.Breaks.{Breaks, MayBreakBy, SomeUpdate}
+use Rattle.dsr_graph_theory.specs.Causes.{constraint_causes, direction_of, gain, is_once, literal_causes, literals_of, quantifier_causes, symbol_of}
+use Rattle.dsr_graph_theory.specs.Excuses.{IsExcused}
+use Rattle.dsr_graph_theory.specs.declared.causes.Cause.{Cause}
+use Rattle.dsr_graph_theory.specs.declared.causes.Reason.TheVariants.{Gain, Loss}
+use Rattle.dsr_model_laws.proofs.Models.{facts_listed}
+use Rattle.dsr_model_laws.proofs.Truths.{fact_decided}
 use Rattle.dsr_ir.specs.declared.constraints.Conj.{Conj}
 use Rattle.dsr_ir.specs.declared.constraints.Constraint.{Constraint}
 use Rattle.dsr_ir.specs.declared.constraints.Literal.{Literal}
@@ -24,13 +24,13 @@ use Rattle.dsr_ir.specs.declared.tuples.Fact.TheVariants.{Member, Pair}
 use Rattle.dsr_ir.specs.declared.tuples.Target.TheVariants.{Elem}
 use Rattle.dsr_ir.specs.declared.updates.Symbol.{Symbol}
 use Rattle.dsr_ir.specs.declared.updates.Symbol.TheVariants.{Set, Rel}
-use Rattle.dsr_feasible.proofs.TypedLiterals.{typed_in}
-use Rattle.dsr_planning.specs.Plans.{owner_at}
+use Rattle.dsr_repair_laws.proofs.TypedLiterals.{typed_in}
+use Rattle.dsr_plan_theory.specs.Plans.{owner_at}
 use Rattle.dsr_template_laws.proofs.MadeAsJudged.{made}
 use Rattle.dsr_template_laws.proofs.TriedApplications.{update_there}
 use Rattle.dsr_template_laws.specs.Judging.{Application, change_in, owner_of}
 use Rattle.dsr_template_laws.specs.Tried.{IsTried}
-use Rattle.dsr_listing.specs.Owners.{Owner}
+use Rattle.dsr_graph_theory.specs.Owners.{Owner}
 use Rattle.dsr_meaning.specs.Consistency.{ConjHolds, IsBinding, IsViolated}
 use Rattle.dsr_meaning.specs.Counting.{IsIn}
 use Rattle.dsr_meaning.specs.Looking
@@ -43,10 +43,10 @@ use Rattle.dsr_graph_laws.proofs.Excusing.{excused_elsewhere, once_only}
 use Rattle.dsr_graph_laws.proofs.Firsts.{none_such}
 use Rattle.dsr_graph_laws.proofs.Literals.{literal_stays}
 use Rattle.dsr_graph_laws.proofs.Sizes.{IsReadAt}
-use Rattle.dsr_updating.specs.Changes.{Change}
-use Rattle.dsr_updating.specs.Effects.{InTable}
-use Rattle.dsr_updating.specs.Templates.{literal_at}
-use Rattle.dsr_updating.specs.declared.effects.Tag.{Tag}
+use Rattle.dsr_update_theory.specs.Changes.{Change}
+use Rattle.dsr_update_theory.specs.Effects.{InTable}
+use Rattle.dsr_update_theory.specs.Templates.{literal_at}
+use Rattle.dsr_update_theory.specs.declared.effects.Tag.{Tag}
 use Rattle.dsr_meaning.proofs.Items.{all_of, in_left, in_right, of_all, place_of}
 
 in_flat_map : {A B : Type 0} (f : A → List B) (xs : List A) (x : A) (y : B) → IsIn x xs → IsIn y (f x) → IsIn y (flat_map f xs)

@@ -2,12 +2,12 @@
 use Rattle.std.proofs.Common.{◌≡◌, ◌∙◌, ℕ, Option, None, Some, IfSome, List, [], ◌∷◌, refl, sym, ap, subst, slice_get}
 use Rattle.std.specs.Option.{option_map, option_and_then}
 use Rattle.std.proofs.lemmas.Option.{same_Some}
-use Rattle.dsr_applying.specs.Applications.{FactsHold}
-use Rattle.dsr_applying.specs.Choices.{IsEntryAt, IsPlace}
-use Rattle.dsr_breaking.specs.Excuses.{AreDifferentRecords, AreTargetsApart, IsBoundOnce, IsExcused, IsExcusedAt, IsExcusedAtEntry, IsExcusedAtPlace, IsExcusedAtRecord, IsExcusedAtSlot, IsSameBinding}
-use Rattle.dsr_breaking.specs.Causes.{direction_of, symbol_of}
-use Rattle.dsr_breaking.specs.declared.causes.Cause.{Cause}
-use Rattle.dsr_decided.proofs.Functional.{one_target}
+use Rattle.dsr_repair_theory.specs.Applications.{FactsHold}
+use Rattle.dsr_repair_theory.specs.Choices.{IsEntryAt, IsPlace}
+use Rattle.dsr_graph_theory.specs.Excuses.{AreDifferentRecords, AreTargetsApart, IsBoundOnce, IsExcused, IsExcusedAt, IsExcusedAtEntry, IsExcusedAtPlace, IsExcusedAtRecord, IsExcusedAtSlot, IsSameBinding}
+use Rattle.dsr_graph_theory.specs.Causes.{direction_of, symbol_of}
+use Rattle.dsr_graph_theory.specs.declared.causes.Cause.{Cause}
+use Rattle.dsr_model_laws.proofs.Functional.{one_target}
 use Rattle.dsr_ir.specs.declared.constraints.Atom.TheVariants as atoms
 use Rattle.dsr_ir.specs.declared.constraints.Conj.{Conj}
 use Rattle.dsr_ir.specs.declared.constraints.Constraint.{Constraint}
@@ -31,12 +31,12 @@ use Rattle.dsr_ir.specs.declared.updates.At.TheVariants as ats
 use Rattle.dsr_ir.specs.declared.updates.Place.{Place}
 use Rattle.dsr_ir.specs.declared.updates.Place.TheVariants as places
 use Rattle.dsr_template_laws.proofs.ExclusiveSets.{IsExclusion, IsSaid, exclusive_holds, said}
-use Rattle.dsr_feasible.proofs.TypedLiterals.{typed_in}
+use Rattle.dsr_repair_laws.proofs.TypedLiterals.{typed_in}
 use Rattle.dsr_template_laws.proofs.KnownMembers.{known_holds}
-use Rattle.dsr_feasible.proofs.WrittenRecords.{var_pool}
+use Rattle.dsr_repair_laws.proofs.WrittenRecords.{var_pool}
 use Rattle.dsr_layout.proofs.Meanings.{found_holds}
 use Rattle.dsr_layout.proofs.RangeOfFacts.{fact_in_range}
-use Rattle.dsr_listing.specs.Owners.{Owner}
+use Rattle.dsr_graph_theory.specs.Owners.{Owner}
 use Rattle.dsr_meaning.specs.Consistency.{IsBinding}
 use Rattle.dsr_meaning.specs.Layouts.{layout_of}
 use Rattle.dsr_meaning.specs.Legal.{IsLegalLayout}
@@ -45,12 +45,12 @@ use Rattle.dsr_meaning.specs.Truth.{element_of}
 use Rattle.dsr_meaning.specs.Typed.{IsPlainSetOf, IsTyped, IsTypedAtom, IsTypedSet}
 use Rattle.dsr_meaning.proofs.Options.{some_and}
 use Rattle.dsr_effect_laws.specs.Allowed.{Allows}
-use Rattle.dsr_stepping.specs.declared.steps.Step.{Step}
+use Rattle.dsr_step_theory.specs.declared.steps.Step.{Step}
 use Rattle.dsr_graph_laws.proofs.Bounding.{apart_holds, injective_holds}
-use Rattle.dsr_updating.specs.Changes.{Change}
-use Rattle.dsr_updating.specs.Effects.{InTable}
-use Rattle.dsr_updating.specs.Templates.{literal_at}
-use Rattle.dsr_updating.specs.declared.effects.Tag.{Tag}
+use Rattle.dsr_update_theory.specs.Changes.{Change}
+use Rattle.dsr_update_theory.specs.Effects.{InTable}
+use Rattle.dsr_update_theory.specs.Templates.{literal_at}
+use Rattle.dsr_update_theory.specs.declared.effects.Tag.{Tag}
 
 same_records : (e f : Element) → e.pool ≡ f.pool → e.slot ≡ f.slot → e ≡ f
 same_records e f pool slot = λ k. record { pool = pool k; slot = slot k }

@@ -1,9 +1,9 @@
 -- No other literal of the conjunction turns false.
 use Rattle.std.proofs.Common.{◌≡◌, ◌≢◌, ℕ, None, Some, refl, sym, subst}
-use Rattle.dsr_breaking.specs.Breaks.{Falsifies}
-use Rattle.dsr_breaking.specs.Excuses.{MayHappen}
+use Rattle.dsr_graph_theory.specs.Breaks.{Falsifies}
+use Rattle.dsr_graph_theory.specs.Excuses.{MayHappen}
 use Rattle.dsr_effect_laws.proofs.FactChanges.{not_gained, not_lost}
-use Rattle.dsr_feasible.proofs.TypedLiterals.{typed_in}
+use Rattle.dsr_repair_laws.proofs.TypedLiterals.{typed_in}
 use Rattle.dsr_graph_laws.proofs.Literals.{literal_stays}
 use Rattle.dsr_graph_laws.specs.Listed.{StaysTrue}
 use Rattle.dsr_ir.specs.declared.constraints.Literal.{Literal}
@@ -11,7 +11,7 @@ use Rattle.dsr_template_laws.proofs.MadeAsJudged.{made}
 use Rattle.dsr_template_laws.proofs.TriedApplications.{update_there}
 use Rattle.dsr_template_laws.specs.Judging.{Application, change_in, owner_of}
 use Rattle.dsr_template_laws.specs.Tried.{IsTried}
-use Rattle.dsr_updating.specs.Templates.{literal_at}
+use Rattle.dsr_update_theory.specs.Templates.{literal_at}
 
 module _ (a : Application) (t : IsTried a) where
   pub others_stay_true : Falsifies (owner_of a) a.step.conj a.step.literal a.template None → (n : ℕ) (literal : Literal) → n ≢ a.step.literal → literal_at a.applied.violated.constraint a.step.conj n ≡ Some literal → StaysTrue a literal

@@ -1,9 +1,9 @@
 -- First reasons and first literals: there is none exactly where no one is the first.
 use Rattle.std.proofs.Common.{◌≡◌, ◌<◌, ℕ, zero, suc, List, [], ◌∷◌, Option, None, Some, inl, inr, refl, sym, subst, arith}
 use Rattle.std.proofs.lemmas.Option.{none-some}
-use Rattle.dsr_breaking.specs.Breaks.{IsFirstReason}
-use Rattle.dsr_breaking.specs.declared.causes.Cause.{Cause}
-use Rattle.dsr_breaking.specs.declared.causes.Reason.{Reason}
+use Rattle.dsr_graph_theory.specs.Breaks.{IsFirstReason}
+use Rattle.dsr_graph_theory.specs.declared.causes.Cause.{Cause}
+use Rattle.dsr_graph_theory.specs.declared.causes.Reason.{Reason}
 use Rattle.dsr_meaning.specs.Counting.{IsIn}
 
 module _ (Such : Cause → Type 0) where

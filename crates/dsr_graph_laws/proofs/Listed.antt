@@ -1,16 +1,16 @@
 -- An application of a listed template is one of which the laws on listed updates speak.
 use Rattle.std.proofs.Common.{◌≡◌, ◌∙◌, ◌+◌, ◌-◌, ℕ, None, Some, sym, ap, subst, slice_get, arith}
 use Rattle.std.proofs.lemmas.Option.{same_Some}
-use Rattle.dsr_breaking.specs.Breaks.{Breaks, Falsifies}
+use Rattle.dsr_graph_theory.specs.Breaks.{Breaks, Falsifies}
 use Rattle.dsr_ir.specs.declared.constraints.Constraint.{Constraint}
 use Rattle.dsr_ir.specs.declared.declarations.Spec.{Spec}
 use Rattle.dsr_ir.specs.declared.constraints.Literal.{Literal}
 use Rattle.dsr_ir.specs.declared.updates.Template.{Template}
-use Rattle.dsr_listing.specs.Owners.{Owner}
-use Rattle.dsr_planning.specs.Plans.{IsListedAt, owner_at}
+use Rattle.dsr_graph_theory.specs.Owners.{Owner}
+use Rattle.dsr_plan_theory.specs.Plans.{IsListedAt, owner_at}
 use Rattle.dsr_template_laws.proofs.ListedTemplates.{listed_tried}
 use Rattle.dsr_template_laws.specs.Judging.{Application, IsListed, owner_of}
-use Rattle.dsr_updating.specs.Templates.{literal_at}
+use Rattle.dsr_update_theory.specs.Templates.{literal_at}
 use Rattle.dsr_graph_laws.proofs.Breaking.{was_violated}
 use Rattle.dsr_graph_laws.proofs.Falsifying.{others_stay_true}
 use Rattle.dsr_graph_laws.specs.Listed.{IsApplicationOf, IsListedWay, StaysTrue, ViolatesNoMore}

@@ -2,11 +2,11 @@
 use Rattle.std.proofs.Common.{◌≡◌, ◌≤◌, ℕ, Bool, true, false, List, Option, None, Some, IsSomeAnd, MatchBool, inl, inr, refl, sym, ap, subst, arith}
 use Rattle.std.specs.Prelude.{IsTrue}
 use Rattle.std.proofs.lemmas.Option.{same_Some}
-use Rattle.dsr_breaking.specs.Causes.{atom_causes, bound_causes, fewer_counted, gain, literal_causes, loss, more_counted, size_causes, size_changes}
-use Rattle.dsr_breaking.specs.declared.causes.Cause.{Cause}
-use Rattle.dsr_breaking.specs.declared.causes.Reason.TheVariants.{Gain, Loss}
-use Rattle.dsr_decided.proofs.Models.{facts_listed}
-use Rattle.dsr_decided.proofs.Truths.{only_size}
+use Rattle.dsr_graph_theory.specs.Causes.{atom_causes, bound_causes, fewer_counted, gain, literal_causes, loss, more_counted, size_causes, size_changes}
+use Rattle.dsr_graph_theory.specs.declared.causes.Cause.{Cause}
+use Rattle.dsr_graph_theory.specs.declared.causes.Reason.TheVariants.{Gain, Loss}
+use Rattle.dsr_model_laws.proofs.Models.{facts_listed}
+use Rattle.dsr_model_laws.proofs.Truths.{only_size}
 use Rattle.dsr_ir.specs.declared.constraints.Atom.{Atom}
 use Rattle.dsr_ir.specs.declared.constraints.Atom.TheVariants as atoms
 use Rattle.dsr_ir.specs.declared.constraints.Bound.{Bound}

@@ -1,7 +1,7 @@
 -- Where one set of facts has all facts of a symbol that another has, no size of it is less.
 use Rattle.std.proofs.Common.{◌≡◌, ◌≤◌, ℕ, Option, None, Some, IsSome, IsSomeAnd, refl, subst, arith}
 use Rattle.std.proofs.lemmas.Option.{same_Some, none-some}
-use Rattle.dsr_breaking.specs.Causes.{read_at}
+use Rattle.dsr_graph_theory.specs.Causes.{read_at}
 use Rattle.dsr_ir.specs.declared.constraints.Measure.{Measure}
 use Rattle.dsr_ir.specs.declared.constraints.Measure.TheVariants.{Whole, Out, Into}
 use Rattle.dsr_ir.specs.declared.constraints.Var.{Var}
@@ -14,7 +14,7 @@ use Rattle.dsr_meaning.specs.Counting.{AreMany}
 use Rattle.dsr_meaning.specs.Looking.{symbol_of}
 use Rattle.dsr_meaning.specs.Truth.{HasSize, HasVariable, element_of}
 use Rattle.dsr_effect_laws.specs.Allowed.{subject_of}
-use Rattle.dsr_updating.specs.Templates.{counted_symbol}
+use Rattle.dsr_update_theory.specs.Templates.{counted_symbol}
 use Rattle.dsr_meaning.proofs.Counts.{no_more}
 
 many_le : {A : Type 0} (P Q : A → Type 0) (m n : ℕ) → ((x : A) → P x → Q x) → AreMany P m → AreMany Q n → m ≤ n

@@ -3,8 +3,8 @@ use Rattle.std.specs.Prelude.{◌≡◌, ℕ, List, Some, slice_get}
 use Rattle.dsr_ir.specs.declared.constraints.Literal.{Literal}
 use Rattle.dsr_ir.specs.declared.tuples.Binding.{Binding}
 use Rattle.dsr_ir.specs.declared.updates.Template.{Template}
-use Rattle.dsr_listing.specs.Lists.{AreListedOf}
-use Rattle.dsr_listing.specs.Owners.{Owner}
+use Rattle.dsr_graph_theory.specs.Lists.{AreListedOf}
+use Rattle.dsr_graph_theory.specs.Owners.{Owner}
 use Rattle.dsr_meaning.specs.Consistency.{IsViolated}
 use Rattle.dsr_meaning.specs.Models.{IsFact}
 use Rattle.dsr_meaning.specs.Truth.{LiteralHolds}

@@ -5,24 +5,24 @@
 #![tactic(auto)]
 
 ghost use Rattle.std.specs.Prelude.{◌≡◌, ◌≢◌, ◌↔◌, ℕ, nat_eq, None, Some, slice_get};
-ghost use Rattle.dsr_breaking.specs.Breaks.{Breaks, Falsifies, MayBreakBy, SomeUpdate};
-ghost use Rattle.dsr_breaking.specs.Causes.{constraint_causes};
-ghost use Rattle.dsr_breaking.specs.declared.causes.Cause.{Cause};
-ghost use Rattle.dsr_breaking.specs.declared.causes.Reason.{Reason};
+ghost use Rattle.dsr_graph_theory.specs.Breaks.{Breaks, Falsifies, MayBreakBy, SomeUpdate};
+ghost use Rattle.dsr_graph_theory.specs.Causes.{constraint_causes};
+ghost use Rattle.dsr_graph_theory.specs.declared.causes.Cause.{Cause};
+ghost use Rattle.dsr_graph_theory.specs.declared.causes.Reason.{Reason};
 ghost use Rattle.dsr_graph_laws.specs.Listed.{IsApplicationOf, IsListedWay, StaysTrue, ViolatesNoMore};
 ghost use Rattle.dsr_ir.specs.declared.constraints.Constraint.{Constraint};
 ghost use Rattle.dsr_ir.specs.declared.constraints.Literal.{Literal};
 ghost use Rattle.dsr_ir.specs.declared.tuples.Binding.{Binding};
 ghost use Rattle.dsr_ir.specs.declared.updates.Template.{Template};
-ghost use Rattle.dsr_listing.specs.Owners.{Owner};
+ghost use Rattle.dsr_graph_theory.specs.Owners.{Owner};
 ghost use Rattle.dsr_meaning.specs.Consistency.{IsViolated};
 ghost use Rattle.dsr_meaning.specs.Counting.{IsIn};
 ghost use Rattle.dsr_meaning.specs.Models.{IsFact};
 ghost use Rattle.dsr_meaning.specs.Truth.{LiteralHolds};
-ghost use Rattle.dsr_planning.specs.Plans.{owner_at};
+ghost use Rattle.dsr_plan_theory.specs.Plans.{owner_at};
 ghost use Rattle.dsr_template_laws.specs.Judging.{Application, IsListed, owner_of};
 ghost use Rattle.dsr_template_laws.specs.Tried.{IsTried};
-ghost use Rattle.dsr_updating.specs.Templates.{literal_at};
+ghost use Rattle.dsr_update_theory.specs.Templates.{literal_at};
 
 /// Where the template falsifies no other literal of the conjunction, no application of one of its
 /// updates makes another literal of the conjunction false that was true, under any binding. The

@@ -1,5 +1,7 @@
+pub mod Finding
+pub mod Least
 pub mod Ancestors
 pub mod Growing
 pub mod Numbering
-pub mod Telling
+pub mod ToldNames
 pub mod Wide

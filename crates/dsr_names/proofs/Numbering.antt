@@ -6,7 +6,7 @@ use Rattle.std.proofs.lemmas.Slice.Eq.{bytes_eq-Decides}
 use Rattle.std.specs.List.{position_from}
 use Rattle.std.specs.Str.{bytes_eq}
 use Rattle.dsr_ir.specs.declared.declarations.Field.{Field}
-use Rattle.dsr_typing.specs.Known.{is_gap, has_field_name}
+use Rattle.dsr_language_theory.specs.Known.{is_gap, has_field_name}
 use Rattle.dsr_names.specs.Tables.{is_named, entered, field_name}
 
 -- a number that is known, or else this one where the test passes

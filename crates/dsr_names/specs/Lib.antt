@@ -1,1 +1,3 @@
+pub mod FaultsTold
+pub mod Telling
 pub mod Tables

@@ -7,7 +7,7 @@ use Rattle.dsr_ir.specs.declared.declarations.FieldRef.{FieldRef}
 use Rattle.dsr_ir.specs.declared.declarations.Structures.{Structures}
 use Rattle.dsr_meaning.specs.Typed.{ancestors}
 use Rattle.dsr_meaning.specs.Lists.{each_at}
-use Rattle.dsr_typing.specs.Known.{Known as KnownNames, is_gap}
+use Rattle.dsr_language_theory.specs.Known.{Known as KnownNames, is_gap}
 use Rattle.dsr_names.specs.declared.known.Known.{Known}
 use Rattle.dsr_names.specs.declared.tables.NameTables.{NameTables}
 

@@ -1,9 +1,9 @@
 // Tests of what is known of two things, and of numbers against fields.
 ghost use Rattle.std.specs.Prelude.{◌≡◌, ◌^◌, nat_le, option_map};
 ghost use Rattle.dsr_meaning.specs.Cells.{width_bits};
-ghost use Rattle.dsr_text.specs.Declarations.{disagree};
-ghost use Rattle.dsr_typing.specs.Known.{differ};
-ghost use Rattle.dsr_typing.specs.RuleFaults.{is_other_target};
+ghost use Rattle.dsr_language_theory.specs.Declarations.{disagree};
+ghost use Rattle.dsr_language_theory.specs.Known.{differ};
+ghost use Rattle.dsr_language_theory.specs.RuleFaults.{is_other_target};
 
 use dsr_ir::{Expr, Width};
 

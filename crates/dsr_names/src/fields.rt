@@ -1,9 +1,9 @@
 // Tests of fields that are known.
 ghost use Rattle.std.specs.Prelude.{◌≡◌, option_map, option_and_then};
 ghost use Rattle.dsr_meaning.specs.Instances.{declared_field, kind_pool};
-ghost use Rattle.dsr_typing.specs.Known.{field_is};
-ghost use Rattle.dsr_typing.specs.Rules.{array_field};
-ghost use Rattle.dsr_typing.specs.RuleFaults.{is_number, is_reference, is_array, is_scalar, is_too_narrow, refers_elsewhere, is_other_target};
+ghost use Rattle.dsr_language_theory.specs.Known.{field_is};
+ghost use Rattle.dsr_language_theory.specs.Rules.{array_field};
+ghost use Rattle.dsr_language_theory.specs.RuleFaults.{is_number, is_reference, is_array, is_scalar, is_too_narrow, refers_elsewhere, is_other_target};
 ghost use Rattle.dsr_names.specs.Tables.{known_of};
 
 use crate::comparing::{disagree, is_other_target, is_too_wide, width_bits};

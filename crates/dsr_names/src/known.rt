@@ -1,7 +1,7 @@
 // What is asked of names.
 ghost use Rattle.std.specs.Prelude.{◌≡◌, option_map};
 ghost use Rattle.dsr_meaning.specs.Instances.{declared_field};
-ghost use Rattle.dsr_typing.specs.Known.{pool_named, set_named, relation_named, plain_number, plain_set, plain_named, field_length};
+ghost use Rattle.dsr_language_theory.specs.Known.{pool_named, set_named, relation_named, plain_number, plain_set, plain_named, field_length};
 ghost use Rattle.dsr_names.specs.Tables.{own_field, first_field, line_of, known_of};
 
 use crate::tables::NameTables;

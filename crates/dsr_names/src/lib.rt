@@ -1,4 +1,5 @@
-//! What the names in rules and constraints stand for, among the tables of declarations.
+//! What the names in rules and constraints stand for among the tables of declarations, and the fault that is told of
+//! a specification among all that hold in it.
 #![tactic(auto)]
 
 mod comparing;
@@ -8,8 +9,10 @@ mod notes;
 mod numbers;
 mod quantifiers;
 mod records;
+mod refusals;
 mod relations;
 mod tables;
+mod telling;
 mod words;
 
 pub use comparing::{differ, disagree, is_other_target, is_too_wide, width_bits};
@@ -18,9 +21,11 @@ pub use notes::{note_found, note_name};
 pub use numbers::{Named, is_this, numbers_from};
 pub use quantifiers::quant_of;
 pub use records::path_field;
+pub use refusals::SpecFault;
 pub use relations::{
     first_pool, gives_numbers, has_other_source, has_other_target, has_other_targets, second_pool,
     values_others,
 };
 pub use tables::{NameTables, name_tables};
+pub use telling::Told;
 pub use words::{number_of, typed_bound, typed_compare, var_place};

@@ -1,11 +1,11 @@
 // Notes of names that stand for nothing.
 ghost use Rattle.std.specs.Prelude.{◌≡◌, not};
 ghost use Rattle.dsr_tree.specs.declared.faults.Condition.TheVariants as conditions;
-ghost use Rattle.dsr_text.specs.Faults.{when};
-ghost use Rattle.dsr_faults.specs.Telling.{Finds};
-ghost use Rattle.dsr_typing.specs.Known.{is_nil, unknown};
+ghost use Rattle.dsr_language_theory.specs.Faults.{when};
+ghost use Rattle.dsr_names.specs.Telling.{Finds};
+ghost use Rattle.dsr_language_theory.specs.Known.{is_nil, unknown};
 
-use dsr_faults::Told;
+use crate::telling::Told;
 use dsr_tree::{Condition, PlacedName};
 
 /// Takes note of a name that stands for nothing, and says whether it stands for something.

@@ -3,7 +3,7 @@ ghost use Rattle.std.specs.Prelude.{◌≡◌, ◌+◌, ◌<◌, ◌^◌, ℕ, L
 ghost use Rattle.std.specs.List.{position_from};
 ghost use Rattle.std.specs.Str.{bytes_eq};
 ghost use Rattle.indexmap.specs.IndexMap.{get};
-ghost use Rattle.dsr_typing.specs.Known.{is_this};
+ghost use Rattle.dsr_language_theory.specs.Known.{is_this};
 ghost use Rattle.dsr_names.specs.Tables.{is_named, entered};
 
 use dsr_ir::{Field, Kind, Name, NoMemory, Pool, Rel, SetDecl, TryClone};

@@ -1,7 +1,7 @@
 // What quantifiers bind.
 ghost use Rattle.std.specs.Prelude.{◌≡◌};
 ghost use Rattle.dsr_names.specs.Tables.{known_of};
-ghost use Rattle.dsr_typing.specs.TypedConstraints.{bound_symbol, quant_of};
+ghost use Rattle.dsr_language_theory.specs.TypedConstraints.{bound_symbol, quant_of};
 
 use crate::known::Known;
 use dsr_ir::{Name, Quant};

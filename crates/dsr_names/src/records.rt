@@ -1,8 +1,8 @@
 // The record of a rule, and its fields.
 ghost use Rattle.std.specs.Prelude.{◌≡◌, option_map};
 ghost use Rattle.dsr_names.specs.Tables.{known_of};
-ghost use Rattle.dsr_typing.specs.Rules as rules;
-ghost use Rattle.dsr_typing.specs.Rules.{record_name, record_structure};
+ghost use Rattle.dsr_language_theory.specs.Rules as rules;
+ghost use Rattle.dsr_language_theory.specs.Rules.{record_name, record_structure};
 
 use crate::known::Known;
 use crate::numbers::is_this;

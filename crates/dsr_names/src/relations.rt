@@ -3,7 +3,7 @@ ghost use Rattle.std.specs.Prelude.{◌≡◌, is_none, option_map, false};
 ghost use Rattle.std.specs.Option.{option_map_or};
 ghost use Rattle.dsr_ir.specs.declared.constraints.Var.TheVariants as vars_of;
 ghost use Rattle.dsr_meaning.specs.Typed.{pool_of_var};
-ghost use Rattle.dsr_typing.specs.Constraints.{has_other_source, has_other_targets, has_other_target, values_others};
+ghost use Rattle.dsr_language_theory.specs.Constraints.{has_other_source, has_other_targets, has_other_target, values_others};
 
 use crate::comparing::{disagree, is_other_target};
 use dsr_ir::{Quant, Rel, Structures};

@@ -6,7 +6,7 @@ ghost use Rattle.std.specs.Str.{bytes_eq};
 ghost use Rattle.indexmap.specs.IndexMap.{get};
 ghost use Rattle.dsr_meaning.specs.Lists.{each_at};
 ghost use Rattle.dsr_meaning.specs.Typed.{ancestors, AreTyped};
-ghost use Rattle.dsr_typing.specs.Known.{has_field_name, known_in};
+ghost use Rattle.dsr_language_theory.specs.Known.{has_field_name, known_in};
 ghost use Rattle.dsr_names.specs.Tables.{told_by};
 
 use crate::numbers::numbers_from;

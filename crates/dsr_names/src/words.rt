@@ -1,8 +1,8 @@
 // What rules and constraints have in common: variables, comparisons, and numbers that were found.
 ghost use Rattle.std.specs.Prelude.{◌≡◌};
-ghost use Rattle.dsr_typing.specs.Rules.{var_place};
-ghost use Rattle.dsr_typing.specs.TypedConstraints.{typed_bound};
-ghost use Rattle.dsr_typing.specs.TypedRules.{number_of, typed_compare};
+ghost use Rattle.dsr_language_theory.specs.Rules.{var_place};
+ghost use Rattle.dsr_language_theory.specs.TypedConstraints.{typed_bound};
+ghost use Rattle.dsr_language_theory.specs.TypedRules.{number_of, typed_compare};
 
 use dsr_ir::Op;
 use dsr_tree::{Bound, Compare, Var};

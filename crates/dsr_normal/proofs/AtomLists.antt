@@ -16,7 +16,7 @@ use Rattle.dsr_ir.specs.declared.rules.Op.{Op}
 use Rattle.dsr_ir.specs.declared.rules.Op.TheVariants as ops
 use Rattle.dsr_meaning.proofs.Lists.{in_front_or_last, last_in}
 use Rattle.dsr_meaning.specs.Counting.{IsIn, IsDistinct, Enumerates}
-use Rattle.dsr_typing.specs.NormalForms.{is_same_var, is_same_op, is_same_measure, is_same_bound, is_same_atom, has_atom, different, has_many_atoms}
+use Rattle.dsr_language_theory.specs.NormalForms.{is_same_var, is_same_op, is_same_measure, is_same_bound, is_same_atom, has_atom, different, has_many_atoms}
 use Rattle.dsr_meaning.proofs.Items.{in_left}
 
 -- ---- what is told to be the same is the same

@@ -3,7 +3,7 @@ use Rattle.std.proofs.Common.{◌≡◌, ◌<◌, ◌+◌, ℕ, List, [], ◌∷
 use Rattle.std.proofs.lemmas.List.{append-nil, map-append, take_more}
 use Rattle.dsr_ir.specs.declared.constraints.Conj.{Conj}
 use Rattle.dsr_ir.specs.declared.constraints.Literal.{Literal}
-use Rattle.dsr_typing.specs.NormalForms.{joined, conj_of}
+use Rattle.dsr_language_theory.specs.NormalForms.{joined, conj_of}
 use Rattle.dsr_normal.specs.Literals.{literals_of}
 use Rattle.dsr_normal.proofs.Joining.{joined_append}
 

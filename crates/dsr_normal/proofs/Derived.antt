@@ -16,7 +16,7 @@ use Rattle.dsr_ir.specs.contracts.constraints.BoundPartialEq.TheImpl as bound
 use Rattle.dsr_ir.specs.contracts.constraints.MeasurePartialEq.TheImpl as measure
 use Rattle.dsr_ir.specs.contracts.constraints.VarPartialEq.TheImpl as variable
 use Rattle.dsr_ir.specs.contracts.rules.OpPartialEq.TheImpl as op
-use Rattle.dsr_typing.specs.NormalForms.{is_same_var, is_same_op, is_same_measure, is_same_bound, is_same_atom}
+use Rattle.dsr_language_theory.specs.NormalForms.{is_same_var, is_same_op, is_same_measure, is_same_bound, is_same_atom}
 
 var_eq : (v w : Var) → variable.ghosts.eq v w ≡ is_same_var v w
 var_eq vars.Head vars.Head = refl

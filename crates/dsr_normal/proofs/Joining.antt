@@ -2,7 +2,7 @@
 use Rattle.std.proofs.Common.{◌≡◌, List, [], ◌∷◌, ◌++◌, map, refl, ap, sym, ◌∙◌}
 use Rattle.std.proofs.lemmas.List.{append_assoc, append-nil, map-append}
 use Rattle.dsr_ir.specs.declared.constraints.Literal.{Literal}
-use Rattle.dsr_typing.specs.NormalForms.{joined}
+use Rattle.dsr_language_theory.specs.NormalForms.{joined}
 
 prefixed_twice : (x y : List Literal) (zs : List (List Literal)) → map (λ d. x ++ d) (map (λ d. y ++ d) zs) ≡ map (λ d. (x ++ y) ++ d) zs
 prefixed_twice x y [] = refl

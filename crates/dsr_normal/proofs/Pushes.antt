@@ -1,7 +1,7 @@
 -- Pushing `not` down first and distributing then gives the same list.
 use Rattle.std.proofs.Common.{◌≡◌, Bool, true, false, not, ◌++◌, refl}
 use Rattle.dsr_ir.specs.Formulas.{FormulaShape, AnyOf, EveryOf, NotOf, GivenOf, LeafOf, FormulaShapes, NoneOf, MoreOf}
-use Rattle.dsr_typing.specs.NormalForms.{joined, distributed, any_row, every_row}
+use Rattle.dsr_language_theory.specs.NormalForms.{joined, distributed, any_row, every_row}
 use Rattle.dsr_normal.specs.Pushing.{pushed, pushed_row, spread, spread_any, spread_every}
 
 mutual

@@ -6,7 +6,7 @@ use Rattle.dsr_ir.proofs.Rows.{row_shapes-hidden}
 use Rattle.dsr_ir.specs.declared.formulas.FormulaNode.{FormulaNode}
 use Rattle.dsr_ir.specs.declared.formulas.FormulaNode.TheViews as views
 use Rattle.dsr_ir.specs.Formulas.{FormulaShape, AnyOf, EveryOf, formula_shape, in_row}
-use Rattle.dsr_typing.specs.NormalForms.{distributed, any_row, every_row, joined, atoms_of, row_atoms}
+use Rattle.dsr_language_theory.specs.NormalForms.{distributed, any_row, every_row, joined, atoms_of, row_atoms}
 use Rattle.dsr_normal.proofs.Joining.{joined_assoc, joined_one, joined_by_one}
 
 any_more : (n g : Bool) (xs : List FormulaShape) (x : FormulaShape) → any_row n g (in_row (xs ++ (x ∷ []))) ≡ any_row n g (in_row xs) ++ distributed n g x

@@ -4,7 +4,7 @@ use Rattle.std.specs.Prelude.{if◌then◌else◌}
 use Rattle.dsr_ir.specs.declared.constraints.Atom.{Atom}
 use Rattle.dsr_ir.specs.declared.constraints.Literal.{Literal}
 use Rattle.dsr_ir.specs.Formulas.{FormulaShape, AnyOf, EveryOf, NotOf, GivenOf, LeafOf, FormulaShapes, NoneOf, MoreOf}
-use Rattle.dsr_typing.specs.NormalForms.{joined, distributed, any_row, every_row, conj_of, holds, some_part, each_part, literal_holds, all_hold, one_holds}
+use Rattle.dsr_language_theory.specs.NormalForms.{joined, distributed, any_row, every_row, conj_of, holds, some_part, each_part, literal_holds, all_hold, one_holds}
 
 abbrev both : Bool → Bool → Bool
 both a b = if a then b else false

@@ -6,7 +6,7 @@ use Rattle.std.proofs.lemmas.Bool.Decides.{nat_tests}
 use Rattle.std.proofs.lemmas.List.{length-map}
 use Rattle.dsr_ir.specs.declared.constraints.Literal.{Literal}
 use Rattle.dsr_normal.specs.declared.sizes.Size.{Size}
-use Rattle.dsr_typing.specs.NormalForms.{joined, longest}
+use Rattle.dsr_language_theory.specs.NormalForms.{joined, longest}
 use Rattle.dsr_normal.specs.Sizes.{size_of, added, multiplied}
 use Rattle.dsr_normal.proofs.Joining.{joined_nothing}
 

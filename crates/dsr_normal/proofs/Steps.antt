@@ -2,7 +2,7 @@
 use Rattle.std.proofs.Common.{◌≡◌, ◌<◌, ◌+◌, ℕ, Bool, List, map, take, length, get_or, ap, sym, ◌∙◌}
 use Rattle.dsr_ir.specs.declared.formulas.FormulaNode.{FormulaNode}
 use Rattle.dsr_ir.specs.Formulas.{formula_shape, in_row}
-use Rattle.dsr_typing.specs.NormalForms.{distributed, any_row, every_row}
+use Rattle.dsr_language_theory.specs.NormalForms.{distributed, any_row, every_row}
 use Rattle.dsr_normal.specs.Sizes.{size_of, added, multiplied}
 use Rattle.dsr_normal.proofs.Rows.{any_step, every_step}
 use Rattle.dsr_normal.proofs.Sizing.{size_added, size_multiplied}

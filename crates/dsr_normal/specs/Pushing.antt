@@ -3,7 +3,7 @@
 use Rattle.std.specs.Prelude.{if◌then◌else◌, Bool, true, not, List, [], ◌∷◌, ◌++◌}
 use Rattle.dsr_ir.specs.declared.constraints.Literal.{Literal}
 use Rattle.dsr_ir.specs.Formulas.{FormulaShape, AnyOf, EveryOf, NotOf, GivenOf, LeafOf, FormulaShapes, NoneOf, MoreOf}
-use Rattle.dsr_typing.specs.NormalForms.{joined}
+use Rattle.dsr_language_theory.specs.NormalForms.{joined}
 
 -- a formula without `not` and `given`, and several
 mutual

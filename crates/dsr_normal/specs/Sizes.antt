@@ -1,7 +1,7 @@
 -- The size of a normal form, as it is counted before the form is made.
 use Rattle.std.specs.Prelude.{if◌then◌else◌, ◌+◌, ◌*◌, Bool, nat_lt, ◌==◌, ◌||◌, List, length, min, max}
 use Rattle.dsr_ir.specs.declared.constraints.Literal.{Literal}
-use Rattle.dsr_typing.specs.NormalForms.{longest}
+use Rattle.dsr_language_theory.specs.NormalForms.{longest}
 use Rattle.dsr_normal.specs.declared.sizes.Size.{Size}
 
 -- the size as it is counted: beyond the limits it is all the same

@@ -1,7 +1,7 @@
 -- What a fault of a formula says.
 use Rattle.std.specs.Prelude.{◌≡◌, false, Option, None, Some}
 use Rattle.dsr_ir.specs.Formulas.{FormulaShape}
-use Rattle.dsr_typing.specs.NormalForms.{Refusal, negated_value, too_many_conjunctions, too_many_atoms, refusal_of, distributed, negates, is_too_large}
+use Rattle.dsr_language_theory.specs.NormalForms.{Refusal, negated_value, too_many_conjunctions, too_many_atoms, refusal_of, distributed, negates, is_too_large}
 use Rattle.dsr_normal.specs.declared.faults.NormalFault.{NormalFault}
 use Rattle.dsr_normal.specs.declared.faults.NormalFault.TheVariants as faults
 

@@ -1,7 +1,7 @@
 // The different atoms of a formula.
 ghost use Rattle.std.specs.Prelude.{◌≡◌, [], ◌∷◌, IfOk, map};
 ghost use Rattle.dsr_ir.specs.Formulas.{formula_shape, in_row};
-ghost use Rattle.dsr_typing.specs.NormalForms.{is_same_atom, atoms_of, row_atoms, has_atom, has_many_atoms};
+ghost use Rattle.dsr_language_theory.specs.NormalForms.{is_same_atom, atoms_of, row_atoms, has_atom, has_many_atoms};
 
 use dsr_ir::{Atom, FormulaNode, NoMemory};
 use std::alloc::Global;

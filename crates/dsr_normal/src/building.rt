@@ -1,7 +1,7 @@
 // Conjunctions of a normal form.
 ghost use Rattle.std.specs.Prelude.{◌≡◌, [], ◌∷◌, ◌++◌, IfOk, map};
 ghost use Rattle.dsr_ir.specs.Formulas.{formula_shape, in_row};
-ghost use Rattle.dsr_typing.specs.NormalForms.{distributed, any_row, every_row, joined};
+ghost use Rattle.dsr_language_theory.specs.NormalForms.{distributed, any_row, every_row, joined};
 ghost use Rattle.dsr_normal.specs.Literals.{literals_of};
 
 use crate::sizes::every_size;

@@ -3,7 +3,7 @@ ghost use Rattle.std.specs.Prelude.{◌≡◌, ◌↔◌, [], Bool, List, IsTrue
 ghost use Rattle.dsr_ir.specs.Formulas.{FormulaShape};
 ghost use Rattle.dsr_ir.specs.declared.constraints.Atom.{Atom};
 ghost use Rattle.dsr_meaning.specs.Counting.{IsIn, Enumerates};
-ghost use Rattle.dsr_typing.specs.NormalForms.{is_same_atom, has_atom, different, distributed};
+ghost use Rattle.dsr_language_theory.specs.NormalForms.{is_same_atom, has_atom, different, distributed};
 ghost use Rattle.dsr_normal.specs.Pushing.{pushed, spread};
 
 /// Two atoms are told to be the same exactly where they are.

@@ -1,7 +1,7 @@
 // The normal form of a formula.
 ghost use Rattle.std.specs.Prelude.{◌≡◌, ◌↔◌, Bool, None, Some, IfOk, IfErr, OnOk, IsErrOf};
 ghost use Rattle.dsr_ir.specs.declared.constraints.Atom.{Atom};
-ghost use Rattle.dsr_typing.specs.NormalForms.{negated_value, too_many_conjunctions, normal_form, refusal_of, holds, one_holds};
+ghost use Rattle.dsr_language_theory.specs.NormalForms.{negated_value, too_many_conjunctions, normal_form, refusal_of, holds, one_holds};
 ghost use Rattle.dsr_normal.specs.Telling.{IsTold};
 ghost use Rattle.dsr_normal.specs.declared.faults.NormalFault.TheVariants as faults;
 

@@ -2,7 +2,7 @@
 // conjunctions is refused at once.
 ghost use Rattle.std.specs.Prelude.{◌≡◌, map};
 ghost use Rattle.dsr_ir.specs.Formulas.{formula_shape, in_row};
-ghost use Rattle.dsr_typing.specs.NormalForms.{distributed, any_row, every_row};
+ghost use Rattle.dsr_language_theory.specs.NormalForms.{distributed, any_row, every_row};
 ghost use Rattle.dsr_normal.specs.Sizes.{size_of, added, multiplied, is_large};
 
 use dsr_ir::FormulaNode;

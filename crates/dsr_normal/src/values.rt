@@ -1,7 +1,7 @@
 // Statements that are no memberships and are negated.
 ghost use Rattle.std.specs.Prelude.{◌≡◌, map};
 ghost use Rattle.dsr_ir.specs.Formulas.{formula_shape, in_row};
-ghost use Rattle.dsr_typing.specs.NormalForms.{is_membership, negates, row_negates};
+ghost use Rattle.dsr_language_theory.specs.NormalForms.{is_membership, negates, row_negates};
 
 use dsr_ir::{Atom, FormulaNode};
 

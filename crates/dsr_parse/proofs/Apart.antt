@@ -8,7 +8,7 @@ use Rattle.dsr_tree.specs.contracts.tokens.Keyword as keyword
 use Rattle.dsr_tree.specs.contracts.tokens.Sign as sign
 use Rattle.dsr_tree.specs.contracts.tokens.KeywordPartialEq.TheImpl as same_keyword
 use Rattle.dsr_tree.specs.contracts.tokens.SignPartialEq.TheImpl as same_sign
-use Rattle.dsr_text.specs.Syntax.{Class, a_word, a_mark, a_name, a_number, a_version, IsOf}
+use Rattle.dsr_syntax_theory.specs.Syntax.{Class, a_word, a_mark, a_name, a_number, a_version, IsOf}
 use Rattle.dsr_parse.specs.Machine.{accepts, among}
 
 -- a token that is accepted is of the kind

@@ -29,9 +29,9 @@ use Rattle.dsr_tree.specs.declared.tree.SumSign.{SumSign}
 use Rattle.dsr_tree.specs.declared.tree.ProductSign.{ProductSign}
 use Rattle.dsr_tree.specs.declared.tree.Bound.{Bound}
 use Rattle.dsr_tree.specs.declared.tree.Compare.{Compare}
-use Rattle.dsr_text.specs.Bare.{bare_name, bare_expr, bare_more_terms, bare_term2, bare_more_factors, bare_factor, bare_var, bare_size, bare_measure, bare_atom, bare_formula, bare_joins, bare_join, bare_units, bare_unit, bare_width, bare_content, bare_place, bare_named_field, bare_field, bare_structure, bare_pool, bare_view, bare_set, bare_target, bare_relation, bare_fresh, bare_path, bare_premise, bare_index, bare_span, bare_guard, bare_guards, bare_term, bare_member_part, bare_member, bare_inclusion, bare_rule, bare_binder, bare_quantifier, bare_constraint, bare_tree}
-use Rattle.dsr_text.specs.Phrases.{Phrase, silent, said, said_at, ◌▸◌, in_turn, Says, says_nothing, says, says_at, says_both}
-use Rattle.dsr_text.specs.TreeTexts.{maybe_text, sum_text, product_text, expr_text, more_terms_text, term2_text, more_factors_text, factor_text, var_text, bound_text, compare_text, size_part_text, size_text, measure_text, atom_text, formula_text, joins_text, join_text, units_text, unit_text, width_text, brackets_text, content_text, fixed_text, named_field_text, field_text, parent_text, structure_text, behind_text, pool_text, view_text, set_text, target_text, relation_text, more_name_text, fresh_text, index_text, path_text, premise_text, index_source_text, span_text, guard_text, more_guard_text, guards_text, term_text, member_part_text, member_text, inclusion_text, rule_text, binder_text, quantifier_text, constraint_text, endian_text, tree_text}
+use Rattle.dsr_syntax_theory.specs.Bare.{bare_name, bare_expr, bare_more_terms, bare_term2, bare_more_factors, bare_factor, bare_var, bare_size, bare_measure, bare_atom, bare_formula, bare_joins, bare_join, bare_units, bare_unit, bare_width, bare_content, bare_place, bare_named_field, bare_field, bare_structure, bare_pool, bare_view, bare_set, bare_target, bare_relation, bare_fresh, bare_path, bare_premise, bare_index, bare_span, bare_guard, bare_guards, bare_term, bare_member_part, bare_member, bare_inclusion, bare_rule, bare_binder, bare_quantifier, bare_constraint, bare_tree}
+use Rattle.dsr_syntax_theory.specs.Phrases.{Phrase, silent, said, said_at, ◌▸◌, in_turn, Says, says_nothing, says, says_at, says_both}
+use Rattle.dsr_syntax_theory.specs.TreeTexts.{maybe_text, sum_text, product_text, expr_text, more_terms_text, term2_text, more_factors_text, factor_text, var_text, bound_text, compare_text, size_part_text, size_text, measure_text, atom_text, formula_text, joins_text, join_text, units_text, unit_text, width_text, brackets_text, content_text, fixed_text, named_field_text, field_text, parent_text, structure_text, behind_text, pool_text, view_text, set_text, target_text, relation_text, more_name_text, fresh_text, index_text, path_text, premise_text, index_source_text, span_text, guard_text, more_guard_text, guards_text, term_text, member_part_text, member_text, inclusion_text, rule_text, binder_text, quantifier_text, constraint_text, endian_text, tree_text}
 use Rattle.dsr_tree.specs.declared.tokens.Keyword.{Keyword}
 
 -- a phrase with every place 0

@@ -2,8 +2,8 @@
 use Rattle.std.proofs.Common.{◌≡◌, List, [], ◌∷◌, ◌++◌, Bool, true, false, ◌&&◌, ◌||◌, not, refl, if◌then◌else◌}
 use Rattle.dsr_tree.specs.declared.tokens.Keyword.TheVariants as keyword
 use Rattle.dsr_tree.specs.declared.tokens.Sign.TheVariants as sign
-use Rattle.dsr_text.specs.Syntax.{Class, a_word, a_mark, Part, an_expression, a_formula, a_unit, Syntax, One, Empty, Then, Either, Many, The}
-use Rattle.dsr_text.specs.Grammar.{rule_of, spec}
+use Rattle.dsr_syntax_theory.specs.Syntax.{Class, a_word, a_mark, Part, an_expression, a_formula, a_unit, Syntax, One, Empty, Then, Either, Many, The}
+use Rattle.dsr_syntax_theory.specs.Grammar.{rule_of, spec}
 use Rattle.dsr_parse.specs.Machine.{nullable, first, first_of}
 use Rattle.dsr_parse.proofs.Apart.{disjoint}
 

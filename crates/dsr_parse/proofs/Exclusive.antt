@@ -1,12 +1,12 @@
 -- A text is a specification, or has one first fault of one kind.
 use Rattle.std.proofs.Common.{◌≡◌, ◌⊎◌, inl, inr, ℕ, List, [], ◌∷◌, ◌++◌, true, false, Some, None, refl, sym, ap, subst, ◌∙◌, append_assoc}
 use Rattle.dsr_tree.specs.declared.tokens.Lexeme.{Lexeme}
-use Rattle.dsr_text.specs.Syntax.{Derives}
-use Rattle.dsr_text.specs.Grammar.{rule_of, spec}
-use Rattle.dsr_text.specs.Tokens.{IsLexed}
-use Rattle.dsr_text.specs.Sentences.{within, IsSentence, IsFront, LeadsOn, StandFirst, IsSpecText, IsNoToken, IsUnexpected, at_token, at_end, IsPastLimit, past_limit}
-use Rattle.dsr_tokens.proofs.Laws.{lexed_once, fault_not_lexed, fault_once}
-use Rattle.dsr_tokens.proofs.Fronts.{Leads, fronts_compare, front_leads}
+use Rattle.dsr_syntax_theory.specs.Syntax.{Derives}
+use Rattle.dsr_syntax_theory.specs.Grammar.{rule_of, spec}
+use Rattle.dsr_syntax_theory.specs.Tokens.{IsLexed}
+use Rattle.dsr_syntax_theory.specs.Sentences.{within, IsSentence, IsFront, LeadsOn, StandFirst, IsSpecText, IsNoToken, IsUnexpected, at_token, at_end, IsPastLimit, past_limit}
+use Rattle.dsr_lexer.proofs.Laws.{lexed_once, fault_not_lexed, fault_once}
+use Rattle.dsr_lexer.proofs.Fronts.{Leads, fronts_compare, front_leads}
 use Rattle.dsr_parse.proofs.Sentences.{sentence_front}
 
 -- ---- fronts of specifications

@@ -2,8 +2,8 @@
 use Rattle.std.proofs.Common.{◌≡◌, ℕ, List, [], ◌∷◌, ◌++◌, Bool, true, false, ◌&&◌, ◌||◌, not, Option, Some, None, refl, sym, ap, subst, ◌⊎◌, inl, inr, append_assoc, if◌then◌else◌}
 use Rattle.std.proofs.lemmas.Bool.{and_parts, and_from, or_right, false_from_ne_true}
 use Rattle.dsr_tree.specs.declared.tokens.Token.{Token}
-use Rattle.dsr_text.specs.Syntax.{Class, IsOf, Charge, count_after, is_over, Part, Syntax, One, Empty, Then, Either, Many, The, Marked, Derives, one, empty, both, left, right, no_more, more, part}
-use Rattle.dsr_text.specs.Grammar.{rule_of, spec}
+use Rattle.dsr_syntax_theory.specs.Syntax.{Class, IsOf, Charge, count_after, is_over, Part, Syntax, One, Empty, Then, Either, Many, The, Marked, Derives, one, empty, both, left, right, no_more, more, part}
+use Rattle.dsr_syntax_theory.specs.Grammar.{rule_of, spec}
 use Rattle.dsr_parse.specs.Machine.{accepts, among, nullable, first, may_begin, Move, enter, not_into, into_part, step}
 use Rattle.dsr_parse.proofs.Apart.{accepts_it, among_left, among_right, disjoint, disjoint_so}
 use Rattle.dsr_parse.proofs.Checked.{tail, tail_rule, is_good, fronts, rule_good, rule_fronts, spec_good}

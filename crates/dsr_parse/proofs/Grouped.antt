@@ -3,9 +3,9 @@ use Rattle.std.specs.Prelude.{Result, Ok, Err, IfOk, IfErr, OnOk}
 use Rattle.std.proofs.Common.{◌≡◌, ℕ, suc, List, [], ◌∷◌, ◌++◌, length, Option, Some, None, Bool, true, false, cond, ◌&&◌, refl, sym, ap, subst, ◌∙◌}
 use Rattle.dsr_tree.specs.declared.tokens.Lexeme.{Lexeme}
 use Rattle.dsr_tree.specs.declared.tokens.Token.{Token}
-use Rattle.dsr_text.specs.Grammar.{rule_of}
-use Rattle.dsr_text.specs.Phrases.{Phrase, ◌▸◌, Says, says_both}
-use Rattle.dsr_text.specs.Syntax.{Part, Syntax, One, Empty, Then, Either, Many, The, is_over, count_after}
+use Rattle.dsr_syntax_theory.specs.Grammar.{rule_of}
+use Rattle.dsr_syntax_theory.specs.Phrases.{Phrase, ◌▸◌, Says, says_both}
+use Rattle.dsr_syntax_theory.specs.Syntax.{Part, Syntax, One, Empty, Then, Either, Many, The, is_over, count_after}
 use Rattle.dsr_parse.specs.Machine.{accepts, may_begin, nullable, Move, enter, not_into, into_part, step, is_done, run, go_on, Accepts, StopsAt, Exceeds}
 use Rattle.dsr_parse.specs.Reading.{Standing, Halts, Reads}
 use Rattle.dsr_parse.specs.declared.reader.Stop.{Stop}

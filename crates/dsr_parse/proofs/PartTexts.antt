@@ -9,10 +9,10 @@ use Rattle.dsr_tree.specs.declared.tree.Field.{Field}
 use Rattle.dsr_tree.specs.declared.tree.Width.{Width}
 use Rattle.dsr_tree.specs.declared.tree.Width.TheVariants as widths
 use Rattle.dsr_tree.specs.Trees.{FieldTree, NamedFieldTree, named, skipped, expr_shape, field_shape}
-use Rattle.dsr_text.specs.Grammar.{maybe, word, width, field}
-use Rattle.dsr_text.specs.Phrases.{Phrase, said_at, Says, says_at, says_both, in_turn}
-use Rattle.dsr_text.specs.Syntax.{Syntax, a_word}
-use Rattle.dsr_text.specs.TreeTexts.{maybe_text, fixed_text, brackets_text, behind_text, field_text, named_field_text, width_text}
+use Rattle.dsr_syntax_theory.specs.Grammar.{maybe, word, width, field}
+use Rattle.dsr_syntax_theory.specs.Phrases.{Phrase, said_at, Says, says_at, says_both, in_turn}
+use Rattle.dsr_syntax_theory.specs.Syntax.{Syntax, a_word}
+use Rattle.dsr_syntax_theory.specs.TreeTexts.{maybe_text, fixed_text, brackets_text, behind_text, field_text, named_field_text, width_text}
 use Rattle.dsr_parse.specs.Machine.{accepts, may_begin}
 use Rattle.dsr_parse.specs.Reading.{Standing, Reads, is_next, said_field, said_length, said_slot}
 use Rattle.dsr_parse.proofs.Taking.{begins_shorter, in_turn_mapped, reads_to}

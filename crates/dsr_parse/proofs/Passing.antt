@@ -3,14 +3,14 @@ use Rattle.std.specs.Prelude.{Result, Err, Ok, IsErrAnd, IfErr}
 use Rattle.std.proofs.Common.{◌≡◌, ◌<◌, ◌≤◌, ◌+◌, ℕ, suc, List, [], ◌∷◌, ◌++◌, length, Some, None, Bool, true, false, cond, ◌&&◌, ◌||◌, refl, sym, ap, subst, ◌∙◌, arith}
 use Rattle.dsr_tree.specs.declared.tokens.Lexeme.{Lexeme}
 use Rattle.dsr_tree.specs.declared.tokens.Token.{Token}
-use Rattle.dsr_text.specs.Grammar.{rule_of, expression, formula, unit}
-use Rattle.dsr_text.specs.TreeTexts.{sum_text, product_text}
+use Rattle.dsr_syntax_theory.specs.Grammar.{rule_of, expression, formula, unit}
+use Rattle.dsr_syntax_theory.specs.TreeTexts.{sum_text, product_text}
 use Rattle.dsr_tree.specs.declared.tree.SumSign.{SumSign}
 use Rattle.dsr_tree.specs.declared.tree.SumSign.TheVariants.{Plus, Minus}
 use Rattle.dsr_tree.specs.declared.tree.ProductSign.{ProductSign}
 use Rattle.dsr_tree.specs.declared.tree.ProductSign.TheVariants.{Times, Over}
-use Rattle.dsr_text.specs.Phrases.{Phrase, silent, said, said_at, ◌▸◌, Says, says_nothing, says, says_at, says_both, in_turn}
-use Rattle.dsr_text.specs.Syntax.{Class, Charge, free, starts, counted, opening, count_after, is_over, Part, an_expression, a_formula, a_unit, Syntax, One, Empty, Then, Either, Many, The}
+use Rattle.dsr_syntax_theory.specs.Phrases.{Phrase, silent, said, said_at, ◌▸◌, Says, says_nothing, says, says_at, says_both, in_turn}
+use Rattle.dsr_syntax_theory.specs.Syntax.{Class, Charge, free, starts, counted, opening, count_after, is_over, Part, an_expression, a_formula, a_unit, Syntax, One, Empty, Then, Either, Many, The}
 use Rattle.std.proofs.lemmas.Bool.{lt-leb, le-leb}
 use Rattle.dsr_parse.specs.Machine.{accepts, among, may_begin, first, nullable, enter, into_part, step, is_done, run, go_on, Progress, Accepts, StopsAt, Exceeds}
 use Rattle.dsr_parse.specs.Reading.{Standing, Halts, EndsBy, Reads, ReadsItems, Next, Other, is_next}

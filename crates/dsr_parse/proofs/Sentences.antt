@@ -2,9 +2,9 @@
 use Rattle.std.proofs.Common.{◌≡◌, ◌≤◌, ◌<◌, ℕ, suc, List, [], ◌∷◌, ◌++◌, length, Bool, true, false, Option, Some, None, refl, sym, ap, subst, ◌∙◌, arith, append-nil, length-append, if◌then◌else◌}
 use Rattle.dsr_tree.specs.declared.tokens.Lexeme.{Lexeme}
 use Rattle.dsr_tree.specs.declared.tokens.Token.{Token}
-use Rattle.dsr_text.specs.Syntax.{Syntax, Marked, Derives}
-use Rattle.dsr_text.specs.Grammar.{rule_of, spec}
-use Rattle.dsr_text.specs.Sentences.{within, IsSentence, IsFront, LeadsOn}
+use Rattle.dsr_syntax_theory.specs.Syntax.{Syntax, Marked, Derives}
+use Rattle.dsr_syntax_theory.specs.Grammar.{rule_of, spec}
+use Rattle.dsr_syntax_theory.specs.Sentences.{within, IsSentence, IsFront, LeadsOn}
 use Rattle.dsr_parse.specs.Machine.{Move, step, is_done, Progress, Accepts, StopsAt, Exceeds, go_on, run}
 use Rattle.dsr_parse.proofs.Stacks.{choose, Lang, back, ending, done_sound, done_complete}
 use Rattle.dsr_parse.proofs.Goes.{Good, good_spec, kept, steps}

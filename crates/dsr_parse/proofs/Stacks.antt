@@ -4,8 +4,8 @@ use Rattle.std.proofs.lemmas.Bool.{and_parts, and_from, or_cases, or_left, or_ri
 use Rattle.dsr_tree.specs.declared.tokens.Token.{Token}
 use Rattle.dsr_tree.specs.declared.tokens.Token.TheVariants as token
 use Rattle.dsr_tree.specs.declared.tokens.Keyword.TheVariants as keyword
-use Rattle.dsr_text.specs.Syntax.{Class, a_word, a_mark, a_name, a_number, a_version, IsOf, Charge, free, count_after, is_over, Part, an_expression, a_formula, a_unit, Syntax, One, Empty, Then, Either, Many, The, Marked, Derives, one, empty, both, left, right, no_more, more, part}
-use Rattle.dsr_text.specs.Grammar.{rule_of, unit, literal}
+use Rattle.dsr_syntax_theory.specs.Syntax.{Class, a_word, a_mark, a_name, a_number, a_version, IsOf, Charge, free, count_after, is_over, Part, an_expression, a_formula, a_unit, Syntax, One, Empty, Then, Either, Many, The, Marked, Derives, one, empty, both, left, right, no_more, more, part}
+use Rattle.dsr_syntax_theory.specs.Grammar.{rule_of, unit, literal}
 use Rattle.dsr_parse.specs.Machine.{accepts, among, nullable, first, may_begin, Move, enter, not_into, into_part, step, is_done}
 use Rattle.dsr_parse.proofs.Apart.{is_of, accepts_it, among_left, among_right}
 use Rattle.dsr_parse.proofs.Checked.{first_rule, nullable_rule}

@@ -3,8 +3,8 @@ use Rattle.std.proofs.Common.{◌≡◌, ◌<◌, ℕ, List, [], ◌∷◌, leng
 use Rattle.std.specs.Prelude.{IfSome, IfNone, IfOk, Result, Ok, Err}
 use Rattle.dsr_tree.specs.declared.tokens.Lexeme.{Lexeme}
 use Rattle.dsr_tree.specs.declared.tokens.Token.{Token}
-use Rattle.dsr_text.specs.Phrases.{Phrase, silent, said, said_at}
-use Rattle.dsr_text.specs.Syntax.{Syntax, Empty, Either}
+use Rattle.dsr_syntax_theory.specs.Phrases.{Phrase, silent, said, said_at}
+use Rattle.dsr_syntax_theory.specs.Syntax.{Syntax, Empty, Either}
 use Rattle.dsr_parse.specs.Machine.{nullable}
 use Rattle.dsr_parse.specs.Reading.{Standing, Halts, Reads, Next, Other, is_next}
 use Rattle.dsr_parse.specs.declared.reader.Stop.{Stop}

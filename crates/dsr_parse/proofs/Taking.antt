@@ -1,8 +1,8 @@
 -- Tokens that are taken where they are next.
 use Rattle.std.proofs.Common.{Bool, ◌≡◌, ◌<◌, ◌⊎◌, inl, inr, ℕ, List, [], ◌∷◌, map, length, Option, Some, None, true, false, ◌||◌, nat_eq, IfSome, IfNone, is_some, refl, sym, ap, subst, arith}
 use Rattle.dsr_tree.specs.declared.tokens.Token.{Token}
-use Rattle.dsr_text.specs.Phrases.{Phrase, silent, said, said_at, ◌▸◌, Says, says_at, says_both, in_turn}
-use Rattle.dsr_text.specs.Syntax.{Syntax, Either, Empty}
+use Rattle.dsr_syntax_theory.specs.Phrases.{Phrase, silent, said, said_at, ◌▸◌, Says, says_at, says_both, in_turn}
+use Rattle.dsr_syntax_theory.specs.Syntax.{Syntax, Either, Empty}
 use Rattle.dsr_parse.specs.Machine.{nullable}
 use Rattle.dsr_parse.specs.Reading.{is_next, Standing, Reads, Halts, Next, Other, Found}
 use Rattle.dsr_parse.specs.declared.reader.Stop.{Stop}

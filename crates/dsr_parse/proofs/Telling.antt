@@ -48,8 +48,8 @@ use Rattle.dsr_tree.specs.declared.tree.Var.TheVariants as vars
 use Rattle.dsr_tree.specs.declared.tree.View.{View}
 use Rattle.dsr_tree.specs.declared.tree.View.TheVariants as views
 use Rattle.dsr_tree.specs.declared.tree.Width.TheVariants as widths
-use Rattle.dsr_text.specs.Phrases.{Phrase, silent, said, said_at, ◌▸◌, in_turn}
-use Rattle.dsr_text.specs.TreeTexts.{name_text, number_text, maybe_text, sum_text, product_text, expr_text, more_terms_text, term2_text, more_factors_text, factor_text, var_text, bound_text, compare_text, size_part_text, size_text, measure_text, atom_text, formula_text, joins_text, join_text, units_text, unit_text, width_text, brackets_text, content_text, fixed_text, named_field_text, field_text, parent_text, structure_text, behind_text, pool_text, view_text, set_text, target_text, relation_text, more_name_text, fresh_text, index_text, path_text, premise_text, index_source_text, span_text, test_text, test_word, guard_text, more_guard_text, guards_text, term_text, member_part_text, member_text, inclusion_text, rule_text, binder_text, quantifier_text, constraint_text, endian_text, tree_text}
+use Rattle.dsr_syntax_theory.specs.Phrases.{Phrase, silent, said, said_at, ◌▸◌, in_turn}
+use Rattle.dsr_syntax_theory.specs.TreeTexts.{name_text, number_text, maybe_text, sum_text, product_text, expr_text, more_terms_text, term2_text, more_factors_text, factor_text, var_text, bound_text, compare_text, size_part_text, size_text, measure_text, atom_text, formula_text, joins_text, join_text, units_text, unit_text, width_text, brackets_text, content_text, fixed_text, named_field_text, field_text, parent_text, structure_text, behind_text, pool_text, view_text, set_text, target_text, relation_text, more_name_text, fresh_text, index_text, path_text, premise_text, index_source_text, span_text, test_text, test_word, guard_text, more_guard_text, guards_text, term_text, member_part_text, member_text, inclusion_text, rule_text, binder_text, quantifier_text, constraint_text, endian_text, tree_text}
 
 -- parts with the same phrase are the same
 abbrev pub Tells : {X : Type 0} → (X → Phrase) → Type 0

@@ -2,12 +2,12 @@
 use Rattle.std.specs.List.{slice_get}
 use Rattle.std.proofs.Common.{◌≡◌, ◌<◌, ◌+◌, ◌-◌, ◌⊎◌, inl, inr, ℕ, zero, suc, List, [], ◌∷◌, ◌++◌, length, Option, Some, None, sym, ap, subst, ◌∙◌, arith, append-nil, append_assoc}
 use Rattle.dsr_tree.specs.declared.tokens.Lexeme.{Lexeme}
-use Rattle.dsr_text.specs.Grammar.{spec}
-use Rattle.dsr_text.specs.Tokens.{IsLexed}
-use Rattle.dsr_text.specs.Sentences.{IsSentence, IsFront, StandFirst, IsSpecText, IsNoToken, IsUnexpected, at_token, at_end, IsPastLimit, past_limit}
-use Rattle.dsr_tokens.specs.Lexing.{AreFrontTokens}
-use Rattle.dsr_tokens.proofs.Laws.{lexed_once, fault_not_lexed}
-use Rattle.dsr_tokens.proofs.Fronts.{front_stands, fewer_stand}
+use Rattle.dsr_syntax_theory.specs.Grammar.{spec}
+use Rattle.dsr_syntax_theory.specs.Tokens.{IsLexed}
+use Rattle.dsr_syntax_theory.specs.Sentences.{IsSentence, IsFront, StandFirst, IsSpecText, IsNoToken, IsUnexpected, at_token, at_end, IsPastLimit, past_limit}
+use Rattle.dsr_lexer.specs.Lexing.{AreFrontTokens}
+use Rattle.dsr_lexer.proofs.Laws.{lexed_once, fault_not_lexed}
+use Rattle.dsr_lexer.proofs.Fronts.{front_stands, fewer_stand}
 use Rattle.dsr_parse.specs.Machine.{Accepts, StopsAt, Exceeds, run}
 use Rattle.dsr_parse.proofs.Sentences.{stops_within, exceeds_within, sentence_accepted, accepted, sentence_front, stopped_front, exceeds_front, stopped_none, exceeds_leads, exceeds_only}
 

@@ -2,16 +2,16 @@
 use Rattle.std.proofs.Common.{◌≡◌, ◌≤◌, ◌<◌, ℕ, List, [], ◌∷◌, length, Some, None, inl, inr, ap, sym, ◌∙◌, refl, subst, arith}
 use Rattle.std.specs.Prelude.{◌⊎◌, slice_get, IsSomeAnd}
 use Rattle.dsr_tree.specs.Trees.{TreeShape}
-use Rattle.dsr_text.specs.Grammar.{spec}
-use Rattle.dsr_text.specs.Parsing.{IsTreeOf}
-use Rattle.dsr_text.specs.Phrases.{Phrase, Says}
-use Rattle.dsr_text.specs.TreeTexts.{tree_text}
-use Rattle.dsr_tokens.specs.Lexing.{AreFrontTokens}
+use Rattle.dsr_syntax_theory.specs.Grammar.{spec}
+use Rattle.dsr_syntax_theory.specs.Parsing.{IsTreeOf}
+use Rattle.dsr_syntax_theory.specs.Phrases.{Phrase, Says}
+use Rattle.dsr_syntax_theory.specs.TreeTexts.{tree_text}
+use Rattle.dsr_lexer.specs.Lexing.{AreFrontTokens}
 use Rattle.dsr_parse.specs.Reading.{Standing, Reads}
 use Rattle.dsr_parse.proofs.Sentences.{accepted}
 use Rattle.dsr_parse.proofs.Texts.{no_token}
 use Rattle.dsr_tree.specs.declared.tokens.Lexeme.{Lexeme}
-use Rattle.dsr_text.specs.Sentences.{IsSpecText}
+use Rattle.dsr_syntax_theory.specs.Sentences.{IsSpecText}
 use Rattle.dsr_parse.specs.Faults.{HasFault, StopsBy}
 use Rattle.dsr_parse.specs.Machine.{run, Accepts, StopsAt}
 use Rattle.dsr_parse.specs.declared.parser.SyntaxFault.{SyntaxFault}

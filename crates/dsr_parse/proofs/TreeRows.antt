@@ -11,9 +11,9 @@ use Rattle.dsr_tree.specs.declared.tree.Term2.{Term2, Term2-F, roll-Term2, out-r
 use Rattle.dsr_tree.specs.declared.tree.Unit.{Unit as UnitOf}
 use Rattle.dsr_tree.specs.Trees.{formula_shape, join_shape, unit_shape}
 use Rattle.dsr_tree.specs.Trees.{expr_shape, term_shape, factor_shape, more_term_shape, more_factor_shape}
-use Rattle.dsr_text.specs.Phrases.{◌▸◌, in_turn}
-use Rattle.dsr_text.specs.TreeTexts.{formula_text, join_text, unit_text, more_join_text, more_unit_text}
-use Rattle.dsr_text.specs.TreeTexts.{expr_text, term2_text, factor_text, more_term_text, more_factor_text, sum_text}
+use Rattle.dsr_syntax_theory.specs.Phrases.{◌▸◌, in_turn}
+use Rattle.dsr_syntax_theory.specs.TreeTexts.{formula_text, join_text, unit_text, more_join_text, more_unit_text}
+use Rattle.dsr_syntax_theory.specs.TreeTexts.{expr_text, term2_text, factor_text, more_term_text, more_factor_text, sum_text}
 use Rattle.dsr_print.proofs.Rows.{expr_is, term_is, formula_is, join_is}
 use Rattle.dsr_parse.proofs.Taking.{in_turn_mapped}
 

@@ -2,10 +2,10 @@
 use Rattle.std.proofs.Common.{◌≡◌, ℕ, List, map, sym, ap, ◌∙◌}
 use Rattle.dsr_tree.specs.Trees.{TreeShape}
 use Rattle.dsr_tree.specs.declared.tokens.Lexeme.{Lexeme}
-use Rattle.dsr_text.specs.Bare.{bare_tree}
-use Rattle.dsr_text.specs.Parsing.{IsTreeOf}
-use Rattle.dsr_text.specs.TreeTexts.{tree_text}
-use Rattle.dsr_tokens.proofs.Laws.{lexed_once}
+use Rattle.dsr_syntax_theory.specs.Bare.{bare_tree}
+use Rattle.dsr_syntax_theory.specs.Parsing.{IsTreeOf}
+use Rattle.dsr_syntax_theory.specs.TreeTexts.{tree_text}
+use Rattle.dsr_lexer.proofs.Laws.{lexed_once}
 use Rattle.dsr_print.proofs.Once.{tree_once}
 use Rattle.dsr_print.proofs.Reprinting.{said_whole}
 use Rattle.dsr_parse.proofs.Bared.{placed_once, tree_bares}

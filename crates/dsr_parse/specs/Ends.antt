@@ -14,10 +14,10 @@ use Rattle.dsr_tree.specs.declared.tree.Measure.{Measure}
 use Rattle.dsr_tree.specs.declared.tree.Path.{Path}
 use Rattle.dsr_tree.specs.declared.tree.PlacedName.{PlacedName}
 use Rattle.dsr_tree.specs.declared.tree.Quantifier.{Quantifier}
-use Rattle.dsr_text.specs.Grammar.{row, maybe, word, mark, name, nesting, expr_behind, brackets, content, field, set, relation, fresh, rule, constraint, compare, measure, path, guards, inclusion, quantifier}
-use Rattle.dsr_text.specs.Phrases.{Phrase, ◌▸◌, in_turn}
-use Rattle.dsr_text.specs.Syntax.{a_word, a_mark, a_formula, a_unit, Syntax, Then, Many, The}
-use Rattle.dsr_text.specs.TreeTexts.{word as word_of, mark as mark_of, name_text, maybe_text, formula_text, behind_text, brackets_text, content_text, set_text, relation_text, fresh_text, rule_text, constraint_text, compare_text, measure_text, path_text, guards_text, inclusion_text, quantifier_text}
+use Rattle.dsr_syntax_theory.specs.Grammar.{row, maybe, word, mark, name, nesting, expr_behind, brackets, content, field, set, relation, fresh, rule, constraint, compare, measure, path, guards, inclusion, quantifier}
+use Rattle.dsr_syntax_theory.specs.Phrases.{Phrase, ◌▸◌, in_turn}
+use Rattle.dsr_syntax_theory.specs.Syntax.{a_word, a_mark, a_formula, a_unit, Syntax, Then, Many, The}
+use Rattle.dsr_syntax_theory.specs.TreeTexts.{word as word_of, mark as mark_of, name_text, maybe_text, formula_text, behind_text, brackets_text, content_text, set_text, relation_text, fresh_text, rule_text, constraint_text, compare_text, measure_text, path_text, guards_text, inclusion_text, quantifier_text}
 use Rattle.dsr_parse.specs.Reading.{said_field}
 use Rattle.dsr_parse.specs.declared.reader.constraints.RulesEnd.{RulesEnd}
 use Rattle.dsr_parse.specs.declared.reader.constraints.TreeEnd.{TreeEnd}

@@ -1,8 +1,8 @@
 -- What the faults of a text mean.
 use Rattle.std.specs.Prelude.{ℕ, List, [], ◌∷◌}
 use Rattle.dsr_tree.specs.declared.tokens.Lexeme.{Lexeme}
-use Rattle.dsr_text.specs.Grammar.{spec}
-use Rattle.dsr_text.specs.Sentences.{IsNoToken, IsUnexpected, IsPastLimit}
+use Rattle.dsr_syntax_theory.specs.Grammar.{spec}
+use Rattle.dsr_syntax_theory.specs.Sentences.{IsNoToken, IsUnexpected, IsPastLimit}
 use Rattle.dsr_parse.specs.Machine.{run}
 use Rattle.dsr_parse.specs.Reading.{EndsBy}
 use Rattle.dsr_parse.specs.declared.parser.SyntaxFault.{SyntaxFault}

@@ -7,8 +7,8 @@ use Rattle.dsr_tree.specs.contracts.tokens.SignPartialEq.TheImpl as same_sign
 use Rattle.dsr_tree.specs.declared.tokens.Lexeme.{Lexeme}
 use Rattle.dsr_tree.specs.declared.tokens.Token.{Token}
 use Rattle.dsr_tree.specs.declared.tokens.Token.TheVariants as token
-use Rattle.dsr_text.specs.Syntax.{Class, a_word, a_mark, a_name, a_number, a_version, count_after, is_over, Part, an_expression, Syntax, One, Empty, Then, Either, Many, The}
-use Rattle.dsr_text.specs.Grammar.{rule_of}
+use Rattle.dsr_syntax_theory.specs.Syntax.{Class, a_word, a_mark, a_name, a_number, a_version, count_after, is_over, Part, an_expression, Syntax, One, Empty, Then, Either, Many, The}
+use Rattle.dsr_syntax_theory.specs.Grammar.{rule_of}
 
 -- whether the token is of the kind
 abbrev pub accepts : Class → Token → Bool

@@ -12,9 +12,9 @@ use Rattle.dsr_tree.specs.declared.tree.MoreFactor.{MoreFactor}
 use Rattle.dsr_tree.specs.declared.tree.MoreTerm.{MoreTerm}
 use Rattle.dsr_tree.specs.declared.tree.Unit.{Unit as UnitOf}
 use Rattle.dsr_tree.specs.declared.tokens.Lexeme.{Lexeme}
-use Rattle.dsr_text.specs.Phrases.{Phrase, Says, in_turn}
-use Rattle.dsr_text.specs.Syntax.{Syntax, Many}
-use Rattle.dsr_text.specs.TreeTexts.{more_term_text, more_factor_text, more_join_text, more_unit_text, field_text, brackets_text, structure_text, behind_text, pool_text, constraint_text}
+use Rattle.dsr_syntax_theory.specs.Phrases.{Phrase, Says, in_turn}
+use Rattle.dsr_syntax_theory.specs.Syntax.{Syntax, Many}
+use Rattle.dsr_syntax_theory.specs.TreeTexts.{more_term_text, more_factor_text, more_join_text, more_unit_text, field_text, brackets_text, structure_text, behind_text, pool_text, constraint_text}
 use Rattle.dsr_parse.specs.Machine.{run, Progress, StopsAt, Exceeds, may_begin}
 use Rattle.dsr_parse.specs.declared.reader.Stop.{Stop}
 use Rattle.dsr_parse.specs.declared.reader.Stop.TheVariants.{NoMemory, Expected, Limit}

@@ -1,7 +1,7 @@
 // Laws on texts, each the contract of a function that does nothing.
 ghost use Rattle.std.specs.Prelude.{◌≡◌, ℕ, List};
 ghost use Rattle.dsr_tree.specs.Trees.{TreeShape};
-ghost use Rattle.dsr_text.specs.Parsing.{IsTreeOf};
+ghost use Rattle.dsr_syntax_theory.specs.Parsing.{IsTreeOf};
 ghost use Rattle.dsr_parse.specs.Faults.{HasFault};
 ghost use Rattle.dsr_parse.specs.declared.parser.SyntaxFault.{SyntaxFault};
 

@@ -5,7 +5,7 @@ mod laws;
 mod parser;
 mod reader;
 
+pub use dsr_lexer::{TokenFault, tokens};
 pub use dsr_print::print;
-pub use dsr_tokens::{TokenFault, tokens};
 pub use laws::{faults_are_unique, trees_are_unique};
 pub use parser::{SyntaxFault, parse};

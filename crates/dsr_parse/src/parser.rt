@@ -1,16 +1,16 @@
 // From a text to its tree, or to the first place where it goes wrong.
 ghost use Rattle.std.specs.Prelude.{◌≡◌, ◌<◌, ◌≤◌, ◌-◌, ◌⊎◌, length, slice_get, IfOk, IfErr, IsErrAnd, IsSomeAnd, MatchResult};
 ghost use Rattle.dsr_tree.specs.Trees.{tree_shape};
-ghost use Rattle.dsr_text.specs.Parsing.{IsTreeOf};
-ghost use Rattle.dsr_text.specs.Sentences.{IsSpecText};
+ghost use Rattle.dsr_syntax_theory.specs.Parsing.{IsTreeOf};
+ghost use Rattle.dsr_syntax_theory.specs.Sentences.{IsSpecText};
 ghost use Rattle.dsr_parse.specs.Faults.{HasFault, StopsBy};
 ghost use Rattle.dsr_parse.specs.declared.parser.SyntaxFault.{SyntaxFault};
 ghost use Rattle.dsr_parse.specs.declared.parser.SyntaxFault.TheVariants as faults;
-ghost use Rattle.dsr_tokens.specs.Lexing.{AreFrontTokens};
+ghost use Rattle.dsr_lexer.specs.Lexing.{AreFrontTokens};
 
 use crate::reader::{Reader, Stop};
 use dsr_ir::NoMemory;
-use dsr_tokens::front;
+use dsr_lexer::front;
 use dsr_tree::{Lexeme, Tree};
 use std::alloc::Global;
 use thiserror::Error;

@@ -1,10 +1,10 @@
 // The tokens of a text, read one after the other.
 ghost use Rattle.std.specs.Prelude.{◌≡◌, ◌<◌, ◌≤◌, ◌+◌, true, false, length, Ok, Err, IfOk, IfErr, IfSome, IfNone, OnOk, ◌∷◌, []};
 ghost use Rattle.dsr_tree.specs.declared.tokens.Token.TheVariants as tokens;
-ghost use Rattle.dsr_text.specs.Grammar as grammar;
-ghost use Rattle.dsr_text.specs.Phrases.{◌▸◌};
-ghost use Rattle.dsr_text.specs.Syntax.{One, Then, free, starts, counted, opening, a_word, a_mark, a_name, a_number, a_version};
-ghost use Rattle.dsr_text.specs.TreeTexts as texts;
+ghost use Rattle.dsr_syntax_theory.specs.Grammar as grammar;
+ghost use Rattle.dsr_syntax_theory.specs.Phrases.{◌▸◌};
+ghost use Rattle.dsr_syntax_theory.specs.Syntax.{One, Then, free, starts, counted, opening, a_word, a_mark, a_name, a_number, a_version};
+ghost use Rattle.dsr_syntax_theory.specs.TreeTexts as texts;
 ghost use Rattle.dsr_parse.specs.Machine.{accepts};
 ghost use Rattle.dsr_parse.specs.Reading.{Reads, Halts, is_next};
 ghost use Rattle.dsr_parse.specs.declared.reader.Stop.TheVariants as stop;

@@ -2,8 +2,8 @@
 use Rattle.std.proofs.Common.{◌≡◌, List, [], ◌∷◌, ◌++◌, map, Bool, true, false, Some, None, refl, sym, ap, ◌∙◌, append_assoc}
 use Rattle.std.specs.Prelude.{option_map, if◌then◌else◌}
 use Rattle.dsr_tree.specs.declared.tokens.Token.{Token}
-use Rattle.dsr_text.specs.Phrases.{Phrase, silent, said, said_at, ◌▸◌, tokens_of, in_turn}
-use Rattle.dsr_text.specs.TreeTexts.{maybe_text}
+use Rattle.dsr_syntax_theory.specs.Phrases.{Phrase, silent, said, said_at, ◌▸◌, tokens_of, in_turn}
+use Rattle.dsr_syntax_theory.specs.TreeTexts.{maybe_text}
 
 -- the tokens of a phrase before other tokens
 abbrev pub after : Phrase → List Token → List Token

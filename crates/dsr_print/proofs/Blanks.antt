@@ -4,8 +4,8 @@ use Rattle.std.proofs.lemmas.Bool.Decides.{nat_tests}
 use Rattle.dsr_tree.specs.declared.tokens.Sign.{Sign}
 use Rattle.dsr_tree.specs.declared.tokens.Sign.TheVariants as sign
 use Rattle.dsr_tree.specs.declared.tokens.Token.{Token}
-use Rattle.dsr_text.specs.Tokens.{is_letter, is_digit, is_hexadecimal_digit, is_in_word, is_blank, every, keyword_spelling, sign_spelling, Spells, a_keyword, a_name, a_decimal, a_hexadecimal, a_sign, IsWithinLimits, Stands}
-use Rattle.dsr_tokens.proofs.Shapes.{both, every_as, keyword_begins}
+use Rattle.dsr_syntax_theory.specs.Tokens.{is_letter, is_digit, is_hexadecimal_digit, is_in_word, is_blank, every, keyword_spelling, sign_spelling, Spells, a_keyword, a_name, a_decimal, a_hexadecimal, a_sign, IsWithinLimits, Stands}
+use Rattle.dsr_lexer.proofs.Shapes.{both, every_as, keyword_begins}
 
 -- any byte but a blank
 abbrev pub is_solid : ℕ → Bool

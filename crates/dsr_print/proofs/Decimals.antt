@@ -8,7 +8,7 @@ use Rattle.std.proofs.lemmas.Fmt.{decimal_is_IsNumeral}
 use Rattle.std.proofs.lemmas.Str.{digit_value_digit}
 use Rattle.std.proofs.lemmas.Str.Parse.{digit_from_value}
 use Rattle.dsr_tree.specs.declared.tokens.Token.TheVariants as token
-use Rattle.dsr_text.specs.Tokens.{is_digit, every, digit_value, value_after, Spells, a_decimal}
+use Rattle.dsr_syntax_theory.specs.Tokens.{is_digit, every, digit_value, value_after, Spells, a_decimal}
 
 in_range : (c : ℕ) → 48 ≤ c → c ≤ 57 → is_digit c ≡ true
 in_range c low high = grind (arith, nat_tests)

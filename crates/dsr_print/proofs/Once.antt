@@ -11,9 +11,9 @@ use Rattle.dsr_tree.specs.declared.tree.Atom.TheVariants as atoms
 use Rattle.dsr_tree.specs.declared.tree.Binder.TheVariants as binders
 use Rattle.dsr_tree.specs.declared.tree.Var.{Var}
 use Rattle.dsr_tree.specs.declared.tree.Var.TheVariants as vars
-use Rattle.dsr_text.specs.Bare.{bare_structure, bare_pool, bare_set, bare_relation, bare_fresh, bare_rule, bare_binder, bare_quantifier, bare_constraint, bare_tree}
-use Rattle.dsr_text.specs.Phrases.{tokens_of, in_turn}
-use Rattle.dsr_text.specs.TreeTexts.{var_text, atom_text, unit_text, formula_text, structure_text, pool_text, set_text, relation_text, fresh_text, rule_text, binder_text, quantifier_text, constraint_text, endian_text, tree_text}
+use Rattle.dsr_syntax_theory.specs.Bare.{bare_structure, bare_pool, bare_set, bare_relation, bare_fresh, bare_rule, bare_binder, bare_quantifier, bare_constraint, bare_tree}
+use Rattle.dsr_syntax_theory.specs.Phrases.{tokens_of, in_turn}
+use Rattle.dsr_syntax_theory.specs.TreeTexts.{var_text, atom_text, unit_text, formula_text, structure_text, pool_text, set_text, relation_text, fresh_text, rule_text, binder_text, quantifier_text, constraint_text, endian_text, tree_text}
 use Rattle.dsr_print.proofs.After.{after, spoken, begins, Once, maybe_once, past, in_turn_once, rest, past_four}
 use Rattle.dsr_print.proofs.OnceExprs.{name_once}
 use Rattle.dsr_print.proofs.OnceFormulas.{formula_once}

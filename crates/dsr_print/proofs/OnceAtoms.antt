@@ -12,8 +12,8 @@ use Rattle.dsr_tree.specs.declared.tree.Compare.TheVariants as compares
 use Rattle.dsr_tree.specs.declared.tree.Measure.TheVariants as measures
 use Rattle.dsr_tree.specs.declared.tree.Var.{Var}
 use Rattle.dsr_tree.specs.declared.tree.Var.TheVariants as vars
-use Rattle.dsr_text.specs.Bare.{bare_name, bare_var, bare_size, bare_measure, bare_atom}
-use Rattle.dsr_text.specs.TreeTexts.{var_text, bound_text, compare_text, size_part_text, size_text, measure_text, atom_text}
+use Rattle.dsr_syntax_theory.specs.Bare.{bare_name, bare_var, bare_size, bare_measure, bare_atom}
+use Rattle.dsr_syntax_theory.specs.TreeTexts.{var_text, bound_text, compare_text, size_part_text, size_text, measure_text, atom_text}
 use Rattle.dsr_print.proofs.After.{after, begins, clash, Once, maybe_once, behind, rest}
 use Rattle.dsr_print.proofs.OnceExprs.{name_once, number_once}
 

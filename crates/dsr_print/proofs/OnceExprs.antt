@@ -8,8 +8,8 @@ use Rattle.dsr_tree.specs.declared.tree.ProductSign.{ProductSign}
 use Rattle.dsr_tree.specs.declared.tree.ProductSign.TheVariants as products
 use Rattle.dsr_tree.specs.declared.tree.SumSign.{SumSign}
 use Rattle.dsr_tree.specs.declared.tree.SumSign.TheVariants as sums
-use Rattle.dsr_text.specs.Bare.{bare_name, bare_number, bare_expr, bare_more_terms, bare_term2, bare_more_factors, bare_factor}
-use Rattle.dsr_text.specs.TreeTexts.{name_text, number_text, sum_text, product_text, expr_text, more_terms_text, term2_text, more_factors_text, factor_text}
+use Rattle.dsr_syntax_theory.specs.Bare.{bare_name, bare_number, bare_expr, bare_more_terms, bare_term2, bare_more_factors, bare_factor}
+use Rattle.dsr_syntax_theory.specs.TreeTexts.{name_text, number_text, sum_text, product_text, expr_text, more_terms_text, term2_text, more_factors_text, factor_text}
 use Rattle.dsr_print.proofs.After.{after, begins, clash, Once, OnceBefore, either, not_first, rest}
 
 pub name_once : Once name_text bare_name

@@ -9,8 +9,8 @@ use Rattle.dsr_tree.specs.declared.tree.Atom.{Atom}
 use Rattle.dsr_tree.specs.declared.tree.Atom.TheVariants as atoms
 use Rattle.dsr_tree.specs.declared.tree.Var.{Var}
 use Rattle.dsr_tree.specs.declared.tree.Var.TheVariants as vars
-use Rattle.dsr_text.specs.Bare.{bare_formula, bare_joins, bare_join, bare_units, bare_unit}
-use Rattle.dsr_text.specs.TreeTexts.{var_text, atom_text, formula_text, joins_text, join_text, units_text, unit_text}
+use Rattle.dsr_syntax_theory.specs.Bare.{bare_formula, bare_joins, bare_join, bare_units, bare_unit}
+use Rattle.dsr_syntax_theory.specs.TreeTexts.{var_text, atom_text, formula_text, joins_text, join_text, units_text, unit_text}
 use Rattle.dsr_print.proofs.After.{after, begins, clash, Once, OnceBefore, either, not_first, rest}
 use Rattle.dsr_print.proofs.OnceAtoms.{atom_once}
 

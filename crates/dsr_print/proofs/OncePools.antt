@@ -8,8 +8,8 @@ use Rattle.dsr_tree.specs.Trees.{PoolTree}
 use Rattle.dsr_tree.specs.declared.tree.Target.TheVariants as targets
 use Rattle.dsr_tree.specs.declared.tree.View.{View}
 use Rattle.dsr_tree.specs.declared.tree.View.TheVariants as views
-use Rattle.dsr_text.specs.Bare.{bare_name, bare_expr, bare_pool, bare_view, bare_set, bare_target, bare_relation, bare_fresh}
-use Rattle.dsr_text.specs.TreeTexts.{maybe_text, expr_text, brackets_text, behind_text, pool_text, view_text, set_text, target_text, relation_text, more_name_text, fresh_text}
+use Rattle.dsr_syntax_theory.specs.Bare.{bare_name, bare_expr, bare_pool, bare_view, bare_set, bare_target, bare_relation, bare_fresh}
+use Rattle.dsr_syntax_theory.specs.TreeTexts.{maybe_text, expr_text, brackets_text, behind_text, pool_text, view_text, set_text, target_text, relation_text, more_name_text, fresh_text}
 use Rattle.dsr_print.proofs.After.{after, begins, Once, OnceBefore, maybe_once, maybe_once_open, in_turn_once, either, not_first, rest, past_four}
 use Rattle.dsr_print.proofs.OnceAtoms.{var_once}
 use Rattle.dsr_print.proofs.OnceExprs.{name_once, is_operator, expr_once, expr_then}

@@ -18,8 +18,8 @@ use Rattle.dsr_tree.specs.declared.tree.Premise.TheVariants as premises
 use Rattle.dsr_tree.specs.declared.tree.RefTest.{RefTest}
 use Rattle.dsr_tree.specs.declared.tree.RefTest.TheVariants as tests
 use Rattle.dsr_tree.specs.declared.tree.Term.TheVariants as terms
-use Rattle.dsr_text.specs.Bare.{bare_name, bare_path, bare_premise, bare_index, bare_span, bare_guard, bare_guards, bare_term, bare_member_part, bare_member, bare_inclusion, bare_rule}
-use Rattle.dsr_text.specs.TreeTexts.{maybe_text, compare_text, index_text, path_text, premise_text, index_source_text, span_text, test_word, guard_text, more_guard_text, guards_text, term_text, member_part_text, member_text, inclusion_text, rule_text}
+use Rattle.dsr_syntax_theory.specs.Bare.{bare_name, bare_path, bare_premise, bare_index, bare_span, bare_guard, bare_guards, bare_term, bare_member_part, bare_member, bare_inclusion, bare_rule}
+use Rattle.dsr_syntax_theory.specs.TreeTexts.{maybe_text, compare_text, index_text, path_text, premise_text, index_source_text, span_text, test_word, guard_text, more_guard_text, guards_text, term_text, member_part_text, member_text, inclusion_text, rule_text}
 use Rattle.dsr_print.proofs.After.{after, begins, clash, Once, OnceBefore, maybe_once, maybe_once_open, in_turn_once, either, not_first, rest}
 use Rattle.dsr_print.proofs.OnceAtoms.{var_once, is_var, var_opens, compare_once, is_dot}
 use Rattle.dsr_print.proofs.OnceExprs.{name_once, number_once}

@@ -9,9 +9,9 @@ use Rattle.dsr_tree.specs.declared.tree.Content.{Content}
 use Rattle.dsr_tree.specs.declared.tree.Content.TheVariants as contents
 use Rattle.dsr_tree.specs.declared.tree.Width.{Width}
 use Rattle.dsr_tree.specs.declared.tree.Width.TheVariants as widths
-use Rattle.dsr_text.specs.Bare.{bare_name, bare_expr, bare_width, bare_content, bare_place, bare_named_field, bare_field, bare_structure}
-use Rattle.dsr_text.specs.Phrases.{in_turn}
-use Rattle.dsr_text.specs.TreeTexts.{maybe_text, width_text, brackets_text, content_text, fixed_text, named_field_text, field_text, parent_text, structure_text}
+use Rattle.dsr_syntax_theory.specs.Bare.{bare_name, bare_expr, bare_width, bare_content, bare_place, bare_named_field, bare_field, bare_structure}
+use Rattle.dsr_syntax_theory.specs.Phrases.{in_turn}
+use Rattle.dsr_syntax_theory.specs.TreeTexts.{maybe_text, width_text, brackets_text, content_text, fixed_text, named_field_text, field_text, parent_text, structure_text}
 use Rattle.dsr_print.proofs.After.{after, begins, clash, Once, maybe_once, in_turn_once, rest}
 use Rattle.dsr_print.proofs.OnceExprs.{name_once, number_once, expr_then}
 

@@ -3,9 +3,9 @@ use Rattle.std.specs.Prelude.{◌++◌}
 use Rattle.std.proofs.Common.{◌≡◌, ℕ, List, [], ◌∷◌, map, refl, ap, ◌∙◌, append_assoc}
 use Rattle.dsr_tree.specs.Trees.{structure_shape, pool_shape, constraint_shape, tree_shape}
 use Rattle.dsr_tree.specs.declared.tree.Tree.{Tree}
-use Rattle.dsr_text.specs.Canonical.{line_of, lines_of, canonical}
-use Rattle.dsr_text.specs.Phrases.{Phrase}
-use Rattle.dsr_text.specs.TreeTexts.{version_text, order_text, structure_text, pool_text, set_text, relation_text, fresh_text, rule_text, constraint_text}
+use Rattle.dsr_syntax_theory.specs.Canonical.{line_of, lines_of, canonical}
+use Rattle.dsr_syntax_theory.specs.Phrases.{Phrase}
+use Rattle.dsr_syntax_theory.specs.TreeTexts.{version_text, order_text, structure_text, pool_text, set_text, relation_text, fresh_text, rule_text, constraint_text}
 use Rattle.dsr_print.specs.Writing.{AddsLine}
 
 -- a line is written behind others

@@ -3,12 +3,12 @@ use Rattle.std.proofs.Common.{◌≡◌, ℕ, List, [], ◌∷◌, ◌++◌, len
 use Rattle.dsr_tree.specs.Trees.{TreeShape}
 use Rattle.dsr_tree.specs.declared.tokens.Lexeme.{Lexeme}
 use Rattle.dsr_tree.specs.declared.tokens.Token.{Token}
-use Rattle.dsr_text.specs.Canonical.{canonical}
-use Rattle.dsr_text.specs.Phrases.{Phrase, tokens_of, Says, says_nothing, says, says_at, says_both}
-use Rattle.dsr_text.specs.Sentences.{within}
-use Rattle.dsr_text.specs.Syntax.{Marked}
-use Rattle.dsr_text.specs.Tokens.{is_version, is_two, is_second_version, IsCut, IsLexed}
-use Rattle.dsr_text.specs.TreeTexts.{tree_text}
+use Rattle.dsr_syntax_theory.specs.Canonical.{canonical}
+use Rattle.dsr_syntax_theory.specs.Phrases.{Phrase, tokens_of, Says, says_nothing, says, says_at, says_both}
+use Rattle.dsr_syntax_theory.specs.Sentences.{within}
+use Rattle.dsr_syntax_theory.specs.Syntax.{Marked}
+use Rattle.dsr_syntax_theory.specs.Tokens.{is_version, is_two, is_second_version, IsCut, IsLexed}
+use Rattle.dsr_syntax_theory.specs.TreeTexts.{tree_text}
 use Rattle.dsr_print.specs.Relexed.{Relexed}
 use Rattle.dsr_print.proofs.Spacing.{canonical_spaced}
 use Rattle.dsr_print.proofs.Spaces.{AreWell, well_cut, Spaced, placed, placed_tokens, cut_spaced}

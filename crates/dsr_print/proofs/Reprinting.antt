@@ -2,13 +2,13 @@
 use Rattle.std.proofs.Common.{◌≡◌, ℕ, List, [], map, sym, ap, ◌∙◌, append-nil, subst}
 use Rattle.dsr_tree.specs.Trees.{TreeShape}
 use Rattle.dsr_tree.specs.declared.tokens.Lexeme.{Lexeme}
-use Rattle.dsr_text.specs.Canonical.{canonical}
-use Rattle.dsr_text.specs.Grammar.{rule_of, spec}
-use Rattle.dsr_text.specs.Parsing.{IsTreeOf, IsReprinted}
-use Rattle.dsr_text.specs.Phrases.{Phrase, Says, tokens_of}
-use Rattle.dsr_text.specs.Syntax.{Derives}
-use Rattle.dsr_text.specs.TreeTexts.{tree_text}
-use Rattle.dsr_tokens.proofs.Laws.{lexed_once}
+use Rattle.dsr_syntax_theory.specs.Canonical.{canonical}
+use Rattle.dsr_syntax_theory.specs.Grammar.{rule_of, spec}
+use Rattle.dsr_syntax_theory.specs.Parsing.{IsTreeOf, IsReprinted}
+use Rattle.dsr_syntax_theory.specs.Phrases.{Phrase, Says, tokens_of}
+use Rattle.dsr_syntax_theory.specs.Syntax.{Derives}
+use Rattle.dsr_syntax_theory.specs.TreeTexts.{tree_text}
+use Rattle.dsr_lexer.proofs.Laws.{lexed_once}
 use Rattle.dsr_print.proofs.Once.{tree_once}
 use Rattle.dsr_print.proofs.Relexing.{relexed, tokens_said, within_same}
 

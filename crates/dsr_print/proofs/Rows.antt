@@ -11,8 +11,8 @@ use Rattle.dsr_tree.specs.declared.tree.Term2.{Term2, out-Term2, is-Term2', Row_
 use Rattle.dsr_tree.specs.declared.tree.Unit.{Unit as UnitOf}
 use Rattle.dsr_tree.specs.declared.tree.Unit.TheBlock.{hidden-the_row-Unit-0, hidden-the_row-Join-1}
 use Rattle.dsr_tree.specs.Trees.{JoinTree, JoinTrees, UnitTree, join_tree, more_joins, more_units, in_joins, in_units, formula_shape, joins_shape, join_shape, units_shape, unit_shape, expr_shape, terms_shape, term_shape, factors_shape, factor_shape, more_term_shape, more_factor_shape}
-use Rattle.dsr_text.specs.Phrases.{◌▸◌, in_turn}
-use Rattle.dsr_text.specs.TreeTexts.{formula_text, joins_text, join_text, units_text, unit_text, expr_text, more_terms_text, term2_text, more_factors_text, factor_text, more_term_text, more_factor_text, sum_text, product_text}
+use Rattle.dsr_syntax_theory.specs.Phrases.{◌▸◌, in_turn}
+use Rattle.dsr_syntax_theory.specs.TreeTexts.{formula_text, joins_text, join_text, units_text, unit_text, expr_text, more_terms_text, term2_text, more_factors_text, factor_text, more_term_text, more_factor_text, sum_text, product_text}
 use Rattle.dsr_print.specs.Writing.{behind_or, behind_and}
 
 terms_row : {n : _} (row : Row_of-MoreTerm n) → more_terms_text (terms_shape row) ≡ in_turn more_term_text (map more_term_shape (items-the_row-MoreTerm n row))

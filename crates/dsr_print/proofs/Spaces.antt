@@ -2,8 +2,8 @@
 use Rattle.std.proofs.Common.{◌≡◌, ℕ, ◌+◌, List, [], ◌∷◌, ◌++◌, length, Bool, true, refl, ap, subst, map, arith, length-append}
 use Rattle.dsr_tree.specs.declared.tokens.Lexeme.{Lexeme}
 use Rattle.dsr_tree.specs.declared.tokens.Token.{Token}
-use Rattle.dsr_text.specs.Canonical.{token_spelling}
-use Rattle.dsr_text.specs.Tokens.{is_blank, Spells, a_keyword, a_name, a_decimal, a_hexadecimal, a_sign, IsWithinLimits, Begins, a_blank, a_comment, a_token, IsCut, here, further}
+use Rattle.dsr_syntax_theory.specs.Canonical.{token_spelling}
+use Rattle.dsr_syntax_theory.specs.Tokens.{is_blank, Spells, a_keyword, a_name, a_decimal, a_hexadecimal, a_sign, IsWithinLimits, Begins, a_blank, a_comment, a_token, IsCut, here, further}
 use Rattle.dsr_print.proofs.Blanks.{stands_before_blank}
 use Rattle.dsr_print.proofs.Decimals.{decimal_spells}
 

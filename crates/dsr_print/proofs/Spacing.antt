@@ -3,9 +3,9 @@ use Rattle.std.proofs.Common.{◌≡◌, ℕ, List, [], ◌∷◌, ◌++◌, ref
 use Rattle.std.proofs.lemmas.List.{append-nil}
 use Rattle.dsr_tree.specs.Trees.{TreeShape}
 use Rattle.dsr_tree.specs.declared.tokens.Token.{Token}
-use Rattle.dsr_text.specs.Canonical.{token_spelling, joined, line_of, lines_of, canonical}
-use Rattle.dsr_text.specs.Phrases.{Phrase, tokens_of, in_turn}
-use Rattle.dsr_text.specs.TreeTexts.{version_text, order_text, structure_text, pool_text, set_text, relation_text, fresh_text, rule_text, constraint_text, tree_text}
+use Rattle.dsr_syntax_theory.specs.Canonical.{token_spelling, joined, line_of, lines_of, canonical}
+use Rattle.dsr_syntax_theory.specs.Phrases.{Phrase, tokens_of, in_turn}
+use Rattle.dsr_syntax_theory.specs.TreeTexts.{version_text, order_text, structure_text, pool_text, set_text, relation_text, fresh_text, rule_text, constraint_text, tree_text}
 use Rattle.dsr_print.proofs.Spaces.{Spaced, nothing, spaced}
 
 -- the phrase has a token

@@ -3,8 +3,8 @@ use Rattle.std.proofs.Common.{◌≡◌, ℕ, ◌<◌, ◌+◌, List, [], ◌∷
 use Rattle.std.proofs.Math.Seq.{take-suc}
 use Rattle.std.proofs.lemmas.List.{map_more}
 use Rattle.dsr_tree.specs.declared.tokens.Token.{Token}
-use Rattle.dsr_text.specs.Canonical.{token_spelling, joined}
-use Rattle.dsr_text.specs.Phrases.{Phrase, tokens_of, said, said_at, ◌▸◌, in_turn}
+use Rattle.dsr_syntax_theory.specs.Canonical.{token_spelling, joined}
+use Rattle.dsr_syntax_theory.specs.Phrases.{Phrase, tokens_of, said, said_at, ◌▸◌, in_turn}
 use Rattle.dsr_print.specs.Writing.{spaced, Adds, Begins, Ends, AddsLine}
 
 spaced_append : (ts us : List Token) → spaced (ts ++ us) ≡ spaced ts ++ spaced us

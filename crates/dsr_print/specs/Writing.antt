@@ -6,9 +6,9 @@ use Rattle.dsr_tree.specs.declared.tokens.Sign.TheVariants as sign
 use Rattle.dsr_tree.specs.declared.tokens.Token.{Token}
 use Rattle.dsr_tree.specs.declared.tree.PlacedName.{PlacedName}
 use Rattle.dsr_tree.specs.declared.tree.Var.{Var}
-use Rattle.dsr_text.specs.Canonical.{token_spelling, line_of}
-use Rattle.dsr_text.specs.Phrases.{Phrase, tokens_of, ◌▸◌}
-use Rattle.dsr_text.specs.TreeTexts.{word, mark, name_text, var_text, expr_text, formula_text, join_text, unit_text}
+use Rattle.dsr_syntax_theory.specs.Canonical.{token_spelling, line_of}
+use Rattle.dsr_syntax_theory.specs.Phrases.{Phrase, tokens_of, ◌▸◌}
+use Rattle.dsr_syntax_theory.specs.TreeTexts.{word, mark, name_text, var_text, expr_text, formula_text, join_text, unit_text}
 
 -- tokens with a space before each
 abbrev pub spaced : List Token → List ℕ

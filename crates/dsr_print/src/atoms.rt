@@ -1,6 +1,6 @@
 // The text of an atom, and of what rules and atoms share.
 ghost use Rattle.std.specs.Prelude.{OnOk};
-ghost use Rattle.dsr_text.specs.TreeTexts.{var_text, bound_text, compare_text, maybe_text, size_part_text, size_text, measure_text, atom_text};
+ghost use Rattle.dsr_syntax_theory.specs.TreeTexts.{var_text, bound_text, compare_text, maybe_text, size_part_text, size_text, measure_text, atom_text};
 ghost use Rattle.dsr_print.specs.Writing.{Adds, pair_text};
 
 use crate::marks::{add_keyword, add_name, add_number, add_sign};

@@ -1,6 +1,6 @@
 // The line of a constraint.
 ghost use Rattle.std.specs.Prelude.{OnOk};
-ghost use Rattle.dsr_text.specs.TreeTexts.{binder_text, maybe_text, quantifier_text};
+ghost use Rattle.dsr_syntax_theory.specs.TreeTexts.{binder_text, maybe_text, quantifier_text};
 ghost use Rattle.dsr_print.specs.Writing.{Adds};
 
 use crate::formulas::add_formula;
@@ -45,7 +45,7 @@ fn add_quantifier(text: &mut Vec<u8>, quantifier: &Option<Quantifier>) -> Result
 
 impl Declaration for Constraint {
     ghost use Rattle.dsr_tree.specs.Trees.{constraint_shape};
-    ghost use Rattle.dsr_text.specs.TreeTexts.{constraint_text};
+    ghost use Rattle.dsr_syntax_theory.specs.TreeTexts.{constraint_text};
 
     ghost phrase = { λ c. constraint_text (constraint_shape c) };
 

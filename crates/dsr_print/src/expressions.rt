@@ -1,8 +1,8 @@
 // The text of an expression.
 ghost use Rattle.std.specs.Prelude.{OnOk, map};
 ghost use Rattle.dsr_tree.specs.Trees.{expr_shape, term_shape, factor_shape, more_term_shape, more_factor_shape};
-ghost use Rattle.dsr_text.specs.Phrases.{in_turn};
-ghost use Rattle.dsr_text.specs.TreeTexts.{expr_text, term2_text, factor_text, more_term_text, more_factor_text, sum_text, product_text};
+ghost use Rattle.dsr_syntax_theory.specs.Phrases.{in_turn};
+ghost use Rattle.dsr_syntax_theory.specs.TreeTexts.{expr_text, term2_text, factor_text, more_term_text, more_factor_text, sum_text, product_text};
 ghost use Rattle.dsr_print.specs.Writing.{Adds, group_text};
 
 use crate::marks::{add_name, add_number, add_sign};

@@ -1,8 +1,8 @@
 // The text of a formula.
 ghost use Rattle.std.specs.Prelude.{OnOk, map};
 ghost use Rattle.dsr_tree.specs.Trees.{formula_shape, join_shape, unit_shape};
-ghost use Rattle.dsr_text.specs.Phrases.{in_turn};
-ghost use Rattle.dsr_text.specs.TreeTexts.{formula_text, join_text, unit_text};
+ghost use Rattle.dsr_syntax_theory.specs.Phrases.{in_turn};
+ghost use Rattle.dsr_syntax_theory.specs.TreeTexts.{formula_text, join_text, unit_text};
 ghost use Rattle.dsr_print.specs.Writing.{Adds, behind_or, behind_and, not_text, given_text, parenthesized_text};
 
 use crate::atoms::add_atom;

@@ -13,9 +13,9 @@ mod structures;
 
 ghost use Rattle.std.specs.Prelude.{◌≡◌, ℕ, List, IfOk, OnOk};
 ghost use Rattle.dsr_tree.specs.Trees.{tree_shape};
-ghost use Rattle.dsr_text.specs.Canonical.{canonical};
-ghost use Rattle.dsr_text.specs.Parsing.{IsReprinted, IsTreeOf};
-ghost use Rattle.dsr_text.specs.TreeTexts.{endian_text, order_text, version_text};
+ghost use Rattle.dsr_syntax_theory.specs.Canonical.{canonical};
+ghost use Rattle.dsr_syntax_theory.specs.Parsing.{IsReprinted, IsTreeOf};
+ghost use Rattle.dsr_syntax_theory.specs.TreeTexts.{endian_text, order_text, version_text};
 ghost use Rattle.dsr_print.specs.Writing.{Adds, AddsLine};
 
 use crate::lines::add_lines;

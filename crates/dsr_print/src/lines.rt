@@ -1,13 +1,13 @@
 // Lines of declarations.
 ghost use Rattle.std.specs.Prelude.{◌≡◌, ◌++◌, OnOk};
-ghost use Rattle.dsr_text.specs.Canonical.{lines_of};
+ghost use Rattle.dsr_syntax_theory.specs.Canonical.{lines_of};
 
 use dsr_ir::NoMemory;
 
 /// A part of a specification with a line of its own.
 pub trait Declaration {
     ghost use Rattle.std.specs.Prelude.{OnOk};
-    ghost use Rattle.dsr_text.specs.Phrases.{Phrase};
+    ghost use Rattle.dsr_syntax_theory.specs.Phrases.{Phrase};
     ghost use Rattle.dsr_print.specs.Writing.{AddsLine};
 
     /// The phrase of a declaration.

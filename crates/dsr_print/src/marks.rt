@@ -1,11 +1,11 @@
 // Tokens, written behind a text with a space before each.
 ghost use Rattle.std.specs.Prelude.{◌≡◌, ◌∷◌, ◌++◌, OnOk};
 ghost use Rattle.dsr_tree.specs.declared.tokens.Token.TheVariants as token;
-ghost use Rattle.dsr_text.specs.TreeTexts.{word, mark, name_text, number_text};
+ghost use Rattle.dsr_syntax_theory.specs.TreeTexts.{word, mark, name_text, number_text};
 ghost use Rattle.dsr_print.specs.Writing.{Adds, Begins, Ends};
 
 use dsr_ir::NoMemory;
-use dsr_tokens::{keyword_bytes, sign_bytes};
+use dsr_lexer::{keyword_bytes, sign_bytes};
 use dsr_tree::{Keyword, PlacedName, PlacedNumber, Sign};
 use itoa::Buffer;
 

@@ -2,8 +2,8 @@
 ghost use Rattle.std.specs.Prelude.{OnOk, option_map};
 ghost use Rattle.dsr_tree.specs.Trees.{expr_shape};
 ghost use Rattle.dsr_tree.specs.declared.tokens.Keyword.TheVariants as keyword;
-ghost use Rattle.dsr_text.specs.Phrases.{in_turn};
-ghost use Rattle.dsr_text.specs.TreeTexts.{behind_text, maybe_text, more_name_text, target_text, view_text};
+ghost use Rattle.dsr_syntax_theory.specs.Phrases.{in_turn};
+ghost use Rattle.dsr_syntax_theory.specs.TreeTexts.{behind_text, maybe_text, more_name_text, target_text, view_text};
 ghost use Rattle.dsr_print.specs.Writing.{Adds};
 
 use crate::atoms::add_var;
@@ -35,7 +35,7 @@ fn add_slot(text: &mut Vec<u8>, slot: &Option<Expr>) -> Result<(), NoMemory>
 
 impl Declaration for Pool {
     ghost use Rattle.dsr_tree.specs.Trees.{pool_shape};
-    ghost use Rattle.dsr_text.specs.TreeTexts.{pool_text};
+    ghost use Rattle.dsr_syntax_theory.specs.TreeTexts.{pool_text};
 
     ghost phrase = { λ p. pool_text (pool_shape p) };
 
@@ -72,7 +72,7 @@ fn add_view(text: &mut Vec<u8>, view: &Option<View>) -> Result<(), NoMemory>
 }
 
 impl Declaration for Set {
-    ghost use Rattle.dsr_text.specs.TreeTexts.{set_text};
+    ghost use Rattle.dsr_syntax_theory.specs.TreeTexts.{set_text};
 
     ghost phrase = { set_text };
 
@@ -97,7 +97,7 @@ fn add_target(text: &mut Vec<u8>, target: &Target) -> Result<(), NoMemory>
 }
 
 impl Declaration for Relation {
-    ghost use Rattle.dsr_text.specs.TreeTexts.{relation_text};
+    ghost use Rattle.dsr_syntax_theory.specs.TreeTexts.{relation_text};
 
     ghost phrase = { relation_text };
 
@@ -124,7 +124,7 @@ fn add_more_names(text: &mut Vec<u8>, names: &[PlacedName]) -> Result<(), NoMemo
 }
 
 impl Declaration for Fresh {
-    ghost use Rattle.dsr_text.specs.TreeTexts.{fresh_text};
+    ghost use Rattle.dsr_syntax_theory.specs.TreeTexts.{fresh_text};
 
     ghost phrase = { fresh_text };
 

@@ -1,7 +1,7 @@
 // The line of a rule.
 ghost use Rattle.std.specs.Prelude.{◌≡◌, OnOk};
-ghost use Rattle.dsr_text.specs.Phrases.{in_turn};
-ghost use Rattle.dsr_text.specs.TreeTexts.{guard_text, guards_text, inclusion_text, index_source_text, index_text, maybe_text, member_part_text, member_text, more_guard_text, path_text, premise_text, span_text, term_text, test_word};
+ghost use Rattle.dsr_syntax_theory.specs.Phrases.{in_turn};
+ghost use Rattle.dsr_syntax_theory.specs.TreeTexts.{guard_text, guards_text, inclusion_text, index_source_text, index_text, maybe_text, member_part_text, member_text, more_guard_text, path_text, premise_text, span_text, term_text, test_word};
 ghost use Rattle.dsr_print.specs.Writing.{Adds};
 
 use crate::atoms::{add_compare, add_var};
@@ -210,7 +210,7 @@ fn add_inclusion(text: &mut Vec<u8>, inclusion: &Inclusion) -> Result<(), NoMemo
 }
 
 impl Declaration for Rule {
-    ghost use Rattle.dsr_text.specs.TreeTexts.{rule_text};
+    ghost use Rattle.dsr_syntax_theory.specs.TreeTexts.{rule_text};
 
     ghost phrase = { rule_text };
 

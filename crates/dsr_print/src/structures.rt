@@ -1,8 +1,8 @@
 // The line of a structure.
 ghost use Rattle.std.specs.Prelude.{OnOk, map, option_map};
 ghost use Rattle.dsr_tree.specs.Trees.{expr_shape, field_shape, named_shape};
-ghost use Rattle.dsr_text.specs.Phrases.{in_turn};
-ghost use Rattle.dsr_text.specs.TreeTexts.{brackets_text, content_text, field_text, fixed_text, maybe_text, named_field_text, parent_text, width_text};
+ghost use Rattle.dsr_syntax_theory.specs.Phrases.{in_turn};
+ghost use Rattle.dsr_syntax_theory.specs.TreeTexts.{brackets_text, content_text, field_text, fixed_text, maybe_text, named_field_text, parent_text, width_text};
 ghost use Rattle.dsr_print.specs.Writing.{Adds, skipped_text};
 
 use crate::expressions::add_expr;
@@ -122,7 +122,7 @@ fn add_parent(text: &mut Vec<u8>, parent: &Option<PlacedName>) -> Result<(), NoM
 
 impl Declaration for Structure {
     ghost use Rattle.dsr_tree.specs.Trees.{structure_shape};
-    ghost use Rattle.dsr_text.specs.TreeTexts.{structure_text};
+    ghost use Rattle.dsr_syntax_theory.specs.TreeTexts.{structure_text};
 
     ghost phrase = { λ s. structure_text (structure_shape s) };
 

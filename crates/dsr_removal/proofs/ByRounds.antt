@@ -9,21 +9,21 @@ use Rattle.dsr_ir.specs.declared.constraints.Conj.{Conj}
 use Rattle.dsr_ir.specs.declared.constraints.Constraint.{Constraint}
 use Rattle.dsr_ir.specs.declared.constraints.Literal.{Literal}
 use Rattle.dsr_ir.specs.declared.declarations.Spec.{Spec}
-use Rattle.dsr_listing.specs.Owners.{Owner}
+use Rattle.dsr_graph_theory.specs.Owners.{Owner}
 use Rattle.dsr_meaning.proofs.Items.{mapped_at}
-use Rattle.dsr_planning.proofs.Fitting.{ways_many}
-use Rattle.dsr_planning.proofs.Grown.{first_fewer, held_more}
-use Rattle.dsr_planning.proofs.OnePlan.{IsTop, first_at, has_level, top_of}
-use Rattle.dsr_planning.specs.Plans.{IsRowOf, owner_at, way_at}
-use Rattle.dsr_planning.specs.Taken.{HasLevel, IsTaken, IsTakenWay, IsUpTo}
-use Rattle.dsr_planning.specs.declared.choices.Choice.{Choice}
-use Rattle.dsr_planning.specs.declared.choices.Row.{Row}
-use Rattle.dsr_planning.specs.declared.choices.Way.{Way}
-use Rattle.dsr_removal.proofs.Firsts.{taken_same}
+use Rattle.dsr_plan_theory.proofs.Fitting.{ways_many}
+use Rattle.dsr_plan_theory.proofs.Grown.{first_fewer, held_more}
+use Rattle.dsr_plan_laws.proofs.OnePlan.{IsTop, first_at, has_level, top_of}
+use Rattle.dsr_plan_theory.specs.Plans.{IsRowOf, owner_at, way_at}
+use Rattle.dsr_plan_theory.specs.Taken.{HasLevel, IsTaken, IsTakenWay, IsUpTo}
+use Rattle.dsr_plan_theory.specs.declared.choices.Choice.{Choice}
+use Rattle.dsr_plan_theory.specs.declared.choices.Row.{Row}
+use Rattle.dsr_plan_theory.specs.declared.choices.Way.{Way}
+use Rattle.dsr_removal.proofs.FirstWays.{taken_same}
 use Rattle.dsr_removal.proofs.Staying.{entry}
 use Rattle.dsr_removal.specs.Rounds.{AreRounds, AreSettled, IsLeftAt, IsPlacedIn, is_late}
 use Rattle.dsr_removal.specs.Taking.{AreRowsOf, AreTakenIn, AreTakenWays, IsOfRounds, IsRowAt}
-use Rattle.dsr_updating.specs.Templates.{literal_at}
+use Rattle.dsr_update_theory.specs.Templates.{literal_at}
 
 -- the round of a row
 abbrev round_of : ℕ → Row → Option ℕ

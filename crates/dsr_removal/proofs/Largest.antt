@@ -5,13 +5,13 @@ use Rattle.std.proofs.lemmas.Bool.Decides.{nat_tests}
 use Rattle.dsr_graph.proofs.Paired.{item_there}
 use Rattle.dsr_ir.specs.declared.declarations.Spec.{Spec}
 use Rattle.dsr_meaning.specs.Counting.{IsIn}
-use Rattle.dsr_placing.specs.Placing.{IsLeft}
-use Rattle.dsr_planning.proofs.Grown.{first_fewer, held_more, not_both}
-use Rattle.dsr_planning.specs.Stuck.{IsStuck}
+use Rattle.dsr_placement.specs.Placing.{IsLeft}
+use Rattle.dsr_plan_theory.proofs.Grown.{first_fewer, held_more, not_both}
+use Rattle.dsr_plan_theory.specs.Stuck.{IsStuck}
 use Rattle.dsr_removal.proofs.Staying.{entry, left_many, left_told}
 use Rattle.dsr_removal.specs.Placements.{AreLargest}
 use Rattle.dsr_removal.specs.Rounds.{AreSettled, IsLeftAt, is_late}
-use Rattle.dsr_sides.proofs.Standing.{place_below}
+use Rattle.dsr_compensate.proofs.Standing.{place_below}
 
 module _ (spec : Spec) (rounds : List (Option ℕ)) (count : ℕ) (settled : AreSettled spec rounds count) where
   module _ (Member : ℕ → Type 0) (stuck : IsStuck spec Member) where

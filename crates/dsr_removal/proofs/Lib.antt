@@ -1,5 +1,15 @@
 pub mod Staying
-pub mod Firsts
+pub mod FirstWays
 pub mod Ordered
 pub mod Largest
-mod ByRounds
+pub mod ByRounds
+pub mod Items
+pub mod Firsts
+pub mod StuckWays
+pub mod Breaking
+pub mod Beyond
+pub mod StuckMembers
+pub mod Walks
+pub mod Hopeless
+pub mod Same
+pub mod Whole

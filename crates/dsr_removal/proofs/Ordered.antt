@@ -8,21 +8,21 @@ use Rattle.dsr_ir.specs.declared.constraints.Conj.{Conj}
 use Rattle.dsr_ir.specs.declared.constraints.Constraint.{Constraint}
 use Rattle.dsr_ir.specs.declared.constraints.Literal.{Literal}
 use Rattle.dsr_ir.specs.declared.declarations.Spec.{Spec}
-use Rattle.dsr_listing.specs.Owners.{Owner}
-use Rattle.dsr_planning.proofs.Grown.{covers_fewer, held_more}
-use Rattle.dsr_planning.specs.Plans.{AreWaysFor, IsPlan, IsRowOf, IsTested, IsWayFor, owner_at, way_at}
-use Rattle.dsr_planning.specs.Stuck.{MustTest}
-use Rattle.dsr_planning.specs.Taken.{IsTaken, IsTakenWay, IsUpTo}
-use Rattle.dsr_planning.specs.declared.choices.Choice.{Choice}
-use Rattle.dsr_planning.specs.declared.choices.Row.{Row}
-use Rattle.dsr_planning.specs.declared.choices.Way.{Way}
-use Rattle.dsr_planning.specs.declared.choices.Way.TheVariants.{Test, By}
-use Rattle.dsr_removal.proofs.Firsts.{taken_same}
+use Rattle.dsr_graph_theory.specs.Owners.{Owner}
+use Rattle.dsr_plan_theory.proofs.Grown.{covers_fewer, held_more}
+use Rattle.dsr_plan_theory.specs.Plans.{AreWaysFor, IsPlan, IsRowOf, IsTested, IsWayFor, owner_at, way_at}
+use Rattle.dsr_plan_theory.specs.Stuck.{MustTest}
+use Rattle.dsr_plan_theory.specs.Taken.{IsTaken, IsTakenWay, IsUpTo}
+use Rattle.dsr_plan_theory.specs.declared.choices.Choice.{Choice}
+use Rattle.dsr_plan_theory.specs.declared.choices.Row.{Row}
+use Rattle.dsr_plan_theory.specs.declared.choices.Way.{Way}
+use Rattle.dsr_plan_theory.specs.declared.choices.Way.TheVariants.{Test, By}
+use Rattle.dsr_removal.proofs.FirstWays.{taken_same}
 use Rattle.dsr_removal.proofs.Staying.{entry}
 use Rattle.dsr_removal.specs.Rounds.{AreRounds, IsLeftAt, IsPlacedIn, is_late, is_left_at}
 use Rattle.dsr_removal.specs.Taking.{AreRowsOf, AreTakenIn, AreTakenWays, IsRowAt}
-use Rattle.dsr_sides.proofs.Standing.{place_below}
-use Rattle.dsr_updating.specs.Templates.{literal_at}
+use Rattle.dsr_compensate.proofs.Standing.{place_below}
+use Rattle.dsr_update_theory.specs.Templates.{literal_at}
 
 -- ---- ways of a literal
 

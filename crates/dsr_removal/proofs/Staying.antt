@@ -5,10 +5,10 @@ use Rattle.std.proofs.lemmas.Bool.Decides.{nat_tests}
 use Rattle.dsr_graph.proofs.Paired.{beyond_item, item_beyond, item_there}
 use Rattle.dsr_ir.specs.declared.constraints.Constraint.{Constraint}
 use Rattle.dsr_ir.specs.declared.declarations.Spec.{Spec}
-use Rattle.dsr_planning.proofs.Grown.{first_fewer, held_more}
-use Rattle.dsr_planning.specs.Stuck.{IsHeld, MayBeFirst}
+use Rattle.dsr_plan_theory.proofs.Grown.{first_fewer, held_more}
+use Rattle.dsr_plan_theory.specs.Stuck.{IsHeld, MayBeFirst}
 use Rattle.dsr_removal.specs.Rounds.{AreNext, AreRounds, AreSettled, IsLeftAt, IsNext, IsPlacedIn, is_late, is_left_at, unplaced}
-use Rattle.dsr_sides.proofs.Standing.{place_below}
+use Rattle.dsr_compensate.proofs.Standing.{place_below}
 
 -- what a round does with a constraint's round
 abbrev IsStep : ℕ → Option ℕ → Option ℕ → Type 0

@@ -2,9 +2,9 @@
 use Rattle.std.specs.Prelude.{◌≡◌, ℕ, Bool, List, length}
 use Rattle.dsr_ir.specs.declared.declarations.Spec.{Spec}
 use Rattle.dsr_meaning.specs.Counting.{IsIn}
-use Rattle.dsr_placing.specs.Placing.{IsLeft}
-use Rattle.dsr_planning.specs.Stuck.{IsStuck}
-use Rattle.dsr_planning.specs.Taken.{IsTaken}
+use Rattle.dsr_placement.specs.Placing.{IsLeft}
+use Rattle.dsr_plan_theory.specs.Stuck.{IsStuck}
+use Rattle.dsr_plan_theory.specs.Taken.{IsTaken}
 use Rattle.dsr_removal.specs.declared.taking.Placement.{Placement}
 use Rattle.dsr_removal.specs.declared.taking.Placement.TheVariants.{Taken, Stuck}
 

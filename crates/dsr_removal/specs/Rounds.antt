@@ -4,7 +4,7 @@ use Rattle.std.specs.Option.{option_map_or}
 use Rattle.dsr_graph.specs.Paired.{ArePaired}
 use Rattle.dsr_ir.specs.declared.constraints.Constraint.{Constraint}
 use Rattle.dsr_ir.specs.declared.declarations.Spec.{Spec}
-use Rattle.dsr_planning.specs.Stuck.{IsHeld, MayBeFirst}
+use Rattle.dsr_plan_theory.specs.Stuck.{IsHeld, MayBeFirst}
 
 -- a constraint with this round, or none, is left when the round with the number begins
 abbrev pub is_late : ℕ → Option ℕ → Bool

@@ -4,12 +4,12 @@ use Rattle.dsr_graph.specs.Paired.{ArePaired}
 use Rattle.dsr_ir.specs.declared.constraints.Conj.{Conj}
 use Rattle.dsr_ir.specs.declared.constraints.Constraint.{Constraint}
 use Rattle.dsr_ir.specs.declared.declarations.Spec.{Spec}
-use Rattle.dsr_listing.specs.Owners.{Owner}
-use Rattle.dsr_planning.specs.Plans.{owner_at}
-use Rattle.dsr_planning.specs.Taken.{IsTakenWay}
-use Rattle.dsr_planning.specs.declared.choices.Choice.{Choice}
-use Rattle.dsr_planning.specs.declared.choices.Row.{Row}
-use Rattle.dsr_planning.specs.declared.choices.Way.{Way}
+use Rattle.dsr_graph_theory.specs.Owners.{Owner}
+use Rattle.dsr_plan_theory.specs.Plans.{owner_at}
+use Rattle.dsr_plan_theory.specs.Taken.{IsTakenWay}
+use Rattle.dsr_plan_theory.specs.declared.choices.Choice.{Choice}
+use Rattle.dsr_plan_theory.specs.declared.choices.Row.{Row}
+use Rattle.dsr_plan_theory.specs.declared.choices.Way.{Way}
 use Rattle.dsr_removal.specs.Rounds.{AreSettled, IsLeftAt, IsPlacedIn}
 
 -- for each literal of the conjunction with this number its way

@@ -1,7 +1,7 @@
 // Which plan is taken, a law as the contract of a function that does nothing.
 ghost use Rattle.dsr_ir.specs.declared.declarations.Spec.{Spec};
-ghost use Rattle.dsr_planning.specs.Taken.{IsTaken};
-ghost use Rattle.dsr_planning.specs.declared.choices.Choice.{Choice};
+ghost use Rattle.dsr_plan_theory.specs.Taken.{IsTaken};
+ghost use Rattle.dsr_plan_theory.specs.declared.choices.Choice.{Choice};
 ghost use Rattle.dsr_removal.specs.Taking.{IsOfRounds};
 
 /// The plan that is taken is the one that rounds give. Each round places all constraints that may

@@ -1,15 +1,15 @@
 // Rounds, in each of which all constraints are placed that may be first among those that are left.
 ghost use Rattle.std.specs.Prelude.{◌≡◌, ◌≤◌, ◌^◌, All, IfOk, length, map, slice_index_or, None};
 ghost use Rattle.dsr_graph.specs.Graphs.{IsGraphOf, IsOwnerIn};
-ghost use Rattle.dsr_listing.specs.Owners.{Owner as OwnerOf};
+ghost use Rattle.dsr_graph_theory.specs.Owners.{Owner as OwnerOf};
 ghost use Rattle.dsr_meaning.specs.Typed.{IsTyped};
-ghost use Rattle.dsr_placing.specs.Placing.{IsConstraintIn, IsLeft};
+ghost use Rattle.dsr_placement.specs.Placing.{IsConstraintIn, IsLeft};
 ghost use Rattle.dsr_removal.specs.Rounds as said;
 ghost use Rattle.dsr_removal.specs.Rounds.{AreNext, AreSettled, IsNext, is_late};
 
 use dsr_graph::Graph;
 use dsr_ir::{Constraint, NoMemory, Spec};
-use dsr_placing::may_be_first;
+use dsr_placement::may_be_first;
 use std::alloc::Global;
 
 /// In which round each constraint is placed, counted from 0; none for one that no round places.

@@ -1,20 +1,20 @@
 // The plan that rounds give: a constraint of a later round has a lower level.
 ghost use Rattle.std.specs.Prelude.{◌≡◌, ◌≤◌, ◌<◌, ◌+◌, ◌^◌, ℕ, All, IfOk, MatchOption, None, Some, length, slice_get};
 ghost use Rattle.dsr_graph.specs.Graphs.{IsGraphOf, IsOwnerIn};
-ghost use Rattle.dsr_listing.specs.Owners.{Owner as OwnerOf};
+ghost use Rattle.dsr_graph_theory.specs.Owners.{Owner as OwnerOf};
 ghost use Rattle.dsr_meaning.specs.Typed.{IsTyped};
-ghost use Rattle.dsr_placing.specs.Placing.{IsConjIn, IsConstraintIn, IsLeft, IsLiteralIn};
-ghost use Rattle.dsr_planning.specs.Taken.{IsTakenWay};
+ghost use Rattle.dsr_placement.specs.Placing.{IsConjIn, IsConstraintIn, IsLeft, IsLiteralIn};
+ghost use Rattle.dsr_plan_theory.specs.Taken.{IsTakenWay};
 ghost use Rattle.dsr_removal.specs.Placements.{IsPlacementFor};
 ghost use Rattle.dsr_removal.specs.Rounds.{AreSettled, IsPlacedIn};
 ghost use Rattle.dsr_removal.specs.Taking.{AreRowsOf, AreTakenIn, AreTakenWays, IsRowAt};
-ghost use Rattle.dsr_updating.specs.Templates.{literal_at};
+ghost use Rattle.dsr_update_theory.specs.Templates.{literal_at};
 
 use crate::rounds::{Placed, left_at, place_all, round_at};
 use dsr_graph::{Graph, ways};
 use dsr_ir::{Conj, Constraint, Literal, NoMemory, Seq, Spec, TryClone};
-use dsr_placing::{Position, way};
-use dsr_planning::{Choice, Row, Way};
+use dsr_placement::{Position, way};
+use dsr_plan_theory::{Choice, Row, Way};
 use std::alloc::Global;
 
 // The first template by which the literal can be made true where these are left; a test where there

@@ -1,2 +1,15 @@
+pub mod Best
+pub mod Chosen
+pub mod Gone
+pub mod Here
+pub mod Laws
+pub mod Made
+pub mod Passing
+pub mod Same
+pub mod Taken
+pub mod Changed
+pub mod PutBytes
+pub mod Sets
+pub mod ToldChanges
 pub mod RunOn
 pub mod StepMade

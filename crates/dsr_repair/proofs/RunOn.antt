@@ -2,15 +2,15 @@
 use Rattle.std.proofs.Common.{◌≡◌, ◌≤◌, ◌<◌, ◌+◌, ◌-◌, ◌∙◌, ℕ, List, [], ◌∷◌, ◌++◌, length, sym, ap, subst, arith}
 use Rattle.dsr_ir.specs.declared.declarations.Spec.{Spec}
 use Rattle.dsr_ir.specs.declared.layouts.Layout.{Layout}
-use Rattle.dsr_planning.specs.declared.choices.Choice.{Choice}
-use Rattle.dsr_planning.specs.Plans.{IsPlan}
+use Rattle.dsr_plan_theory.specs.declared.choices.Choice.{Choice}
+use Rattle.dsr_plan_theory.specs.Plans.{IsPlan}
 use Rattle.dsr_bound_laws.proofs.Runs.{run_bounded}
 use Rattle.dsr_bound_laws.specs.Bounds.{bound}
-use Rattle.dsr_stepping.specs.Images.{IsImageOf}
+use Rattle.dsr_step_theory.specs.Images.{IsImageOf}
 use Rattle.std.proofs.lemmas.List.{length-append}
-use Rattle.dsr_repairing.specs.Runs.{IsDueEntry, IsPartRun}
-use Rattle.dsr_repairing.specs.Runs.IsPartRun.{goes_on}
-use Rattle.dsr_repairing.specs.declared.entries.Entry.{Entry}
+use Rattle.dsr_repair_theory.specs.Runs.{IsDueEntry, IsPartRun}
+use Rattle.dsr_repair_theory.specs.Runs.IsPartRun.{goes_on}
+use Rattle.dsr_repair_theory.specs.declared.entries.Entry.{Entry}
 
 module _ (spec : Spec) (choice : Choice) (layout : Layout) where
   pub run_on :

@@ -3,9 +3,9 @@ use Rattle.std.proofs.Common.{Result, Ok, Err, ◌≡◌, ◌∙◌, ℕ, List, 
 use Rattle.std.proofs.lemmas.Option.{same_Some}
 use Rattle.std.specs.Option.{option_and_then}
 use Rattle.std.specs.Prelude.{OnErr}
-use Rattle.dsr_applying.specs.Choices.{IsUpdateAt}
-use Rattle.dsr_applying.specs.Choices.IsUpdateAt.{adds, takes_away}
-use Rattle.dsr_feasible.proofs.MakingSteps.{can_step}
+use Rattle.dsr_repair_theory.specs.Choices.{IsUpdateAt}
+use Rattle.dsr_repair_theory.specs.Choices.IsUpdateAt.{adds, takes_away}
+use Rattle.dsr_repair_laws.proofs.MakingSteps.{can_step}
 use Rattle.dsr_fixpoint.specs.Models.{IsLaidOut}
 use Rattle.dsr_ir.specs.declared.constraints.Atom.{Atom}
 use Rattle.dsr_ir.specs.declared.declarations.Spec.{Spec}
@@ -15,21 +15,21 @@ use Rattle.dsr_ir.specs.declared.tuples.Binding.{Binding}
 use Rattle.dsr_ir.specs.declared.tuples.Instance.{Instance}
 use Rattle.dsr_ir.specs.declared.updates.Template.{Template}
 use Rattle.dsr_ir.specs.declared.updates.Update.{Update}
-use Rattle.dsr_planning.specs.Plans.{IsPlan, way_at}
-use Rattle.dsr_planning.specs.declared.choices.Choice.{Choice}
+use Rattle.dsr_plan_theory.specs.Plans.{IsPlan, way_at}
+use Rattle.dsr_plan_theory.specs.declared.choices.Choice.{Choice}
 use Rattle.dsr_repair.specs.Planned.{chosen_update, update_in}
-use Rattle.dsr_repairing.specs.Entries.{IsEntryOf, changes}
-use Rattle.dsr_stepping.specs.Images.{FixedFieldsStay, IsImageOf}
+use Rattle.dsr_repair_theory.specs.Entries.{IsEntryOf, changes}
+use Rattle.dsr_step_theory.specs.Images.{FixedFieldsStay, IsImageOf}
 use Rattle.dsr_run_laws.proofs.RunOnce.{fixed_same, step_keeps, step_keeps_fixed}
 use Rattle.dsr_bound_laws.proofs.Whole.{remaining_falls, rises_above}
 use Rattle.dsr_model.specs.Views.{ModelView}
 use Rattle.dsr_repair.specs.Stepping.{IsNearer, state}
-use Rattle.dsr_repairing.specs.Runs.{IsDueEntry}
-use Rattle.dsr_repairing.specs.Turns.{IsDueStep}
-use Rattle.dsr_repairing.specs.declared.entries.Entry.{Entry}
-use Rattle.dsr_resolved.proofs.AcceptedLayouts.{legal_of}
-use Rattle.dsr_stepping.specs.Steps.{CanStep}
-use Rattle.dsr_stepping.specs.declared.steps.Step.{Step}
+use Rattle.dsr_repair_theory.specs.Runs.{IsDueEntry}
+use Rattle.dsr_repair_theory.specs.Turns.{IsDueStep}
+use Rattle.dsr_repair_theory.specs.declared.entries.Entry.{Entry}
+use Rattle.dsr_resolve.proofs.AcceptedLayouts.{legal_of}
+use Rattle.dsr_step_theory.specs.Steps.{CanStep}
+use Rattle.dsr_step_theory.specs.declared.steps.Step.{Step}
 
 -- ---- the update
 

@@ -2,11 +2,11 @@
 use Rattle.std.specs.Prelude.{ℕ, Option, None, slice_get}
 use Rattle.std.specs.Option.{option_and_then}
 use Rattle.dsr_ir.specs.declared.updates.Update.{Update}
-use Rattle.dsr_planning.specs.Plans.{way_at}
-use Rattle.dsr_planning.specs.declared.choices.Choice.{Choice}
-use Rattle.dsr_planning.specs.declared.choices.Way.{Way}
-use Rattle.dsr_planning.specs.declared.choices.Way.TheVariants.{Test, By}
-use Rattle.dsr_stepping.specs.declared.steps.Step.{Step}
+use Rattle.dsr_plan_theory.specs.Plans.{way_at}
+use Rattle.dsr_plan_theory.specs.declared.choices.Choice.{Choice}
+use Rattle.dsr_plan_theory.specs.declared.choices.Way.{Way}
+use Rattle.dsr_plan_theory.specs.declared.choices.Way.TheVariants.{Test, By}
+use Rattle.dsr_step_theory.specs.declared.steps.Step.{Step}
 
 -- the update with this place in the template of a way
 abbrev pub update_in : ℕ → Way → Option Update

@@ -6,15 +6,15 @@ use Rattle.dsr_fixpoint.specs.Models.{IsModelOf, IsPreparedFor}
 use Rattle.dsr_meaning.specs.Consistency.{BoundConstraint, IsViolated}
 use Rattle.dsr_meaning.specs.Models.{IsFact}
 use Rattle.dsr_model.specs.Views.{ModelView}
-use Rattle.dsr_planning.specs.declared.choices.Choice.{Choice}
-use Rattle.dsr_planning.specs.declared.choices.Row.{Row}
+use Rattle.dsr_plan_theory.specs.declared.choices.Choice.{Choice}
+use Rattle.dsr_plan_theory.specs.declared.choices.Row.{Row}
 use Rattle.dsr_bound_laws.specs.Remaining.{IsRemaining}
-use Rattle.dsr_stepping.specs.Images.{IsImageOf}
-use Rattle.dsr_repairing.specs.Runs.{IsDueEntry}
-use Rattle.dsr_repairing.specs.declared.entries.Entry.{Entry}
-use Rattle.dsr_stepping.specs.declared.steps.Step.{Step}
-use Rattle.dsr_repairing.specs.declared.turns.Turn.{Turn}
-use Rattle.dsr_repairing.specs.declared.turns.Turn.TheVariants as turns
+use Rattle.dsr_step_theory.specs.Images.{IsImageOf}
+use Rattle.dsr_repair_theory.specs.Runs.{IsDueEntry}
+use Rattle.dsr_repair_theory.specs.declared.entries.Entry.{Entry}
+use Rattle.dsr_step_theory.specs.declared.steps.Step.{Step}
+use Rattle.dsr_repair_theory.specs.declared.turns.Turn.{Turn}
+use Rattle.dsr_repair_theory.specs.declared.turns.Turn.TheVariants as turns
 
 -- the layout is that of the image, and the model too
 pub record IsModelled (spec : Spec) (layout : Layout) (bytes : List ℕ) (view : ModelView) : Type 0 where

@@ -1,19 +1,18 @@
 // A whole repair.
 ghost use Rattle.std.specs.Prelude.{◌≡◌, ◌≤◌, [], IfOk, length};
 ghost use Rattle.dsr_bound_laws.specs.Bounds.{bound};
-ghost use Rattle.dsr_planning.specs.Plans.{IsPlan};
-ghost use Rattle.dsr_repairing.specs.Runs.{IsPartRun};
-ghost use Rattle.dsr_repairing.specs.Turns.{IsOutcome};
-ghost use Rattle.dsr_stepping.specs.Images.{FixedFieldsStay, IsImageOf};
+ghost use Rattle.dsr_plan_theory.specs.Plans.{IsPlan};
+ghost use Rattle.dsr_repair_theory.specs.Runs.{IsPartRun};
+ghost use Rattle.dsr_repair_theory.specs.Turns.{IsOutcome};
+ghost use Rattle.dsr_step_theory.specs.Images.{FixedFieldsStay, IsImageOf};
 
 use crate::steps::step;
 use dsr_fixpoint::rebuild;
 use dsr_image::ImageBytes;
 use dsr_ir::{Layout, NoMemory, Spec};
-use dsr_log::Log;
 use dsr_model::Model;
-use dsr_planning::Plan;
-use dsr_repairing::{Outcome, Turn};
+use dsr_plan_theory::Plan;
+use dsr_repair_theory::{Log, Outcome, Turn};
 use std::alloc::Global;
 
 // Makes the steps that are due until none is left. That this ends is due to the bound.

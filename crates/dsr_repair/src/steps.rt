@@ -2,19 +2,18 @@
 ghost use Rattle.std.specs.Prelude.{◌≡◌, IfOk, OnErr, option_map};
 ghost use Rattle.dsr_repair.specs.Planned.{chosen_update};
 ghost use Rattle.dsr_repair.specs.Stepping.{Brings, IsModelled, TakesTurn, state};
-ghost use Rattle.dsr_repairing.specs.Turns.{IsTurn};
-ghost use Rattle.dsr_stepping.specs.Images.{FixedFieldsStay};
+ghost use Rattle.dsr_repair_theory.specs.Turns.{IsTurn};
+ghost use Rattle.dsr_step_theory.specs.Images.{FixedFieldsStay};
 
-use dsr_due::due;
+use crate::dues::due;
+use crate::making::make;
 use dsr_fixpoint::rebuild;
 use dsr_image::ImageBytes;
 use dsr_ir::{Layout, NoMemory, Update};
-use dsr_log::Log;
-use dsr_made::make;
 use dsr_model::Model;
-use dsr_planning::{Plan, Way};
-use dsr_repairing::Turn;
-use dsr_stepping::Step;
+use dsr_plan_theory::{Plan, Way};
+use dsr_repair_theory::{Log, Turn};
+use dsr_step_theory::Step;
 use std::alloc::Global;
 
 // The update of the plan that a step makes.

@@ -5,9 +5,9 @@ use Rattle.std.specs.List.{flat_map}
 use Rattle.std.specs.Option.{option_map_or}
 use Rattle.dsr_ir.specs.declared.declarations.Spec.{Spec}
 use Rattle.dsr_meaning.specs.Lists.{each_at}
-use Rattle.dsr_repairing.specs.declared.entries.ByteChange.{ByteChange}
-use Rattle.dsr_repairing.specs.declared.entries.CellSet.{CellSet}
-use Rattle.dsr_repairing.specs.declared.entries.Entry.{Entry}
+use Rattle.dsr_repair_theory.specs.declared.entries.ByteChange.{ByteChange}
+use Rattle.dsr_repair_theory.specs.declared.entries.CellSet.{CellSet}
+use Rattle.dsr_repair_theory.specs.declared.entries.Entry.{Entry}
 use Rattle.dsr_report.specs.Reports.{byte_line, entry_text, reset_line, set_line, update_line}
 
 take_length : {S : Type 0} (i : ℕ) (xs : List S) → i ≤ length xs → length (take i xs) ≡ i

@@ -7,9 +7,9 @@ use Rattle.dsr_answers.specs.Texts.{binding_text, constraint_name, element_text,
 use Rattle.dsr_ir.specs.declared.declarations.Spec.{Spec}
 use Rattle.dsr_ir.specs.declared.tuples.Element.{Element}
 use Rattle.dsr_meaning.specs.Lists.{each_at}
-use Rattle.dsr_repairing.specs.declared.entries.ByteChange.{ByteChange}
-use Rattle.dsr_repairing.specs.declared.entries.CellSet.{CellSet}
-use Rattle.dsr_repairing.specs.declared.entries.Entry.{Entry}
+use Rattle.dsr_repair_theory.specs.declared.entries.ByteChange.{ByteChange}
+use Rattle.dsr_repair_theory.specs.declared.entries.CellSet.{CellSet}
+use Rattle.dsr_repair_theory.specs.declared.entries.Entry.{Entry}
 
 -- a conjunction and a literal, counted from 1
 abbrev pub place_text : Entry → List ℕ

@@ -8,8 +8,7 @@ use dsr_answers::{
     constraint_name, field_name, push, push_binding, push_element, push_named, push_number,
 };
 use dsr_ir::{Element, NoMemory, Spec};
-use dsr_log::Log;
-use dsr_repairing::{ByteChange, CellSet, Entry};
+use dsr_repair_theory::{ByteChange, CellSet, Entry, Log};
 use std::alloc::Global;
 
 // Appends a conjunction and a literal, counted from 1.

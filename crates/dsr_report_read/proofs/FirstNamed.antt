@@ -7,7 +7,7 @@ use Rattle.dsr_ir.specs.declared.declarations.Field.{Field}
 use Rattle.dsr_ir.specs.declared.declarations.FieldRef.{FieldRef}
 use Rattle.dsr_ir.specs.declared.declarations.Spec.{Spec}
 use Rattle.dsr_meaning.specs.Instances.{declared_field}
-use Rattle.dsr_repairing.specs.declared.entries.CellSet.{CellSet}
+use Rattle.dsr_repair_theory.specs.declared.entries.CellSet.{CellSet}
 use Rattle.dsr_report.specs.Reports.{index_text, set_line}
 use Rattle.dsr_report_read.proofs.Sole.{tells, told}
 use Rattle.dsr_report_read.proofs.Sought.{NoneBefore}

@@ -1,14 +1,21 @@
-mod Ahead
-mod Descending
+pub mod Ahead
+pub mod Descending
 pub mod FirstNamed
 pub mod Fronts
 pub mod HeadsBack
 pub mod LinesBack
-mod Once
+pub mod Once
 pub mod ReadBack
-mod Reported
-mod Row
+pub mod Reported
+pub mod Row
 pub mod Sole
-mod Sought
-mod Views
+pub mod Sought
+pub mod Views
 pub mod Whole
+pub mod Clean
+pub mod Same
+pub mod Spelled
+pub mod Splits
+pub mod Told
+pub mod Unique
+pub mod Words

@@ -8,8 +8,8 @@ use Rattle.hex.specs.Hex.{IsBytes, decode_sized, lower_digits}
 use Rattle.dsr_answers.specs.Texts.{element_text, field_name, pool_name}
 use Rattle.dsr_ir.specs.declared.declarations.Spec.{Spec}
 use Rattle.dsr_ir.specs.declared.tuples.Element.{Element}
-use Rattle.dsr_repairing.specs.declared.entries.ByteChange.{ByteChange}
-use Rattle.dsr_repairing.specs.declared.entries.CellSet.{CellSet}
+use Rattle.dsr_repair_theory.specs.declared.entries.ByteChange.{ByteChange}
+use Rattle.dsr_repair_theory.specs.declared.entries.CellSet.{CellSet}
 use Rattle.dsr_report.specs.Reports.{byte_line, byte_text, index_text, place_set, reset_line, set_line}
 use Rattle.dsr_report_read.proofs.ReadBack.{ReadsNumber, narrow_small, number_back, regroup}
 use Rattle.dsr_report_read.specs.Forms.{IsChange, IsRecord, IsSet}

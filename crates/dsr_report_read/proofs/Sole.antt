@@ -14,8 +14,8 @@ use Rattle.dsr_meaning.proofs.Firing.{found_fits}
 use Rattle.dsr_ir.specs.Exprs.{ExprShape}
 use Rattle.dsr_meaning.specs.Instances.{declared_field}
 use Rattle.dsr_meaning.specs.Typed.{HasName, IsTyped, IsTypedConj, IsTypedConstraint}
-use Rattle.dsr_repairing.specs.declared.entries.ByteChange.{ByteChange}
-use Rattle.dsr_repairing.specs.declared.entries.CellSet.{CellSet}
+use Rattle.dsr_repair_theory.specs.declared.entries.ByteChange.{ByteChange}
+use Rattle.dsr_repair_theory.specs.declared.entries.CellSet.{CellSet}
 use Rattle.dsr_report.specs.Reports.{byte_line, reset_line, set_line, update_line}
 use Rattle.dsr_report_read.proofs.HeadsBack.{head_back, name_is}
 use Rattle.dsr_report_read.proofs.LinesBack.{change_back, field_is, reset_back, set_back, set_grouped, slot_grouped}
@@ -25,7 +25,7 @@ use Rattle.dsr_report_read.specs.Lenient.{behind_field, behind_number, change_in
 use Rattle.dsr_report_read.specs.Lines.{bare}
 use Rattle.dsr_report_read.specs.Reads.{Begins, IsHeadOf, IsRecordIn, IsSetAt, IsSetIn, Reads}
 use Rattle.dsr_report_read.specs.declared.lines.Head.{Head}
-use Rattle.dsr_updating.specs.Templates.{literal_at}
+use Rattle.dsr_update_theory.specs.Templates.{literal_at}
 
 -- ---- one value alone may be it
 

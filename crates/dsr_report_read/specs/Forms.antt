@@ -16,16 +16,16 @@ use Rattle.dsr_ir.specs.declared.tuples.Element.{Element}
 use Rattle.dsr_meaning.specs.Counting.{IsIn}
 use Rattle.dsr_meaning.specs.Instances.{declared_field}
 use Rattle.dsr_meaning.specs.Typed.{Descends, HasName, pool_at, pool_of_var}
-use Rattle.dsr_repairing.specs.declared.entries.ByteChange.{ByteChange}
-use Rattle.dsr_repairing.specs.declared.entries.CellSet.{CellSet}
-use Rattle.dsr_repairing.specs.declared.entries.Entry.{Entry}
+use Rattle.dsr_repair_theory.specs.declared.entries.ByteChange.{ByteChange}
+use Rattle.dsr_repair_theory.specs.declared.entries.CellSet.{CellSet}
+use Rattle.dsr_repair_theory.specs.declared.entries.Entry.{Entry}
 use Rattle.dsr_report_read.specs.Lines.{kind_of, line_text, line_texts, may_follow, moved, start, state_after}
 use Rattle.dsr_report_read.specs.declared.lines.Head.{Head}
 use Rattle.dsr_report_read.specs.declared.lines.Kind.TheVariants as kinds
 use Rattle.dsr_report_read.specs.declared.lines.Line.{Line}
 use Rattle.dsr_report_read.specs.declared.lines.Line.TheVariants as lines
 use Rattle.dsr_report_read.specs.declared.lines.State.{State}
-use Rattle.dsr_updating.specs.Templates.{literal_at}
+use Rattle.dsr_update_theory.specs.Templates.{literal_at}
 
 -- ---- what a line may tell
 

@@ -16,8 +16,8 @@ use Rattle.dsr_ir.specs.declared.tuples.Binding.{Binding}
 use Rattle.dsr_ir.specs.declared.tuples.Binding.TheVariants as bindings
 use Rattle.dsr_ir.specs.declared.tuples.Element.{Element}
 use Rattle.dsr_meaning.specs.Typed.{pool_of_var}
-use Rattle.dsr_repairing.specs.declared.entries.ByteChange.{ByteChange}
-use Rattle.dsr_repairing.specs.declared.entries.CellSet.{CellSet}
+use Rattle.dsr_repair_theory.specs.declared.entries.ByteChange.{ByteChange}
+use Rattle.dsr_repair_theory.specs.declared.entries.CellSet.{CellSet}
 use Rattle.dsr_report_read.specs.declared.lines.Head.{Head}
 
 -- ---- numbers

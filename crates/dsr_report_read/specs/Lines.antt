@@ -1,7 +1,7 @@
 -- The lines of a report, one after the other.
 use Rattle.std.specs.Prelude.{ℕ, ◌+◌, Bool, true, false, not, if◌then◌else◌, List, [], ◌∷◌, Option, None, Some}
 use Rattle.dsr_ir.specs.declared.declarations.Spec.{Spec}
-use Rattle.dsr_repairing.specs.declared.entries.Entry.{Entry}
+use Rattle.dsr_repair_theory.specs.declared.entries.Entry.{Entry}
 use Rattle.dsr_report.specs.Reports.{byte_line, end_line, reset_line, set_line, update_line}
 use Rattle.dsr_report_read.specs.declared.lines.Head.{Head}
 use Rattle.dsr_report_read.specs.declared.lines.Kind.{Kind}

@@ -17,7 +17,7 @@ use Rattle.dsr_report_read.specs.declared.lines.Head.{Head}
 use Rattle.dsr_report_read.specs.declared.lines.Kind.{Kind}
 use Rattle.dsr_report_read.specs.declared.lines.Line.{Line}
 use Rattle.dsr_report_read.specs.declared.lines.State.{State}
-use Rattle.dsr_repairing.specs.declared.entries.CellSet.{CellSet}
+use Rattle.dsr_repair_theory.specs.declared.entries.CellSet.{CellSet}
 
 -- the text is that of the value, which is of the kind; none where it is that of no such value
 abbrev pub Reads : {T : Type 0} → (T → Type 0) → (T → List ℕ) → List ℕ → Option T → Type 0

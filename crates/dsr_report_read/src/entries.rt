@@ -4,7 +4,7 @@ ghost use Rattle.dsr_report_read.specs.Grouped as said;
 
 use crate::lines::{Head, Line};
 use dsr_ir::{Element, NoMemory, Seq};
-use dsr_repairing::{ByteChange, CellSet, Entry};
+use dsr_repair_theory::{ByteChange, CellSet, Entry};
 use dsr_report::Log;
 use std::alloc::Global;
 

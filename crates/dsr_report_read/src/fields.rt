@@ -3,7 +3,7 @@ ghost use Rattle.std.specs.Prelude.{◌≡◌, Decides, option_and_then, option_
 ghost use Rattle.dsr_meaning.specs.Typed.{AreTyped, Descends, HasName};
 ghost use Rattle.dsr_meaning.specs.Typed as typed;
 ghost use Rattle.dsr_report_read.specs.Forms.{IsOfPool};
-ghost use Rattle.dsr_updating.specs.Changes as said;
+ghost use Rattle.dsr_update_theory.specs.Changes as said;
 ghost use Rattle.dsr_report_read.specs.Reads.{IsOwn, IsViewed};
 
 use dsr_ir::{Field, Kind, Structure, Structures};

@@ -6,7 +6,7 @@ ghost use Rattle.dsr_report_read.specs.Forms.{IsHead, IsRecordOf};
 ghost use Rattle.dsr_report_read.specs.Lenient as said;
 ghost use Rattle.dsr_report_read.specs.Lines.{bare};
 ghost use Rattle.dsr_report_read.specs.Reads.{IsHeadOf, Reads};
-ghost use Rattle.dsr_updating.specs.Templates.{literal_at};
+ghost use Rattle.dsr_update_theory.specs.Templates.{literal_at};
 
 use crate::bindings::{binding, first_pool, second_pool};
 use crate::lines::Head;

@@ -1,9 +1,10 @@
-//! The log that a report tells, read back from the text.
+//! The log that a report tells, read back from the text; and a law: what is read of the report of a log is that log.
 //!
-//! A line is read leniently, for each constraint, pool or field whose name it may have; what was
-//! read is printed, and compared with the line.
+//! A line is read leniently, for each constraint, pool or field whose name it may have; what was read is printed, and
+//! compared with the line.
 #![tactic(auto)]
 
+mod back;
 mod bindings;
 mod entries;
 mod faults;
@@ -17,6 +18,7 @@ mod reading;
 mod records;
 mod sets;
 
+pub use back::read_back;
 pub use faults::ReadFault;
 pub use lines::{Head, Kind, Line, State};
 pub use reading::read;

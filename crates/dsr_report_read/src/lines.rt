@@ -1,6 +1,6 @@
 // What a line tells.
 use dsr_ir::{Binding, Element};
-use dsr_repairing::{ByteChange, CellSet};
+use dsr_repair_theory::{ByteChange, CellSet};
 
 /// What the line of an update tells: for which literal it was made, by which rule.
 #[derive(Clone, Copy)]

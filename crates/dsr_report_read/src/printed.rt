@@ -5,7 +5,7 @@ ghost use Rattle.dsr_report_read.specs.Lines.{bare};
 
 use crate::lines::Head;
 use dsr_ir::{Element, NoMemory, Seq, Spec};
-use dsr_repairing::{ByteChange, CellSet, Entry};
+use dsr_repair_theory::{ByteChange, CellSet, Entry};
 use dsr_report::{push_change, push_end, push_reset, push_set, push_update};
 use std::alloc::Global;
 

@@ -11,7 +11,7 @@ use crate::numbers::{byte_ahead, is_ahead, number_ahead, skip};
 use crate::printed::{is_change, is_reset};
 use dsr_answers::pool_name;
 use dsr_ir::{Element, NoMemory, Spec};
-use dsr_repairing::ByteChange;
+use dsr_repair_theory::ByteChange;
 use std::alloc::Global;
 
 /// Whether it is the head, or a slot of a declared pool.

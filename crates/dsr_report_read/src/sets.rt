@@ -14,7 +14,7 @@ use crate::printed::is_set;
 use crate::records::is_record;
 use dsr_answers::{field_name, pool_name};
 use dsr_ir::{Field, FieldRef, NoMemory, Path, Spec, Structure};
-use dsr_repairing::CellSet;
+use dsr_repair_theory::CellSet;
 use std::alloc::Global;
 
 // The index of an array's entry at the front, and what stands behind it.

@@ -3,8 +3,8 @@ use Rattle.std.proofs.Common.{◌<◌, ◌≡◌, ◌+◌, ℕ, List, ◌++◌, 
 use Rattle.std.proofs.lemmas.List.{map-id}
 use Rattle.dsr_tree.specs.declared.faults.Fault.{Fault}
 use Rattle.dsr_meaning.specs.Lists.{each_at}
-use Rattle.dsr_faults.specs.Telling.{Finds}
-use Rattle.dsr_faults.proofs.Finding.{each_next, finds_same, finds_then}
+use Rattle.dsr_names.specs.Telling.{Finds}
+use Rattle.dsr_names.proofs.Finding.{each_next, finds_same, finds_then}
 
 -- what was found in the items up to one, and then in that one
 pub finds_next_from : {S : Type 0} (f : ℕ → S → List Fault) (n : ℕ) {a b c : Option Fault} (xs : List S) (i : ℕ) (x : S) → i < length xs → x ≡ get_or xs i x → Finds (each_at f n (take i xs)) a b → Finds (f (n + i) x) b c → Finds (each_at f n (take (i + 1) xs)) a c

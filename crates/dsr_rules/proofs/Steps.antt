@@ -3,9 +3,9 @@ use Rattle.std.proofs.Common.{◌≡◌, ℕ, Bool, ◌&&◌, Option, subst}
 use Rattle.dsr_tree.specs.declared.faults.Condition.{Condition}
 use Rattle.dsr_tree.specs.declared.faults.Condition.TheVariants as conditions
 use Rattle.dsr_tree.specs.declared.faults.Fault.{Fault}
-use Rattle.dsr_text.specs.Faults.{when}
-use Rattle.dsr_faults.specs.Telling.{Finds}
-use Rattle.dsr_faults.proofs.Finding.{finds_when}
+use Rattle.dsr_language_theory.specs.Faults.{when}
+use Rattle.dsr_names.specs.Telling.{Finds}
+use Rattle.dsr_names.proofs.Finding.{finds_when}
 
 -- a place that was computed in another way
 pub finds_at : {p q : ℕ} (b : Bool) (condition : Condition) {old new : Option Fault} → p ≡ q → Finds (when b condition p) old new → Finds (when b condition q) old new

@@ -18,9 +18,9 @@ use Rattle.dsr_tree.specs.declared.tree.Var.{Var}
 use Rattle.dsr_tree.specs.declared.tree.Var.TheVariants as vars
 use Rattle.dsr_meaning.specs.Lists.{each_at}
 use Rattle.dsr_names.specs.Tables.{known_of}
-use Rattle.dsr_typing.specs.Known.{field_is, plain_set, unknown}
-use Rattle.dsr_typing.specs.RuleFaults.{is_number, is_reference, refers_elsewhere, is_other_head, guard_faults, inclusion_names, inclusion_faults}
-use Rattle.dsr_typing.specs.Rules.{Scope, guards_of}
+use Rattle.dsr_language_theory.specs.Known.{field_is, plain_set, unknown}
+use Rattle.dsr_language_theory.specs.RuleFaults.{is_number, is_reference, refers_elsewhere, is_other_head, guard_faults, inclusion_names, inclusion_faults}
+use Rattle.dsr_language_theory.specs.Rules.{Scope, guards_of}
 use Rattle.dsr_rules.specs.declared.scopes.Scope.{Scope as RuleScope}
 
 -- what the code's scope says

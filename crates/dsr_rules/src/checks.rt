@@ -3,14 +3,13 @@ ghost use Rattle.std.specs.Prelude.{◌≡◌, ◌||◌, nat_lt, nat_eq, length}
 ghost use Rattle.dsr_meaning.specs.Lists.{each_at};
 ghost use Rattle.dsr_names.specs.Tables.{known_of};
 ghost use Rattle.dsr_tree.specs.declared.tree.Index.TheVariants as indexes;
-ghost use Rattle.dsr_typing.specs.Rules.{guards_of};
-ghost use Rattle.dsr_typing.specs.RuleFaults.{premise_faults, span_index_faults, span_faults, rule_faults};
+ghost use Rattle.dsr_language_theory.specs.Rules.{guards_of};
+ghost use Rattle.dsr_language_theory.specs.RuleFaults.{premise_faults, span_index_faults, span_faults, rule_faults};
 ghost use Rattle.dsr_rules.specs.Scopes.{scope_told};
-ghost use Rattle.dsr_faults.specs.Telling.{Finds};
+ghost use Rattle.dsr_names.specs.Telling.{Finds};
 
 use crate::scopes::Scope;
-use dsr_faults::Told;
-use dsr_names::{Known, is_this, note_found};
+use dsr_names::{Known, Told, is_this, note_found};
 use dsr_tree::{Condition, Guards, Index, PlacedName, Premise, Rule, Span};
 
 // Whether a rule has more than 4 guards.

@@ -1,13 +1,12 @@
 // The faults of guards.
 ghost use Rattle.std.specs.Prelude.{◌≡◌};
-ghost use Rattle.dsr_typing.specs.RuleFaults.{guard_faults};
+ghost use Rattle.dsr_language_theory.specs.RuleFaults.{guard_faults};
 ghost use Rattle.dsr_rules.specs.Scopes.{scope_told, is_no_reference, is_no_number, tested_faults, compared_faults, more_guards_faults, guards_faults};
-ghost use Rattle.dsr_faults.specs.Telling.{Finds};
+ghost use Rattle.dsr_names.specs.Telling.{Finds};
 
 use crate::scopes::Scope;
-use dsr_faults::Told;
 use dsr_ir::FieldRef;
-use dsr_names::var_place;
+use dsr_names::{Told, var_place};
 use dsr_tree::{Compare, Condition, Guard, Guards, Path, PlacedNumber, RefTest, Var};
 
 impl Scope<'_> {

@@ -1,17 +1,16 @@
 // The faults of members that rules give, and of inclusions.
 ghost use Rattle.std.specs.Prelude.{◌≡◌, Some, option_map};
 ghost use Rattle.dsr_tree.specs.declared.tree.Var.TheVariants as vars;
-ghost use Rattle.dsr_typing.specs.Known.{is_nil, plain_named};
-ghost use Rattle.dsr_typing.specs.Rules.{path_field};
-ghost use Rattle.dsr_typing.specs.RuleFaults.{inclusion_faults};
+ghost use Rattle.dsr_language_theory.specs.Known.{is_nil, plain_named};
+ghost use Rattle.dsr_language_theory.specs.Rules.{path_field};
+ghost use Rattle.dsr_language_theory.specs.RuleFaults.{inclusion_faults};
 ghost use Rattle.dsr_rules.specs.Scopes.{scope_told, set_names, faults_of_member, target_names, target_faults, leads_elsewhere, slot_names, slot_member_faults, record_names, own_faults};
-ghost use Rattle.dsr_faults.specs.Telling.{Finds};
+ghost use Rattle.dsr_names.specs.Telling.{Finds};
 
 use crate::pairs::note_mismatch;
 use crate::scopes::Scope;
-use dsr_faults::Told;
 use dsr_ir::FieldRef;
-use dsr_names::{disagree, note_found, var_place};
+use dsr_names::{Told, disagree, note_found, var_place};
 use dsr_tree::{Inclusion, Member, MemberPart, PlacedName, Var};
 
 impl Scope<'_> {

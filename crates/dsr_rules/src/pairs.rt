@@ -2,17 +2,16 @@
 ghost use Rattle.std.specs.Prelude.{◌≡◌, ◌&&◌, option_map};
 ghost use Rattle.dsr_tree.specs.declared.faults.Condition.TheVariants as conditions;
 ghost use Rattle.dsr_tree.specs.declared.tree.Term.TheVariants as terms;
-ghost use Rattle.dsr_text.specs.Faults.{when};
-ghost use Rattle.dsr_typing.specs.Known.{is_nil};
-ghost use Rattle.dsr_typing.specs.Rules.{path_field};
-ghost use Rattle.dsr_typing.specs.RuleFaults.{term_names, term_faults, term_pool, is_no_pair, relates_others, pair_mismatches};
+ghost use Rattle.dsr_language_theory.specs.Faults.{when};
+ghost use Rattle.dsr_language_theory.specs.Known.{is_nil};
+ghost use Rattle.dsr_language_theory.specs.Rules.{path_field};
+ghost use Rattle.dsr_language_theory.specs.RuleFaults.{term_names, term_faults, term_pool, is_no_pair, relates_others, pair_mismatches};
 ghost use Rattle.dsr_rules.specs.Scopes.{scope_told, pair_names, pair_faults};
-ghost use Rattle.dsr_faults.specs.Telling.{Finds};
+ghost use Rattle.dsr_names.specs.Telling.{Finds};
 
 use crate::scopes::Scope;
-use dsr_faults::Told;
 use dsr_ir::{FieldRef, Rel};
-use dsr_names::{disagree, is_this, note_found};
+use dsr_names::{Told, disagree, is_this, note_found};
 use dsr_tree::{Condition, Path, PlacedName, Term};
 
 /// Notes that pools or kinds disagree; that is said only where all names are known.

@@ -1,15 +1,14 @@
 // The names and the indexes of paths.
 ghost use Rattle.std.specs.Prelude.{◌≡◌, ◌||◌, Some};
-ghost use Rattle.dsr_typing.specs.Known.{is_nil, field_is};
-ghost use Rattle.dsr_typing.specs.Rules.{field_of, path_field};
-ghost use Rattle.dsr_typing.specs.RuleFaults.{is_scalar, is_other_head, variable_faults, field_faults, path_names, is_foreign, is_misread, has_other_length, index_faults, path_faults, counts_others, slot_faults};
+ghost use Rattle.dsr_language_theory.specs.Known.{is_nil, field_is};
+ghost use Rattle.dsr_language_theory.specs.Rules.{field_of, path_field};
+ghost use Rattle.dsr_language_theory.specs.RuleFaults.{is_scalar, is_other_head, variable_faults, field_faults, path_names, is_foreign, is_misread, has_other_length, index_faults, path_faults, counts_others, slot_faults};
 ghost use Rattle.dsr_rules.specs.Scopes.{scope_told};
-ghost use Rattle.dsr_faults.specs.Telling.{Finds};
+ghost use Rattle.dsr_names.specs.Telling.{Finds};
 
 use crate::scopes::{Scope, slot_count};
-use dsr_faults::Told;
 use dsr_ir::FieldRef;
-use dsr_names::{differ, is_this, note_name};
+use dsr_names::{Told, differ, is_this, note_name};
 use dsr_tree::{Condition, Path, PlacedName, Var};
 
 impl Scope<'_> {

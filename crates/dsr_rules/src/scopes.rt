@@ -2,8 +2,8 @@
 ghost use Rattle.std.specs.Prelude.{◌≡◌, option_map};
 ghost use Rattle.dsr_names.specs.Tables.{known_of};
 ghost use Rattle.dsr_tree.specs.declared.tree.Index.TheVariants as indexes;
-ghost use Rattle.dsr_typing.specs.Known.{pool_named};
-ghost use Rattle.dsr_typing.specs.Rules.{record_name, record_structure, record_pool, index_name, is_pool_index, is_over_pool, index_entries, span_entries, scope_of, is_record, field_of, path_field};
+ghost use Rattle.dsr_language_theory.specs.Known.{pool_named};
+ghost use Rattle.dsr_language_theory.specs.Rules.{record_name, record_structure, record_pool, index_name, is_pool_index, is_over_pool, index_entries, span_entries, scope_of, is_record, field_of, path_field};
 ghost use Rattle.dsr_rules.specs.Scopes.{scope_told};
 
 use dsr_ir::{Expr, FieldRef, Name};

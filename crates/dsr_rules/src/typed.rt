@@ -2,16 +2,15 @@
 ghost use Rattle.std.specs.Prelude.{◌≡◌, [], IfOk, IfErr};
 ghost use Rattle.dsr_meaning.specs.Typed.{AreTyped};
 ghost use Rattle.dsr_names.specs.Tables.{known_of};
-ghost use Rattle.dsr_typing.specs.Known.{known_in};
-ghost use Rattle.dsr_typing.specs.RuleFaults.{rules_faults};
-ghost use Rattle.dsr_typing.specs.TypedRules.{typed_rules};
-ghost use Rattle.dsr_faults.specs.FaultsTold.{Tells};
+ghost use Rattle.dsr_language_theory.specs.Known.{known_in};
+ghost use Rattle.dsr_language_theory.specs.RuleFaults.{rules_faults};
+ghost use Rattle.dsr_language_theory.specs.TypedRules.{typed_rules};
+ghost use Rattle.dsr_names.specs.FaultsTold.{Tells};
 
 use crate::checks::check_rules;
 use crate::typed_rules::typed_rules;
-use dsr_faults::{SpecFault, Told};
 use dsr_ir::{Rule, Structures};
-use dsr_names::{Known, name_tables};
+use dsr_names::{Known, SpecFault, Told, name_tables};
 use dsr_tree::Tree;
 use std::alloc::Global;
 

@@ -2,8 +2,8 @@
 ghost use Rattle.std.specs.Prelude.{◌≡◌, ◌∷◌, Some, map, IfOk};
 ghost use Rattle.dsr_names.specs.Tables.{known_of};
 ghost use Rattle.dsr_tree.specs.declared.tree.Term.TheVariants as terms;
-ghost use Rattle.dsr_typing.specs.Rules.{guards_of, premise_set};
-ghost use Rattle.dsr_typing.specs.TypedRules.{field_in, pool_in, typed_test, typed_path, path_in, typed_guard, typed_index, typed_span, typed_pair, slot_pool, typed_member, typed_inclusion, rule_in, typed_rule, typed_rules};
+ghost use Rattle.dsr_language_theory.specs.Rules.{guards_of, premise_set};
+ghost use Rattle.dsr_language_theory.specs.TypedRules.{field_in, pool_in, typed_test, typed_path, path_in, typed_guard, typed_index, typed_span, typed_pair, slot_pool, typed_member, typed_inclusion, rule_in, typed_rule, typed_rules};
 ghost use Rattle.dsr_rules.specs.Scopes.{scope_told};
 
 use crate::scopes::Scope;

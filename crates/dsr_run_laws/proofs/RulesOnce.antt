@@ -3,9 +3,9 @@ use Rattle.std.proofs.Common.{◌≡◌, ◌≤◌, ◌∙◌, ℕ, zero, suc, t
 use Rattle.std.proofs.lemmas.Option.{same_Some}
 use Rattle.std.specs.List.{cons_option}
 use Rattle.std.specs.Prelude.{option_map, if◌then◌else◌}
-use Rattle.dsr_applying.specs.Choices.{TakesAway}
-use Rattle.dsr_feasible.proofs.DueForms.{IsDueForm, goal_same, of_compensated}
-use Rattle.dsr_feasible.proofs.TakenGoals.{adding_takes_none}
+use Rattle.dsr_repair_theory.specs.Choices.{TakesAway}
+use Rattle.dsr_repair_laws.proofs.DueForms.{IsDueForm, goal_same, of_compensated}
+use Rattle.dsr_repair_laws.proofs.TakenGoals.{adding_takes_none}
 use Rattle.dsr_ir.specs.Rules.{gives}
 use Rattle.dsr_ir.specs.declared.constraints.Literal.{Literal}
 use Rattle.dsr_ir.specs.declared.constraints.Var.{Var}
@@ -19,11 +19,11 @@ use Rattle.dsr_ir.specs.declared.updates.Goal.TheVariants as goals
 use Rattle.dsr_ir.specs.declared.updates.Symbol.{Symbol}
 use Rattle.dsr_ir.specs.declared.updates.Template.{Template}
 use Rattle.dsr_ir.specs.declared.updates.Update.{Update}
-use Rattle.dsr_listing.specs.Sides.{atom_symbol}
+use Rattle.dsr_graph_theory.specs.Sides.{atom_symbol}
 use Rattle.dsr_meaning.specs.Lists.{each_at}
-use Rattle.dsr_updating.specs.Options.{options}
-use Rattle.dsr_updating.specs.Givers.{givers}
-use Rattle.dsr_updating.specs.Templates.{item_or_last, removal_updates, removing}
+use Rattle.dsr_update_theory.specs.Options.{options}
+use Rattle.dsr_update_theory.specs.Givers.{givers}
+use Rattle.dsr_update_theory.specs.Templates.{item_or_last, removal_updates, removing}
 
 -- ---- rules that rise
 

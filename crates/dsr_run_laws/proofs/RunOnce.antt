@@ -2,8 +2,8 @@
 use Rattle.std.proofs.Common.{◌≡◌, ◌⊎◌, ◌∙◌, ℕ, List, [], ◌∷◌, ◌++◌, Option, None, Some, inl, inr, refl, sym, ap, subst}
 use Rattle.std.proofs.lemmas.Option.{same_Some}
 use Rattle.std.specs.Prelude.{IfSome, IsSomeAnd}
-use Rattle.dsr_applying.specs.Choices.{IsFresh, IsFreshFrom, IsOutside, IsUpdateAt}
-use Rattle.dsr_feasible.proofs.MakingSteps.{can_step, writes_free, writes_of_head}
+use Rattle.dsr_repair_theory.specs.Choices.{IsFresh, IsFreshFrom, IsOutside, IsUpdateAt}
+use Rattle.dsr_repair_laws.proofs.MakingSteps.{can_step, writes_free, writes_of_head}
 use Rattle.dsr_ir.specs.declared.constraints.Literal.{Literal}
 use Rattle.dsr_ir.specs.declared.declarations.Pool.{Pool}
 use Rattle.dsr_ir.specs.declared.declarations.Spec.{Spec}
@@ -14,9 +14,9 @@ use Rattle.dsr_ir.specs.declared.tuples.Element.{Element}
 use Rattle.dsr_ir.specs.declared.tuples.Fact.TheVariants.{Member}
 use Rattle.dsr_ir.specs.declared.updates.Template.{Template}
 use Rattle.dsr_ir.specs.declared.updates.Update.{Update}
-use Rattle.dsr_kept.proofs.EntryOnce.{entry_once}
-use Rattle.dsr_kept.proofs.Kept.{fixed_fields_kept, layout_kept}
-use Rattle.dsr_kept.proofs.Told.{was_stepped}
+use Rattle.dsr_repair_laws.proofs.EntryOnce.{entry_once}
+use Rattle.dsr_repair_laws.proofs.Kept.{fixed_fields_kept, layout_kept}
+use Rattle.dsr_repair_laws.proofs.Told.{was_stepped}
 use Rattle.dsr_meaning.proofs.Options.{some_and}
 use Rattle.dsr_meaning.specs.Consistency.{BoundConstraint, IsConsistent}
 use Rattle.dsr_meaning.specs.Counting.{IsIn}
@@ -24,22 +24,22 @@ use Rattle.dsr_meaning.specs.FixedFields.{fixed_cell}
 use Rattle.dsr_meaning.specs.Models.{IsFact}
 use Rattle.dsr_meaning.specs.Typed.{IsTyped, pool_at}
 use Rattle.dsr_meaning.specs.Writes.{HasSameBits}
-use Rattle.dsr_planning.specs.Plans.{IsPlan}
-use Rattle.dsr_planning.specs.declared.choices.Choice.{Choice}
-use Rattle.dsr_repairing.specs.Entries.{IsEntryOf}
-use Rattle.dsr_repairing.specs.Runs.{IsDueEntry, IsPartRun, IsRun}
-use Rattle.dsr_repairing.specs.Runs.IsPartRun.{begins, goes_on}
-use Rattle.dsr_repairing.specs.Turns.{IsDueStep, IsNeed, IsOutcome, IsTurn, IsUsedUp, bound_by, needed_by}
-use Rattle.dsr_repairing.specs.declared.entries.Entry.{Entry}
-use Rattle.dsr_repairing.specs.declared.turns.Need.{Need}
-use Rattle.dsr_repairing.specs.declared.turns.Outcome.{Outcome}
-use Rattle.dsr_repairing.specs.declared.turns.Outcome.TheVariants as outcomes
-use Rattle.dsr_repairing.specs.declared.turns.Turn.{Turn}
-use Rattle.dsr_repairing.specs.declared.turns.Turn.TheVariants as turns
-use Rattle.dsr_resolved.proofs.AcceptedLayouts.{legal_of}
-use Rattle.dsr_stepping.specs.Images.{FixedFieldsStay, IsImageOf}
-use Rattle.dsr_stepping.specs.Steps.{IsSlot}
-use Rattle.dsr_stepping.specs.declared.steps.Step.{Step}
+use Rattle.dsr_plan_theory.specs.Plans.{IsPlan}
+use Rattle.dsr_plan_theory.specs.declared.choices.Choice.{Choice}
+use Rattle.dsr_repair_theory.specs.Entries.{IsEntryOf}
+use Rattle.dsr_repair_theory.specs.Runs.{IsDueEntry, IsPartRun, IsRun}
+use Rattle.dsr_repair_theory.specs.Runs.IsPartRun.{begins, goes_on}
+use Rattle.dsr_repair_theory.specs.Turns.{IsDueStep, IsNeed, IsOutcome, IsTurn, IsUsedUp, bound_by, needed_by}
+use Rattle.dsr_repair_theory.specs.declared.entries.Entry.{Entry}
+use Rattle.dsr_repair_theory.specs.declared.turns.Need.{Need}
+use Rattle.dsr_repair_theory.specs.declared.turns.Outcome.{Outcome}
+use Rattle.dsr_repair_theory.specs.declared.turns.Outcome.TheVariants as outcomes
+use Rattle.dsr_repair_theory.specs.declared.turns.Turn.{Turn}
+use Rattle.dsr_repair_theory.specs.declared.turns.Turn.TheVariants as turns
+use Rattle.dsr_resolve.proofs.AcceptedLayouts.{legal_of}
+use Rattle.dsr_step_theory.specs.Images.{FixedFieldsStay, IsImageOf}
+use Rattle.dsr_step_theory.specs.Steps.{IsSlot}
+use Rattle.dsr_step_theory.specs.declared.steps.Step.{Step}
 use Rattle.dsr_run_laws.proofs.StepOnce.{AreUpdatesAlike, due_once, step_once, takes_once, update_once}
 use Rattle.dsr_run_laws.specs.Fronts.{GoesOn}
 

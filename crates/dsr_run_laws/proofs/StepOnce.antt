@@ -3,10 +3,10 @@ use Rattle.std.proofs.Common.{◌≡◌, ◌≤◌, ◌<◌, ◌⊎◌, ◌∙�
 use Rattle.std.proofs.lemmas.Bool.{cases_lt}
 use Rattle.std.proofs.lemmas.Option.{same_Some}
 use Rattle.std.specs.Prelude.{IsSomeAnd}
-use Rattle.dsr_applying.specs.Choices.{Adds, IsChosen, IsEntryAt, IsFresh, IsFreshFrom, IsNumberFor, IsPlace, IsSupplied, IsToGo, IsUpdateAt, TakesAway, written_size}
-use Rattle.dsr_applying.specs.Choices.IsUpdateAt.{adds, takes_away}
-use Rattle.dsr_feasible.proofs.DueForms.{form_of}
-use Rattle.dsr_feasible.proofs.GreatestFact.{facts_apart}
+use Rattle.dsr_repair_theory.specs.Choices.{Adds, IsChosen, IsEntryAt, IsFresh, IsFreshFrom, IsNumberFor, IsPlace, IsSupplied, IsToGo, IsUpdateAt, TakesAway, written_size}
+use Rattle.dsr_repair_theory.specs.Choices.IsUpdateAt.{adds, takes_away}
+use Rattle.dsr_repair_laws.proofs.DueForms.{form_of}
+use Rattle.dsr_repair_laws.proofs.GreatestFact.{facts_apart}
 use Rattle.dsr_ir.specs.declared.constraints.Atom.{Atom}
 use Rattle.dsr_ir.specs.declared.constraints.Atom.TheVariants as atoms
 use Rattle.dsr_ir.specs.declared.constraints.Constraint.{Constraint}
@@ -34,13 +34,13 @@ use Rattle.dsr_meaning.specs.Consistency.{BoundConstraint}
 use Rattle.dsr_meaning.specs.Models.{IsDeriver, IsFact}
 use Rattle.dsr_meaning.specs.Truth.{HasSize, element_of}
 use Rattle.dsr_meaning.specs.Typed.{IsTyped}
-use Rattle.dsr_planning.specs.Plans.{IsPlan}
-use Rattle.dsr_planning.specs.declared.choices.Choice.{Choice}
-use Rattle.dsr_planning.specs.declared.choices.Row.{Row}
+use Rattle.dsr_plan_theory.specs.Plans.{IsPlan}
+use Rattle.dsr_plan_theory.specs.declared.choices.Choice.{Choice}
+use Rattle.dsr_plan_theory.specs.declared.choices.Row.{Row}
 use Rattle.dsr_run_laws.proofs.Again.{no_later, no_later_literal, same_binding, same_constraint, same_literal, same_row, same_template}
-use Rattle.dsr_repairing.specs.Due.{IsDue, IsDueConj, IsDueLiteral}
-use Rattle.dsr_repairing.specs.Turns.{IsDueStep, bound_by}
-use Rattle.dsr_stepping.specs.declared.steps.Step.{Step}
+use Rattle.dsr_repair_theory.specs.Due.{IsDue, IsDueConj, IsDueLiteral}
+use Rattle.dsr_repair_theory.specs.Turns.{IsDueStep, bound_by}
+use Rattle.dsr_step_theory.specs.declared.steps.Step.{Step}
 use Rattle.dsr_run_laws.proofs.RulesOnce.{TakesOnce, taken_once}
 
 -- ---- what is due

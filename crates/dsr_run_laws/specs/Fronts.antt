@@ -2,9 +2,9 @@
 use Rattle.std.specs.Prelude.{◌≡◌, ℕ, List, ◌++◌}
 use Rattle.dsr_ir.specs.declared.declarations.Spec.{Spec}
 use Rattle.dsr_ir.specs.declared.layouts.Layout.{Layout}
-use Rattle.dsr_planning.specs.declared.choices.Choice.{Choice}
-use Rattle.dsr_repairing.specs.Runs.{IsPartRun}
-use Rattle.dsr_repairing.specs.declared.entries.Entry.{Entry}
+use Rattle.dsr_plan_theory.specs.declared.choices.Choice.{Choice}
+use Rattle.dsr_repair_theory.specs.Runs.{IsPartRun}
+use Rattle.dsr_repair_theory.specs.declared.entries.Entry.{Entry}
 
 -- these entries are the first of all, and the others tell a run from the bytes that they leave to
 -- the last

@@ -4,16 +4,16 @@ ghost use Rattle.dsr_ir.specs.declared.declarations.Spec.{Spec};
 ghost use Rattle.dsr_ir.specs.declared.layouts.Layout.{Layout};
 ghost use Rattle.dsr_ir.specs.declared.updates.Update.{Update};
 ghost use Rattle.dsr_meaning.specs.Typed.{IsTyped};
-ghost use Rattle.dsr_planning.specs.Plans.{IsPlan};
-ghost use Rattle.dsr_planning.specs.declared.choices.Choice.{Choice};
-ghost use Rattle.dsr_repairing.specs.Runs.{IsDueEntry, IsPartRun, IsRun};
-ghost use Rattle.dsr_repairing.specs.Turns.{IsDueStep, IsTurn};
-ghost use Rattle.dsr_repairing.specs.declared.entries.Entry.{Entry};
-ghost use Rattle.dsr_repairing.specs.declared.turns.Outcome.{Outcome};
-ghost use Rattle.dsr_repairing.specs.declared.turns.Turn.{Turn};
+ghost use Rattle.dsr_plan_theory.specs.Plans.{IsPlan};
+ghost use Rattle.dsr_plan_theory.specs.declared.choices.Choice.{Choice};
+ghost use Rattle.dsr_repair_theory.specs.Runs.{IsDueEntry, IsPartRun, IsRun};
+ghost use Rattle.dsr_repair_theory.specs.Turns.{IsDueStep, IsTurn};
+ghost use Rattle.dsr_repair_theory.specs.declared.entries.Entry.{Entry};
+ghost use Rattle.dsr_repair_theory.specs.declared.turns.Outcome.{Outcome};
+ghost use Rattle.dsr_repair_theory.specs.declared.turns.Turn.{Turn};
 ghost use Rattle.dsr_run_laws.specs.Fronts.{GoesOn};
-ghost use Rattle.dsr_stepping.specs.Images.{FixedFieldsStay, IsImageOf};
-ghost use Rattle.dsr_stepping.specs.declared.steps.Step.{Step};
+ghost use Rattle.dsr_step_theory.specs.Images.{FixedFieldsStay, IsImageOf};
+ghost use Rattle.dsr_step_theory.specs.declared.steps.Step.{Step};
 
 /// One step is due by a plan on an image, by one update.
 pub fn due_steps_are_one()

@@ -1,3 +1,3 @@
-mod Caused
+pub mod Caused
 pub mod Laws
-mod Played
+pub mod Played

@@ -6,19 +6,19 @@ use Rattle.dsr_ir.specs.declared.rules.Rule.{Rule}
 use Rattle.dsr_tree.specs.Trees.{TreeShape}
 use Rattle.dsr_tree.specs.declared.faults.Fault.{Fault}
 use Rattle.dsr_meaning.specs.Typed.{AreTyped, IsTyped}
-use Rattle.dsr_text.specs.Declarations.{declaration_faults}
-use Rattle.dsr_text.specs.Tables.{tables}
-use Rattle.dsr_typing.specs.Constraints.{constraints_faults}
-use Rattle.dsr_typing.specs.Known.{known_in}
-use Rattle.dsr_typing.specs.RuleFaults.{rules_faults}
-use Rattle.dsr_typing.specs.Specifications.{first_of, faults_over, specification_faults, specification_over}
-use Rattle.dsr_typing.specs.TypedConstraints.{typed_constraints}
-use Rattle.dsr_typing.specs.TypedRules.{typed_rules}
-use Rattle.dsr_typed.proofs.TypedConstraints.{constraints_are_typed, few_constraints, names_differ}
-use Rattle.dsr_typed.proofs.TypedRules.{rules_are_typed, few_rules}
-use Rattle.dsr_faults.specs.FaultsTold.{Tells}
-use Rattle.dsr_faults.specs.declared.refusals.SpecFault.{SpecFault}
-use Rattle.dsr_faults.specs.declared.refusals.SpecFault.TheVariants.{At, NoMemory}
+use Rattle.dsr_language_theory.specs.Declarations.{declaration_faults}
+use Rattle.dsr_language_theory.specs.Tables.{tables}
+use Rattle.dsr_language_theory.specs.Constraints.{constraints_faults}
+use Rattle.dsr_language_theory.specs.Known.{known_in}
+use Rattle.dsr_language_theory.specs.RuleFaults.{rules_faults}
+use Rattle.dsr_language_theory.specs.Specifications.{first_of, faults_over, specification_faults, specification_over}
+use Rattle.dsr_language_theory.specs.TypedConstraints.{typed_constraints}
+use Rattle.dsr_language_theory.specs.TypedRules.{typed_rules}
+use Rattle.dsr_language_laws.proofs.TypedConstraints.{constraints_are_typed, few_constraints, names_differ}
+use Rattle.dsr_language_laws.proofs.TypedRules.{rules_are_typed, few_rules}
+use Rattle.dsr_names.specs.FaultsTold.{Tells}
+use Rattle.dsr_names.specs.declared.refusals.SpecFault.{SpecFault}
+use Rattle.dsr_names.specs.declared.refusals.SpecFault.TheVariants.{At, NoMemory}
 
 -- a fault of the first of two parts is told of both
 tells_first : (xs ys : List Fault) (f : SpecFault) → Tells xs f → Tells (first_of xs ys) f

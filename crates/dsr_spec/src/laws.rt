@@ -1,7 +1,7 @@
 // Laws on specifications, each the contract of a function that does nothing.
 ghost use Rattle.std.specs.Prelude.{◌≡◌, ℕ, List};
 ghost use Rattle.dsr_ir.specs.declared.declarations.Spec.{Spec};
-ghost use Rattle.dsr_typing.specs.Specifications.{IsSpecificationOf};
+ghost use Rattle.dsr_language_theory.specs.Specifications.{IsSpecificationOf};
 
 /// A text means at most one specification.
 pub fn specifications_are_unique()

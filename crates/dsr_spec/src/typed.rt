@@ -2,12 +2,12 @@
 ghost use Rattle.std.specs.Prelude.{◌≡◌, [], IfOk, IfErr};
 ghost use Rattle.dsr_tree.specs.Trees.{tree_shape};
 ghost use Rattle.dsr_meaning.specs.Typed.{IsTyped};
-ghost use Rattle.dsr_typing.specs.Specifications.{specification, specification_faults};
-ghost use Rattle.dsr_faults.specs.FaultsTold.{Tells};
+ghost use Rattle.dsr_language_theory.specs.Specifications.{specification, specification_faults};
+ghost use Rattle.dsr_names.specs.FaultsTold.{Tells};
 
 use dsr_constraint::constraints;
-use dsr_faults::SpecFault;
 use dsr_ir::{Seq, Spec};
+use dsr_names::SpecFault;
 use dsr_rules::rules;
 use dsr_struct::structures;
 use dsr_tree::Tree;

@@ -1,2 +1,2 @@
-mod Failing
-mod Places
+pub mod Failing
+pub mod Places

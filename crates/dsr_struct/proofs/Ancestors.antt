@@ -8,7 +8,7 @@ use Rattle.dsr_tree.specs.Trees.{StructureTree, structure_shape}
 use Rattle.dsr_tree.specs.declared.tree.PlacedName.{PlacedName}
 use Rattle.dsr_tree.specs.declared.tree.Structure.{Structure}
 use Rattle.dsr_meaning.specs.Lists.{each_at}
-use Rattle.dsr_text.specs.Names.{all_ancestors, ancestors_in, before, is_head, parent_number, with_ancestors}
+use Rattle.dsr_language_theory.specs.Names.{all_ancestors, ancestors_in, before, is_head, parent_number, with_ancestors}
 
 -- what the number of each item gives, counted from n
 abbrev by_number : {S Y : Type 0} → (ℕ → Y) → ℕ → List S → List Y

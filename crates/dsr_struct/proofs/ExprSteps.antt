@@ -10,10 +10,10 @@ use Rattle.dsr_tree.specs.declared.tree.Term2.{Term2, out-Term2}
 use Rattle.dsr_ir.specs.Exprs.{ExprShape}
 use Rattle.dsr_tree.specs.Trees.{TermTree, expr_tree, term_tree, FactorTree, MoreTermTree, MoreFactorTree, in_terms, in_factors, expr_shape, term_shape, factor_shape, more_term_shape, more_factor_shape}
 use Rattle.dsr_tree.proofs.TreeRows.{expr_is, term_is}
-use Rattle.dsr_text.specs.Declarations.{more_terms_faults, term_faults, more_factors_faults, factor_faults, is_number, is_number_term, is_number_factor}
-use Rattle.dsr_text.specs.Tables.{sum_of, product_of, typed_expr, typed_sum, typed_term, typed_product, typed_factor}
-use Rattle.dsr_faults.specs.Telling.{Finds}
-use Rattle.dsr_faults.proofs.Finding.{finds_same, finds_then}
+use Rattle.dsr_language_theory.specs.Declarations.{more_terms_faults, term_faults, more_factors_faults, factor_faults, is_number, is_number_term, is_number_factor}
+use Rattle.dsr_language_theory.specs.Tables.{sum_of, product_of, typed_expr, typed_sum, typed_term, typed_product, typed_factor}
+use Rattle.dsr_names.specs.Telling.{Finds}
+use Rattle.dsr_names.proofs.Finding.{finds_same, finds_then}
 
 -- the shape of a term behind its sign, by its two parts
 abbrev parts_of : MoreTerm → MoreTermTree

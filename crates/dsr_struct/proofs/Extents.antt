@@ -6,12 +6,12 @@ use Rattle.dsr_tree.specs.declared.faults.Condition.TheVariants as conditions
 use Rattle.dsr_tree.specs.declared.tree.Width.{Width}
 use Rattle.dsr_tree.specs.declared.tree.Width.TheVariants as widths
 use Rattle.dsr_meaning.specs.Cells.{width_bits, is_bytewise as reads_bytes}
-use Rattle.dsr_text.specs.Declarations.{entry_bits, is_bytewise, width_faults, extent_of}
-use Rattle.dsr_text.specs.Names.{Names}
-use Rattle.dsr_text.specs.Tables.{typed_expr, typed_field, typed_width}
+use Rattle.dsr_language_theory.specs.Declarations.{entry_bits, is_bytewise, width_faults, extent_of}
+use Rattle.dsr_language_theory.specs.Names.{Names}
+use Rattle.dsr_language_theory.specs.Tables.{typed_expr, typed_field, typed_width}
 use Rattle.dsr_meaning.specs.Placeable.{IsLegalWidth, HasLegalWidth as IsLegal, plain_extent}
 use Rattle.dsr_struct.specs.Known.{HasLegalWidth}
-use Rattle.dsr_text.proofs.Absent.{when_absent}
+use Rattle.dsr_language_theory.proofs.Absent.{when_absent}
 
 legal_bits : (n : ℕ) → not (nat_le 1 n && nat_le n 32) ≡ false → (1 ≤ n) × (n ≤ 32)
 legal_bits n e = (grind (arith, nat_tests), grind (arith, nat_tests))

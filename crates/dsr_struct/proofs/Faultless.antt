@@ -9,13 +9,13 @@ use Rattle.dsr_tree.specs.Trees.{FieldTree, named, skipped, StructureTree, PoolT
 use Rattle.dsr_tree.specs.declared.tree.Relation.{Relation}
 use Rattle.dsr_tree.specs.declared.tree.Set.{Set}
 use Rattle.dsr_tree.specs.declared.faults.Condition.TheVariants as conditions
-use Rattle.dsr_text.specs.Declarations.{FieldPosition, is_declared_above, source_faults, target_faults, head_faults, field_faults, position_of, structure_faults, pool_faults, set_faults, relation_faults, supply_faults, declaration_faults}
-use Rattle.dsr_text.specs.Faults.{when}
+use Rattle.dsr_language_theory.specs.Declarations.{FieldPosition, is_declared_above, source_faults, target_faults, head_faults, field_faults, position_of, structure_faults, pool_faults, set_faults, relation_faults, supply_faults, declaration_faults}
+use Rattle.dsr_language_theory.specs.Faults.{when}
 use Rattle.dsr_meaning.specs.Lists.{each_at}
-use Rattle.dsr_text.specs.Names.{Names, names_of, is_at, structure_number, fixed_in, has_fixed_name, asked_structures}
+use Rattle.dsr_language_theory.specs.Names.{Names, names_of, is_at, structure_number, fixed_in, has_fixed_name, asked_structures}
 use Rattle.dsr_struct.specs.Known.{AllFit, HasLegalWidth, HasLegalWidths}
 use Rattle.dsr_meaning.proofs.Empty.{both_empty, second_empty, no_second, each_has, few}
-use Rattle.dsr_text.proofs.Absent.{when_absent}
+use Rattle.dsr_language_theory.proofs.Absent.{when_absent}
 use Rattle.dsr_struct.proofs.Parts.{sound_field, sound_structure}
 
 -- the number of an item that is found is one of the list's

@@ -6,13 +6,13 @@ use Rattle.std.proofs.lemmas.List.{map-append, map_more, take-map, take_all}
 use Rattle.dsr_tree.specs.Trees.{FieldTree, field_shape, StructureTree}
 use Rattle.dsr_tree.specs.declared.faults.Fault.{Fault}
 use Rattle.dsr_tree.specs.declared.tree.Field.{Field}
-use Rattle.dsr_text.specs.Declarations.{extent_of, is_open, has_open, inherits_open, field_faults, position_of}
+use Rattle.dsr_language_theory.specs.Declarations.{extent_of, is_open, has_open, inherits_open, field_faults, position_of}
 use Rattle.dsr_meaning.specs.Extents.{bit_behind, bit_behind_all}
 use Rattle.dsr_meaning.specs.Lists.{each_at}
-use Rattle.dsr_text.specs.Names.{Names, is_head}
+use Rattle.dsr_language_theory.specs.Names.{Names, is_head}
 use Rattle.dsr_meaning.proofs.Bits.{bit_behind_next}
-use Rattle.dsr_faults.proofs.Finding.{finds_nothing, finds_same, finds_next}
-use Rattle.dsr_faults.specs.Telling.{Finds}
+use Rattle.dsr_names.proofs.Finding.{finds_nothing, finds_same, finds_next}
+use Rattle.dsr_names.specs.Telling.{Finds}
 
 -- what is known before the j-th field: the faults of those up to it, the bit of a byte at which it begins, and whether a length that isn't a number stands before it
 pub record IsBefore (names : Names) (number : ℕ) (s : StructureTree) (fields : List Field) (j bit : ℕ) (behind_open : Bool) (old new : Option Fault) : Type 0 where

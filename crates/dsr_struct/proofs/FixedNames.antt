@@ -8,10 +8,10 @@ use Rattle.dsr_ir.specs.Exprs.{ExprShape}
 use Rattle.dsr_ir.specs.declared.declarations.Structure.{Structure}
 use Rattle.dsr_ir.specs.declared.declarations.Structures.{Structures}
 use Rattle.dsr_tree.specs.Trees.{ExprTree, FieldTree, named, skipped, StructureTree, TreeShape}
-use Rattle.dsr_text.specs.Declarations.{FieldPosition, field_faults, position_of, structure_faults}
+use Rattle.dsr_language_theory.specs.Declarations.{FieldPosition, field_faults, position_of, structure_faults}
 use Rattle.dsr_meaning.specs.FixedFields.{head_fields, is_fixed}
-use Rattle.dsr_text.specs.Names.{Names, names_of, structure_number, fixed_in, has_fixed_name}
-use Rattle.dsr_text.specs.Tables.{typed_expr, typed_field, typed_structure, tables}
+use Rattle.dsr_language_theory.specs.Names.{Names, names_of, structure_number, fixed_in, has_fixed_name}
+use Rattle.dsr_language_theory.specs.Tables.{typed_expr, typed_field, typed_structure, tables}
 use Rattle.dsr_meaning.proofs.Empty.{each_has}
 use Rattle.dsr_struct.proofs.Faultless.{AllEmpty, fields_empty}
 use Rattle.dsr_struct.proofs.Found.{item_is, found_passes}

@@ -8,11 +8,11 @@ use Rattle.std.proofs.lemmas.Slice.Eq.{bytes_eq-Decides}
 use Rattle.dsr_tree.specs.Trees.{StructureTree, TreeShape}
 use Rattle.dsr_tree.specs.declared.faults.Condition.TheVariants as conditions
 use Rattle.dsr_tree.specs.declared.tree.PlacedName.{PlacedName}
-use Rattle.dsr_text.specs.Declarations.{unknown_name}
-use Rattle.dsr_text.specs.Names.{names_of, is_head, structure_number, used_structure}
+use Rattle.dsr_language_theory.specs.Declarations.{unknown_name}
+use Rattle.dsr_language_theory.specs.Names.{names_of, is_head, structure_number, used_structure}
 use Rattle.dsr_meaning.specs.Typed.{IsPoolNumber, IsOtherStructure}
-use Rattle.dsr_text.specs.Tables.{pool_in, typed_structure, typed_pool, tables}
-use Rattle.dsr_text.proofs.Absent.{when_absent}
+use Rattle.dsr_language_theory.specs.Tables.{pool_in, typed_structure, typed_pool, tables}
+use Rattle.dsr_language_theory.proofs.Absent.{when_absent}
 use Rattle.dsr_struct.proofs.Faultless.{AllEmpty}
 use Rattle.dsr_struct.proofs.Found.{known_has, IsFound, found_passes, found_within, found_below}
 use Rattle.dsr_struct.proofs.NamesInExprs.{number_has}

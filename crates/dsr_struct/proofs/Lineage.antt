@@ -11,10 +11,10 @@ use Rattle.dsr_tree.specs.declared.tree.PlacedName.{PlacedName}
 use Rattle.dsr_meaning.specs.Lists.{each_at}
 use Rattle.dsr_meaning.specs.Typed.{ancestors_among, ancestors}
 use Rattle.dsr_meaning.proofs.Empty.{both_empty}
-use Rattle.dsr_text.specs.Declarations.{is_not_before, parent_faults, structure_faults}
-use Rattle.dsr_text.specs.Names.{Names, names_of, is_head, used_structure, before, parent_number, with_ancestors, ancestors_in, all_ancestors, ancestors_of, asked_structures}
-use Rattle.dsr_text.specs.Tables.{number_in, typed_structure, tables}
-use Rattle.dsr_text.proofs.Absent.{when_absent}
+use Rattle.dsr_language_theory.specs.Declarations.{is_not_before, parent_faults, structure_faults}
+use Rattle.dsr_language_theory.specs.Names.{Names, names_of, is_head, used_structure, before, parent_number, with_ancestors, ancestors_in, all_ancestors, ancestors_of, asked_structures}
+use Rattle.dsr_language_theory.specs.Tables.{number_in, typed_structure, tables}
+use Rattle.dsr_language_theory.proofs.Absent.{when_absent}
 use Rattle.dsr_struct.proofs.Ancestors.{by_number-get}
 use Rattle.dsr_struct.proofs.Faultless.{AllEmpty}
 use Rattle.dsr_struct.proofs.Parts.{known_name, sound_structure}

@@ -9,11 +9,11 @@ use Rattle.dsr_tree.specs.declared.tree.ProductSign.{ProductSign}
 use Rattle.dsr_tree.specs.declared.tree.ProductSign.TheVariants as product_signs
 use Rattle.dsr_tree.specs.declared.tree.SumSign.{SumSign}
 use Rattle.dsr_tree.specs.declared.tree.SumSign.TheVariants as sum_signs
-use Rattle.dsr_text.specs.Declarations.{unknown_name, expr_faults, more_terms_faults, term_faults, more_factors_faults, factor_faults, maybe_expr_faults}
+use Rattle.dsr_language_theory.specs.Declarations.{unknown_name, expr_faults, more_terms_faults, term_faults, more_factors_faults, factor_faults, maybe_expr_faults}
 use Rattle.dsr_meaning.specs.Typed.{IsTypedExpr}
-use Rattle.dsr_text.specs.Tables.{number_in, sum_of, product_of, typed_expr, typed_sum, typed_term, typed_product, typed_factor}
+use Rattle.dsr_language_theory.specs.Tables.{number_in, sum_of, product_of, typed_expr, typed_sum, typed_term, typed_product, typed_factor}
 use Rattle.dsr_meaning.proofs.Empty.{both_empty}
-use Rattle.dsr_text.proofs.Absent.{when_absent}
+use Rattle.dsr_language_theory.proofs.Absent.{when_absent}
 use Rattle.dsr_struct.proofs.Found.{known_has}
 
 -- what holds of all numbers for which names stand holds of that of a name without fault

@@ -9,9 +9,9 @@ use Rattle.dsr_tree.specs.declared.tree.Set.{Set}
 use Rattle.dsr_tree.specs.declared.tree.View.{View}
 use Rattle.dsr_tree.specs.declared.tree.View.TheVariants as views
 use Rattle.dsr_meaning.specs.Typed.{IsPlainSetOf}
-use Rattle.dsr_text.specs.Declarations.{unknown_name, structure_faults, pool_faults, set_faults, relation_faults, disagree}
-use Rattle.dsr_text.specs.Names.{names_of, used_structure, is_complement, plain_number, plain_set, pool_structure, set_pool}
-use Rattle.dsr_text.specs.Tables.{number_in, typed_except, typed_set, tables}
+use Rattle.dsr_language_theory.specs.Declarations.{unknown_name, structure_faults, pool_faults, set_faults, relation_faults, disagree}
+use Rattle.dsr_language_theory.specs.Names.{names_of, used_structure, is_complement, plain_number, plain_set, pool_structure, set_pool}
+use Rattle.dsr_language_theory.specs.Tables.{number_in, typed_except, typed_set, tables}
 use Rattle.dsr_struct.proofs.Faultless.{AllEmpty}
 use Rattle.dsr_struct.proofs.Found.{each_is}
 use Rattle.dsr_struct.proofs.Parts.{known_name, SoundStructure, sound_structure, SoundPool, sound_pool, SoundSet, sound_set, SoundRelation, sound_relation}

@@ -6,7 +6,7 @@ use Rattle.std.specs.List.{position_from}
 use Rattle.dsr_tree.specs.Trees.{field_shape}
 use Rattle.dsr_tree.specs.declared.tree.Field.{Field}
 use Rattle.dsr_tree.specs.declared.tree.Field.TheVariants as fields
-use Rattle.dsr_text.specs.Names.{has_name}
+use Rattle.dsr_language_theory.specs.Names.{has_name}
 use Rattle.dsr_struct.specs.FieldNames.{field_name}
 use Rattle.dsr_struct.specs.Known.{is_named}
 

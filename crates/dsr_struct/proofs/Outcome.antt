@@ -2,13 +2,13 @@
 use Rattle.std.proofs.Common.{◌≡◌, [], All, Option, None, Some, sym, ap, ◌∙◌, subst}
 use Rattle.dsr_tree.specs.Trees.{TreeShape}
 use Rattle.dsr_tree.specs.declared.faults.Fault.{Fault}
-use Rattle.dsr_text.specs.Declarations.{declaration_faults, faults_with}
-use Rattle.dsr_text.specs.Faults.{IsToldOf}
-use Rattle.dsr_text.specs.Names.{Names, names_of}
+use Rattle.dsr_language_theory.specs.Declarations.{declaration_faults, faults_with}
+use Rattle.dsr_language_theory.specs.Faults.{IsToldOf}
+use Rattle.dsr_language_theory.specs.Names.{Names, names_of}
 use Rattle.dsr_struct.specs.Known.{AllFit, HasLegalWidths}
-use Rattle.dsr_faults.specs.Telling.{told_after, Finds}
+use Rattle.dsr_names.specs.Telling.{told_after, Finds}
 use Rattle.dsr_struct.proofs.Faultless.{faultless}
-use Rattle.dsr_faults.proofs.Least.{told, none_told}
+use Rattle.dsr_names.proofs.Least.{told, none_told}
 
 module _ (t : TreeShape) (names : Names) (known : names ≡ names_of t) (found : Option Fault) (finds : Finds (faults_with names) None found) where
   -- what was found is what is told of all faults

@@ -6,11 +6,11 @@ use Rattle.dsr_tree.specs.declared.tree.Fresh.{Fresh}
 use Rattle.dsr_tree.specs.declared.tree.PlacedName.{PlacedName}
 use Rattle.dsr_tree.specs.declared.tree.Relation.{Relation}
 use Rattle.dsr_tree.specs.declared.tree.Set.{Set}
-use Rattle.dsr_text.specs.Declarations.{FieldPosition, unknown_name, expr_faults, maybe_expr_faults, is_declared_above, is_bytewise, is_misplaced, width_faults, content_faults, named_field_faults, field_faults, parent_faults, position_of, structure_faults, pool_faults, view_faults, set_faults, source_faults, target_faults, relation_faults, is_supply_mismatch, supply_faults}
-use Rattle.dsr_text.specs.Names.{Names, is_at, used_structure, plain_set}
+use Rattle.dsr_language_theory.specs.Declarations.{FieldPosition, unknown_name, expr_faults, maybe_expr_faults, is_declared_above, is_bytewise, is_misplaced, width_faults, content_faults, named_field_faults, field_faults, parent_faults, position_of, structure_faults, pool_faults, view_faults, set_faults, source_faults, target_faults, relation_faults, is_supply_mismatch, supply_faults}
+use Rattle.dsr_language_theory.specs.Names.{Names, is_at, used_structure, plain_set}
 use Rattle.dsr_meaning.specs.Lists.{each_at}
 use Rattle.dsr_meaning.proofs.Empty.{both_empty}
-use Rattle.dsr_text.proofs.Absent.{when_absent}
+use Rattle.dsr_language_theory.proofs.Absent.{when_absent}
 
 -- a name that is no unknown one is known
 pub known_name : (number : List ℕ → _) (q : PlacedName) → unknown_name number q ≡ [] → is_none (number q.name) ≡ false

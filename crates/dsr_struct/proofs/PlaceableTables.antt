@@ -7,16 +7,16 @@ use Rattle.std.proofs.lemmas.List.Elements.{All-map}
 use Rattle.dsr_tree.specs.Trees.{FieldTree, named, skipped, StructureTree, TreeShape}
 use Rattle.dsr_tree.specs.declared.faults.Condition.TheVariants as conditions
 use Rattle.dsr_tree.specs.declared.faults.Fault.{Fault}
-use Rattle.dsr_text.specs.Declarations.{FieldPosition, is_bytewise, expr_faults, extent_of, field_faults, position_of, structure_faults, declaration_faults}
+use Rattle.dsr_language_theory.specs.Declarations.{FieldPosition, is_bytewise, expr_faults, extent_of, field_faults, position_of, structure_faults, declaration_faults}
 use Rattle.dsr_meaning.specs.Extents.{bit_behind, bit_behind_all}
-use Rattle.dsr_text.specs.Faults.{when}
+use Rattle.dsr_language_theory.specs.Faults.{when}
 use Rattle.dsr_meaning.specs.Lists.{each_at}
-use Rattle.dsr_text.specs.Names.{Names, names_of}
-use Rattle.dsr_text.specs.Tables.{typed_expr, typed_field, typed_structure, typed_pool, typed_set, typed_relation, tables}
+use Rattle.dsr_language_theory.specs.Names.{Names, names_of}
+use Rattle.dsr_language_theory.specs.Tables.{typed_expr, typed_field, typed_structure, typed_pool, typed_set, typed_relation, tables}
 use Rattle.dsr_meaning.specs.Placeable.{HasLegalWidth as IsLegal, begins_byte, plain_extent, AreAligned, IsPlaceableStructure, ArePlaceable}
 use Rattle.dsr_meaning.proofs.Bits.{bit_behind_append}
 use Rattle.dsr_meaning.proofs.Empty.{both_empty, each_has}
-use Rattle.dsr_text.proofs.Absent.{when_absent}
+use Rattle.dsr_language_theory.proofs.Absent.{when_absent}
 use Rattle.dsr_struct.proofs.Extents.{begins_same, legal_field, extent_same}
 use Rattle.dsr_struct.proofs.Parts.{sound_field}
 use Rattle.dsr_struct.proofs.Faultless.{all_empty, legal_width, fields_empty, few_fields}

@@ -7,7 +7,7 @@ use Rattle.std.proofs.lemmas.Option.{slice_get-map}
 use Rattle.dsr_meaning.specs.Counting.{IsIn}
 use Rattle.dsr_meaning.specs.Lists.{any_of}
 use Rattle.dsr_meaning.specs.Typed.{AreDifferent}
-use Rattle.dsr_text.specs.Names.{is_at}
+use Rattle.dsr_language_theory.specs.Names.{is_at}
 use Rattle.dsr_struct.proofs.Found.{IsFound, found_passes}
 
 pub neither : (a b : Bool) → (a || b) ≡ false → (a ≡ false) × (b ≡ false)

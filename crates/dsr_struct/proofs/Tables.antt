@@ -6,7 +6,7 @@ use Rattle.std.specs.List.{position_from}
 use Rattle.std.specs.Str.{bytes_eq}
 use Rattle.dsr_tree.specs.Trees.{pool_shape, structure_shape, tree_shape}
 use Rattle.dsr_tree.specs.declared.tree.Tree.{Tree}
-use Rattle.dsr_text.specs.Names.{Names, all_ancestors, field_number, fixed_in, names_of}
+use Rattle.dsr_language_theory.specs.Names.{Names, all_ancestors, field_number, fixed_in, names_of}
 use Rattle.dsr_struct.specs.Known.{is_named}
 use Rattle.dsr_struct.proofs.Numbering.{position_map}
 

@@ -20,10 +20,10 @@ use Rattle.dsr_meaning.specs.Cells.{width_bits}
 use Rattle.dsr_meaning.specs.Counting.{IsIn}
 use Rattle.dsr_meaning.specs.Typed.{IsOtherStructure, ancestors, HasName, HasOwnName, IsTypedKind, HasKnownLength, MayBeFixed, IsTypedField, IsTypedStructure}
 use Rattle.dsr_meaning.proofs.Empty.{both_empty}
-use Rattle.dsr_text.specs.Declarations.{entry_bits, content_faults, is_number, is_number_term, is_number_factor, is_open, is_open_structure, has_open, inherits_open, field_faults, is_not_before, parent_faults, position_of, structure_faults}
-use Rattle.dsr_text.specs.Names.{Names, names_of, is_at, is_head, has_name, field_number, own_field, inherits, ancestors_of, used_structure}
-use Rattle.dsr_text.specs.Tables.{number_in, typed_expr, typed_term, typed_factor, typed_width, typed_content, typed_field, typed_structure, tables}
-use Rattle.dsr_text.proofs.Absent.{when_absent}
+use Rattle.dsr_language_theory.specs.Declarations.{entry_bits, content_faults, is_number, is_number_term, is_number_factor, is_open, is_open_structure, has_open, inherits_open, field_faults, is_not_before, parent_faults, position_of, structure_faults}
+use Rattle.dsr_language_theory.specs.Names.{Names, names_of, is_at, is_head, has_name, field_number, own_field, inherits, ancestors_of, used_structure}
+use Rattle.dsr_language_theory.specs.Tables.{number_in, typed_expr, typed_term, typed_factor, typed_width, typed_content, typed_field, typed_structure, tables}
+use Rattle.dsr_language_theory.proofs.Absent.{when_absent}
 use Rattle.dsr_struct.proofs.Extents.{bits_same, legal_field}
 use Rattle.dsr_struct.proofs.Faultless.{AllEmpty, legal_width}
 use Rattle.dsr_struct.proofs.FixedNames.{fixed_numbers}

@@ -23,10 +23,10 @@ use Rattle.dsr_meaning.specs.Counting.{IsIn}
 use Rattle.dsr_meaning.specs.Typed.{IsPoolNumber, IsOtherStructure, Descends, IsPlainSetOf, IsTypedPool, pool_at as pool_of_number, IsTypedSet, IsTypedRel}
 use Rattle.dsr_meaning.specs.Lists.{any_of, each_at}
 use Rattle.dsr_meaning.proofs.Empty.{both_empty}
-use Rattle.dsr_text.specs.Declarations.{unknown_name, is_unrelated, disagree, view_faults, source_faults, target_faults, all_sets, is_elsewhere, supply_faults}
-use Rattle.dsr_text.specs.Names.{names_of, used_structure, ancestors_of, descends, pool_structure, plain_set, set_pool}
-use Rattle.dsr_text.specs.Tables.{number_in, avoided_by, avoided, typed_structure, typed_pool, set_structure, typed_except, typed_set, typed_source, typed_target, typed_relation, tables}
-use Rattle.dsr_text.proofs.Absent.{when_absent}
+use Rattle.dsr_language_theory.specs.Declarations.{unknown_name, is_unrelated, disagree, view_faults, source_faults, target_faults, all_sets, is_elsewhere, supply_faults}
+use Rattle.dsr_language_theory.specs.Names.{names_of, used_structure, ancestors_of, descends, pool_structure, plain_set, set_pool}
+use Rattle.dsr_language_theory.specs.Tables.{number_in, avoided_by, avoided, typed_structure, typed_pool, set_structure, typed_except, typed_set, typed_source, typed_target, typed_relation, tables}
+use Rattle.dsr_language_theory.proofs.Absent.{when_absent}
 use Rattle.dsr_struct.proofs.Faultless.{AllEmpty}
 use Rattle.dsr_struct.proofs.FixedNames.{fixed_numbers}
 use Rattle.dsr_struct.proofs.Found.{each_is, map_has}

@@ -7,10 +7,10 @@ use Rattle.std.proofs.lemmas.Slice.Eq.{bytes_eq-Decides}
 use Rattle.dsr_tree.specs.Trees.{TreeShape}
 use Rattle.dsr_tree.specs.declared.faults.Condition.TheVariants as conditions
 use Rattle.dsr_meaning.specs.Typed.{AreDifferent, IsTypedStructure, IsTypedPool, IsTypedSet, IsTypedRel, symbol_names, AreTyped}
-use Rattle.dsr_text.specs.Declarations.{declaration_faults}
-use Rattle.dsr_text.specs.Names.{names_of, structure_number}
-use Rattle.dsr_text.specs.Tables.{typed_structure, typed_pool, typed_set, typed_relation, version_of, tables}
-use Rattle.dsr_text.proofs.Absent.{when_absent}
+use Rattle.dsr_language_theory.specs.Declarations.{declaration_faults}
+use Rattle.dsr_language_theory.specs.Names.{names_of, structure_number}
+use Rattle.dsr_language_theory.specs.Tables.{typed_structure, typed_pool, typed_set, typed_relation, version_of, tables}
+use Rattle.dsr_language_theory.proofs.Absent.{when_absent}
 use Rattle.dsr_struct.proofs.Faultless.{AllEmpty, all_empty}
 use Rattle.dsr_struct.proofs.Found.{mapped_is}
 use Rattle.dsr_struct.proofs.Numbered.{structure_named, pool_named, set_named, relation_named, relation_no_set}

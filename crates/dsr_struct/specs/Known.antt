@@ -5,8 +5,8 @@ use Rattle.std.specs.Str.{bytes_eq}
 use Rattle.indexmap.specs.IndexMap.{get}
 use Rattle.dsr_tree.specs.Trees.{FieldTree, named, skipped, StructureTree, structure_shape, tree_shape}
 use Rattle.dsr_tree.specs.declared.tree.Tree.{Tree}
-use Rattle.dsr_text.specs.Declarations.{FieldPosition, width_faults}
-use Rattle.dsr_text.specs.Names.{Names, all_ancestors, field_number, fixed_in}
+use Rattle.dsr_language_theory.specs.Declarations.{FieldPosition, width_faults}
+use Rattle.dsr_language_theory.specs.Names.{Names, all_ancestors, field_number, fixed_in}
 use Rattle.dsr_struct.specs.declared.names.NameTables.{NameTables}
 use Rattle.dsr_struct.specs.declared.names.StructureTables.{StructureTables}
 use Rattle.dsr_struct.specs.declared.names.SymbolTables.{SymbolTables}

@@ -1,12 +1,12 @@
 // The faults of all declarations before the rules.
-ghost use Rattle.dsr_text.specs.Declarations.{head_faults, faults_with};
+ghost use Rattle.dsr_language_theory.specs.Declarations.{head_faults, faults_with};
 ghost use Rattle.std.specs.Prelude.{◌≡◌, None, codes};
 ghost use Rattle.dsr_struct.specs.Known.{known_of};
-ghost use Rattle.dsr_faults.specs.Telling.{Finds};
+ghost use Rattle.dsr_names.specs.Telling.{Finds};
 
 use crate::lookups::Names;
-use dsr_faults::Told;
 use dsr_ir::Name;
+use dsr_names::Told;
 use dsr_tree::{Condition, Fault};
 
 impl Names<'_> {

@@ -3,11 +3,11 @@ ghost use Rattle.std.specs.Prelude.{◌≡◌, map, option_map};
 ghost use Rattle.std.specs.Str.{bytes_eq};
 ghost use Rattle.indexmap.specs.IndexMap.{get};
 ghost use Rattle.dsr_tree.specs.Trees.{expr_shape, term_shape, factor_shape, more_term_shape, more_factor_shape, in_terms, in_factors};
-ghost use Rattle.dsr_text.specs.Declarations.{expr_faults, more_terms_faults, term_faults, more_factors_faults, factor_faults, maybe_expr_faults, is_number, is_number_term, is_number_factor, has_open_length};
-ghost use Rattle.dsr_faults.specs.Telling.{Finds};
+ghost use Rattle.dsr_language_theory.specs.Declarations.{expr_faults, more_terms_faults, term_faults, more_factors_faults, factor_faults, maybe_expr_faults, is_number, is_number_term, is_number_factor, has_open_length};
+ghost use Rattle.dsr_names.specs.Telling.{Finds};
 
-use dsr_faults::Told;
 use dsr_ir::Name;
+use dsr_names::Told;
 use dsr_tree::{Expr, Factor, MoreFactor, MoreTerm, Term2};
 use indexmap::IndexMap;
 

@@ -1,17 +1,17 @@
 // The faults of fields.
 ghost use Rattle.std.specs.Prelude.{◌≡◌, ◌<◌, ◌%◌, ◌^◌, ◌&&◌, ◌||◌, not, nat_eq, nat_le, is_some, map, slice_get};
 ghost use Rattle.dsr_tree.specs.Trees.{field_shape, named_shape, structure_shape};
-ghost use Rattle.dsr_text.specs.Declarations.{entry_bits, is_bytewise, width_faults, content_faults, extent_of, is_open, has_open, is_open_structure, inherits_open, is_declared_above, is_misplaced, named_field_faults, field_faults, position_of};
+ghost use Rattle.dsr_language_theory.specs.Declarations.{entry_bits, is_bytewise, width_faults, content_faults, extent_of, is_open, has_open, is_open_structure, inherits_open, is_declared_above, is_misplaced, named_field_faults, field_faults, position_of};
 ghost use Rattle.dsr_meaning.specs.Extents.{bit_behind};
 ghost use Rattle.dsr_meaning.specs.Lists.{each_at};
 ghost use Rattle.dsr_struct.specs.Known.{known_of, place_of};
-ghost use Rattle.dsr_faults.specs.Telling.{Finds};
+ghost use Rattle.dsr_names.specs.Telling.{Finds};
 
 use crate::expr_checks::{check_expr, check_maybe_expr, has_open_length, is_number};
 use crate::lookups::{Names, is_at};
 use crate::names::is_head;
-use dsr_faults::Told;
 use dsr_ir::Name;
+use dsr_names::Told;
 use dsr_tree::{Condition, Content, Field, NamedField, Structure, Width};
 
 /// Where a field stands.

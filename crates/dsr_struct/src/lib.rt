@@ -14,5 +14,5 @@ mod typed_exprs;
 mod typed_sets;
 mod typed_structures;
 
-pub use dsr_faults::SpecFault;
+pub use dsr_names::SpecFault;
 pub use typed::structures;

@@ -1,6 +1,6 @@
 // What is asked of names.
 ghost use Rattle.std.specs.Prelude.{◌≡◌, is_some, length, slice_get};
-ghost use Rattle.dsr_text.specs.Names.{is_at, used_structure, ancestors_of, own_field, inherits, descends, pool_structure, is_complement, plain_number, plain_set, set_pool};
+ghost use Rattle.dsr_language_theory.specs.Names.{is_at, used_structure, ancestors_of, own_field, inherits, descends, pool_structure, is_complement, plain_number, plain_set, set_pool};
 ghost use Rattle.dsr_struct.specs.Known.{known_of};
 
 use crate::names::{NameTables, is_head};

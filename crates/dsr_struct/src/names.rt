@@ -4,7 +4,7 @@ ghost use Rattle.std.specs.List.{position_from};
 ghost use Rattle.std.specs.Str.{bytes_eq};
 ghost use Rattle.indexmap.specs.IndexMap.{get};
 ghost use Rattle.dsr_tree.specs.Trees.{field_shape, structure_shape, tree_shape};
-ghost use Rattle.dsr_text.specs.Names.{has_name, has_fixed_name, field_number, fixed_in, before, is_head, with_ancestors, all_ancestors, parent_number, names_of};
+ghost use Rattle.dsr_language_theory.specs.Names.{has_name, has_fixed_name, field_number, fixed_in, before, is_head, with_ancestors, all_ancestors, parent_number, names_of};
 ghost use Rattle.dsr_struct.specs.Known.{is_named, entered, told_by, HaveStructures, HaveSymbols};
 
 use dsr_ir::{Name, NoMemory, TryClone};

@@ -1,13 +1,13 @@
 // The faults of sets, relations and supplies.
 ghost use Rattle.std.specs.Prelude.{◌≡◌, ◌∷◌, ◌+◌, length, nat_eq, option_and_then};
-ghost use Rattle.dsr_text.specs.Declarations.{disagree, is_unrelated, view_faults, set_faults, source_faults, target_faults, relation_faults, all_sets, is_elsewhere, is_supply_mismatch, supply_faults, unknown_name};
+ghost use Rattle.dsr_language_theory.specs.Declarations.{disagree, is_unrelated, view_faults, set_faults, source_faults, target_faults, relation_faults, all_sets, is_elsewhere, is_supply_mismatch, supply_faults, unknown_name};
 ghost use Rattle.dsr_meaning.specs.Lists.{any_of, each_at};
-ghost use Rattle.dsr_text.specs.Names.{plain_set, pool_structure, set_pool};
+ghost use Rattle.dsr_language_theory.specs.Names.{plain_set, pool_structure, set_pool};
 ghost use Rattle.dsr_struct.specs.Known.{known_of};
-ghost use Rattle.dsr_faults.specs.Telling.{Finds};
+ghost use Rattle.dsr_names.specs.Telling.{Finds};
 
 use crate::lookups::{Names, is_at};
-use dsr_faults::Told;
+use dsr_names::Told;
 use dsr_tree::{Condition, Fresh, PlacedName, Relation, Set, Target, Var, View};
 
 // Whether two numbers are known and differ.

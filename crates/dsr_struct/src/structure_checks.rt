@@ -1,14 +1,14 @@
 // The faults of structures and pools.
 ghost use Rattle.std.specs.Prelude.{◌≡◌, map};
 ghost use Rattle.dsr_tree.specs.Trees.{structure_shape, pool_shape};
-ghost use Rattle.dsr_text.specs.Declarations.{is_not_before, parent_faults, structure_faults, pool_faults};
+ghost use Rattle.dsr_language_theory.specs.Declarations.{is_not_before, parent_faults, structure_faults, pool_faults};
 ghost use Rattle.dsr_meaning.specs.Lists.{each_at};
 ghost use Rattle.dsr_struct.specs.Known.{known_of};
-ghost use Rattle.dsr_faults.specs.Telling.{Finds};
+ghost use Rattle.dsr_names.specs.Telling.{Finds};
 
 use crate::expr_checks::{check_expr, check_maybe_expr};
 use crate::lookups::{Names, is_at};
-use dsr_faults::Told;
+use dsr_names::Told;
 use dsr_tree::{Condition, PlacedName, Pool, Structure};
 
 // Whether a number was found that isn't less than another one.

@@ -1,18 +1,18 @@
 // The typed tables of a tree, or its first fault.
 ghost use Rattle.std.specs.Prelude.{◌≡◌, [], All, codes, unwrap_or, IfOk, IfErr};
 ghost use Rattle.dsr_tree.specs.Trees.{tree_shape};
-ghost use Rattle.dsr_text.specs.Declarations.{declaration_faults};
-ghost use Rattle.dsr_text.specs.Tables.{tables, tables_with, version_of};
+ghost use Rattle.dsr_language_theory.specs.Declarations.{declaration_faults};
+ghost use Rattle.dsr_language_theory.specs.Tables.{tables, tables_with, version_of};
 ghost use Rattle.dsr_meaning.specs.Placeable.{ArePlaceable};
 ghost use Rattle.dsr_meaning.specs.Typed.{AreTyped};
-ghost use Rattle.dsr_text.specs.Names.{names_of};
+ghost use Rattle.dsr_language_theory.specs.Names.{names_of};
 ghost use Rattle.dsr_struct.specs.Known.{told_by, known_of, AllFit, HasLegalWidths};
-ghost use Rattle.dsr_faults.specs.FaultsTold.{Tells};
+ghost use Rattle.dsr_names.specs.FaultsTold.{Tells};
 
 use crate::lookups::Names;
 use crate::names::{NameTables, head_name, name_tables};
-use dsr_faults::SpecFault;
 use dsr_ir::{Name, NoMemory, Structures};
+use dsr_names::SpecFault;
 use dsr_tree::Tree;
 use std::alloc::Global;
 

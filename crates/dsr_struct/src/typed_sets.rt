@@ -1,7 +1,7 @@
 // The tables of sets and relations.
 ghost use Rattle.std.specs.Prelude.{◌≡◌, map, unwrap_or, option_and_then, IfOk};
-ghost use Rattle.dsr_text.specs.Names.{pool_structure};
-ghost use Rattle.dsr_text.specs.Tables.{set_structure, typed_except, typed_set, typed_source, typed_target, typed_relation};
+ghost use Rattle.dsr_language_theory.specs.Names.{pool_structure};
+ghost use Rattle.dsr_language_theory.specs.Tables.{set_structure, typed_except, typed_set, typed_source, typed_target, typed_relation};
 ghost use Rattle.dsr_struct.specs.Known.{known_of, AllFit};
 
 use crate::lookups::Names;

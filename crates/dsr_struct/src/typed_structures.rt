@@ -3,9 +3,9 @@ ghost use Rattle.std.specs.Prelude.{◌≡◌, ◌∷◌, [], All, map, option_m
 ghost use Rattle.std.specs.Str.{bytes_eq};
 ghost use Rattle.indexmap.specs.IndexMap.{get};
 ghost use Rattle.dsr_tree.specs.Trees.{expr_shape, named, named_shape, field_shape, structure_shape, pool_shape};
-ghost use Rattle.dsr_text.specs.Declarations.{width_faults};
-ghost use Rattle.dsr_text.specs.Names.{used_structure};
-ghost use Rattle.dsr_text.specs.Tables.{number_in, pool_in, typed_expr, typed_width, typed_content, typed_field, typed_structure, typed_pool, avoided_by, avoided};
+ghost use Rattle.dsr_language_theory.specs.Declarations.{width_faults};
+ghost use Rattle.dsr_language_theory.specs.Names.{used_structure};
+ghost use Rattle.dsr_language_theory.specs.Tables.{number_in, pool_in, typed_expr, typed_width, typed_content, typed_field, typed_structure, typed_pool, avoided_by, avoided};
 ghost use Rattle.dsr_struct.specs.Known.{known_of, Fit, AllFit, HasLegalWidth, HasLegalWidths};
 
 use crate::lookups::Names;

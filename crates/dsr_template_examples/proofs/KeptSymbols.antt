@@ -2,8 +2,8 @@
 use Rattle.std.proofs.Common.{◌≡◌, ◌∙◌, ◌⊎◌, ◌+◌, ℕ, zero, suc, false, List, None, Some, IsSomeAnd, IsTrue, inl, inr, refl, sym, ap, subst, arith}
 use Rattle.std.proofs.lemmas.Bool.{false≢true}
 use Rattle.std.proofs.lemmas.Option.{same_Some, none-some}
-use Rattle.dsr_applied.proofs.Given.{example, from_head, marked, of_node, rules}
-use Rattle.dsr_applied.proofs.Tried.{clear, cut, unmark}
+use Rattle.dsr_step_laws.proofs.Given.{example, from_head, marked, of_node, rules}
+use Rattle.dsr_step_laws.proofs.Tried.{clear, cut, unmark}
 use Rattle.dsr_ir.specs.Rules as rules_of
 use Rattle.dsr_ir.specs.declared.constraints.Quant.TheVariants.{Each, Once}
 use Rattle.dsr_ir.specs.declared.declarations.Spec.{Spec}
@@ -13,18 +13,18 @@ use Rattle.dsr_ir.specs.declared.rules.Test.TheVariants.{Cmp}
 use Rattle.dsr_ir.specs.declared.updates.Goal.TheVariants as goals
 use Rattle.dsr_ir.specs.declared.updates.Symbol.{Symbol}
 use Rattle.dsr_ir.specs.declared.updates.Symbol.TheVariants.{Set, Rel}
-use Rattle.dsr_listing.specs.Owners.{Keeps}
+use Rattle.dsr_graph_theory.specs.Owners.{Keeps}
 use Rattle.dsr_meaning.specs.Counting.{IsIn}
 use Rattle.dsr_meaning.specs.Instances.{pool_of_premise}
 use Rattle.dsr_meaning.specs.Models.{base_of}
-use Rattle.dsr_updating.specs.Avoided.{IsAvoided}
-use Rattle.dsr_updating.specs.Changes.{Change, fresh_pool, reads_touched, written_pool}
-use Rattle.dsr_updating.specs.Effects.{InTable, MayChange, is_gain}
-use Rattle.dsr_updating.specs.Touching.{IsBlockedAtW, IsTouchedAtF, IsTouchedAtW, named_by}
-use Rattle.dsr_updating.specs.Values.{CellValue, Number, Passes}
-use Rattle.dsr_updating.specs.declared.effects.Direction.{Direction}
-use Rattle.dsr_updating.specs.declared.effects.Direction.TheVariants.{Gain}
-use Rattle.dsr_updating.specs.declared.effects.Tag.{Tag}
+use Rattle.dsr_update_theory.specs.Avoided.{IsAvoided}
+use Rattle.dsr_update_theory.specs.Changes.{Change, fresh_pool, reads_touched, written_pool}
+use Rattle.dsr_update_theory.specs.Effects.{InTable, MayChange, is_gain}
+use Rattle.dsr_update_theory.specs.Touching.{IsBlockedAtW, IsTouchedAtF, IsTouchedAtW, named_by}
+use Rattle.dsr_update_theory.specs.Values.{CellValue, Number, Passes}
+use Rattle.dsr_update_theory.specs.declared.effects.Direction.{Direction}
+use Rattle.dsr_update_theory.specs.declared.effects.Direction.TheVariants.{Gain}
+use Rattle.dsr_update_theory.specs.declared.effects.Tag.{Tag}
 
 -- ---- tables
 

@@ -3,21 +3,21 @@ use Rattle.std.proofs.Common.{◌≡◌, ◌∙◌, zero, suc, List, [], ◌∷�
 use Rattle.std.specs.Prelude.{MatchOption}
 use Rattle.std.proofs.lemmas.Bool.{false≢true}
 use Rattle.std.proofs.lemmas.Option.{same_Some, none-some}
-use Rattle.dsr_applied.proofs.Given.{from_head, marked, of_node}
-use Rattle.dsr_applied.proofs.Shown.{example_0, example_1, example_2, example_3, example_5, example_8}
-use Rattle.dsr_applied.proofs.Tried.{assign, cut, join, mark, supply, template_of, unmark}
-use Rattle.dsr_applied.specs.Examples.{Example}
+use Rattle.dsr_step_laws.proofs.Given.{from_head, marked, of_node}
+use Rattle.dsr_step_laws.proofs.Shown.{example_0, example_1, example_2, example_3, example_5, example_8}
+use Rattle.dsr_step_laws.proofs.Tried.{assign, cut, join, mark, supply, template_of, unmark}
+use Rattle.dsr_step_laws.specs.Examples.{Example}
 use Rattle.dsr_ir.specs.declared.constraints.Atom.{Atom}
 use Rattle.dsr_ir.specs.declared.updates.Goal.{Goal}
 use Rattle.dsr_ir.specs.declared.updates.Goal.TheVariants.{AddSet, AddTuple, RemoveSet, RemoveTuple, SetValue, Supply}
 use Rattle.dsr_ir.specs.declared.updates.Template.{Template}
 use Rattle.dsr_ir.specs.declared.updates.Update.{Update}
-use Rattle.dsr_listing.specs.Candidates.{AreCompensations, ArePreventing}
-use Rattle.dsr_listing.specs.Lists.{AreCompensable, AreListed, AreTaken}
-use Rattle.dsr_listing.specs.Owners.{Owner, change_of, goal_at}
-use Rattle.dsr_listing.specs.Sides.{IsKept, MayBeMade, MayServe}
+use Rattle.dsr_graph_theory.specs.Candidates.{AreCompensations, ArePreventing}
+use Rattle.dsr_graph_theory.specs.Lists.{AreCompensable, AreListed, AreTaken}
+use Rattle.dsr_graph_theory.specs.Owners.{Owner, change_of, goal_at}
+use Rattle.dsr_graph_theory.specs.Sides.{IsKept, MayBeMade, MayServe}
 use Rattle.dsr_template_laws.specs.Judging.{IsListed, owner_of}
-use Rattle.dsr_updating.specs.Templates.{AreRawOf}
+use Rattle.dsr_update_theory.specs.Templates.{AreRawOf}
 use Rattle.dsr_template_examples.specs.Examples.{HasListedExample, application_of}
 use Rattle.dsr_template_examples.proofs.TriedExamples.{may_0, may_1, may_2, may_3, may_5, may_8, serves_0, serves_1, serves_2, serves_3, serves_5, serves_8}
 

@@ -1,14 +1,14 @@
 -- Applications to which the laws on templates apply.
 use Rattle.std.specs.Prelude.{ℕ}
-use Rattle.dsr_applied.specs.Examples.{Example}
+use Rattle.dsr_step_laws.specs.Examples.{Example}
 use Rattle.dsr_effect_laws.specs.Allowed.{Lies}
 use Rattle.dsr_ir.specs.declared.tuples.Fact.{Fact}
 use Rattle.dsr_ir.specs.declared.updates.Goal.{Goal}
-use Rattle.dsr_listing.specs.Sides.{MayServe}
+use Rattle.dsr_graph_theory.specs.Sides.{MayServe}
 use Rattle.dsr_template_laws.specs.Helping.{IsHelped}
 use Rattle.dsr_template_laws.specs.Judging.{Application, IsListed, change_in}
 use Rattle.dsr_template_laws.specs.Tried.{IsTried}
-use Rattle.dsr_updating.specs.declared.effects.Direction.{Direction}
+use Rattle.dsr_update_theory.specs.declared.effects.Direction.{Direction}
 
 abbrev pub application_of : {goal : Goal} → Example goal → Application
 application_of e = record {

@@ -2,13 +2,13 @@
 use Rattle.std.proofs.Common.{◌≡◌, ◌<◌, ◌∙◌, ℕ, true, false, not, is_some, List, ◌∷◌, length, Option, None, Some, IfSome, IsSomeAnd, inl, refl, sym, ap, subst, slice_get, arith}
 use Rattle.std.specs.Option.{option_and_then, option_map_or}
 use Rattle.std.proofs.lemmas.Bool.{and_parts, false≢true}
-use Rattle.dsr_applying.specs.Choices.{IsEntryAt, IsPlace}
+use Rattle.dsr_repair_theory.specs.Choices.{IsEntryAt, IsPlace}
 use Rattle.dsr_effect_laws.proofs.AvoidedSets.{derived_by}
 use Rattle.dsr_effect_laws.proofs.ChainChanges.{HasPremise}
 use Rattle.dsr_effect_laws.proofs.FactChanges.{not_lost}
 use Rattle.dsr_effect_laws.specs.Fitting.{IsFitStep, IsFitWrite}
 use Rattle.dsr_effect_laws.specs.Judged.{IsMadeAsJudged}
-use Rattle.dsr_feasible.proofs.MakingRecords.{place_named, start_record}
+use Rattle.dsr_repair_laws.proofs.MakingRecords.{place_named, start_record}
 use Rattle.dsr_ir.specs.declared.constraints.Atom.TheVariants as atoms
 use Rattle.dsr_ir.specs.declared.constraints.Atom.{Atom}
 use Rattle.dsr_ir.specs.declared.constraints.Measure.TheVariants.{Whole, Out, Into}
@@ -29,26 +29,26 @@ use Rattle.dsr_ir.specs.declared.updates.Symbol.TheVariants as symbols
 use Rattle.dsr_ir.specs.declared.updates.Symbol.{Symbol}
 use Rattle.dsr_ir.specs.declared.updates.Update.{Update}
 use Rattle.dsr_ir.specs.declared.updates.Write.{Write}
-use Rattle.dsr_listing.specs.Owners.{Keeps, KeepsPremise}
+use Rattle.dsr_graph_theory.specs.Owners.{Keeps, KeepsPremise}
 use Rattle.dsr_meaning.proofs.Items.{all_of}
 use Rattle.dsr_meaning.specs.Counting.{IsIn}
 use Rattle.dsr_meaning.specs.Instances.{Gives, IsInstance, index_count, kind_pool, referred_pool}
 use Rattle.dsr_meaning.specs.Models.{IsDerived, IsFact}
 use Rattle.dsr_meaning.specs.Truth.{AtomHolds, element_of}
-use Rattle.dsr_stepped.proofs.Added.{fresh_member_added, fresh_target_added, member_added, pair_added}
-use Rattle.dsr_stepped.proofs.AllTrue.{target_written}
-use Rattle.dsr_stepped.proofs.ReferenceWrites.{plain_write, reference_written}
-use Rattle.dsr_stepped.specs.Additions.{IsAddition, written_instance}
-use Rattle.dsr_stepping.specs.Steps.{CanWrite, IsSlot}
-use Rattle.dsr_updating.specs.Changes.{Change}
-use Rattle.dsr_updating.specs.Givers.{is_single}
-use Rattle.dsr_updating.specs.Templates.{KnownSets, starts_at, target_writes}
-use Rattle.dsr_updating.specs.declared.effects.Direction.TheVariants.{Loss}
-use Rattle.dsr_feasible.proofs.PlainSets.{as_derived, as_fact, given_plain, premise_plain}
-use Rattle.dsr_feasible.proofs.TriedSteps.{IsTriedStep, own_entry, own_place}
-use Rattle.dsr_feasible.proofs.TriedTemplates.{single_span}
-use Rattle.dsr_feasible.proofs.TriedUpdates.{GivesCounted, IsAdding, IsJoining, IsRelating, IsSupplying}
-use Rattle.dsr_updating.specs.Templates.{counted_symbol}
+use Rattle.dsr_step_laws.proofs.Added.{fresh_member_added, fresh_target_added, member_added, pair_added}
+use Rattle.dsr_step_laws.proofs.AllTrue.{target_written}
+use Rattle.dsr_step_laws.proofs.ReferenceWrites.{plain_write, reference_written}
+use Rattle.dsr_step_laws.specs.Additions.{IsAddition, written_instance}
+use Rattle.dsr_step_theory.specs.Steps.{CanWrite, IsSlot}
+use Rattle.dsr_update_theory.specs.Changes.{Change}
+use Rattle.dsr_update_theory.specs.Givers.{is_single}
+use Rattle.dsr_update_theory.specs.Templates.{KnownSets, starts_at, target_writes}
+use Rattle.dsr_update_theory.specs.declared.effects.Direction.TheVariants.{Loss}
+use Rattle.dsr_repair_laws.proofs.PlainSets.{as_derived, as_fact, given_plain, premise_plain}
+use Rattle.dsr_repair_laws.proofs.TriedSteps.{IsTriedStep, own_entry, own_place}
+use Rattle.dsr_repair_laws.proofs.TriedTemplates.{single_span}
+use Rattle.dsr_repair_laws.proofs.TriedUpdates.{GivesCounted, IsAdding, IsJoining, IsRelating, IsSupplying}
+use Rattle.dsr_update_theory.specs.Templates.{counted_symbol}
 use Rattle.dsr_template_laws.specs.Judging.{Application, change_in}
 use Rattle.dsr_template_laws.specs.Tried.{IsTried}
 use Rattle.dsr_template_laws.proofs.FewerActive.{never_lies}

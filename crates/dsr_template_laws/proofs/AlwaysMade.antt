@@ -17,12 +17,12 @@ use Rattle.dsr_effect_laws.specs.Fitting.{IsAlwaysMade}
 use Rattle.dsr_meaning.specs.Cells.{cell_value, value_at}
 use Rattle.dsr_meaning.specs.Counting.{IsIn}
 use Rattle.dsr_meaning.specs.Instances.{Gives, GuardHolds, Meets, referred_pool}
-use Rattle.dsr_stepped.proofs.GuardWrites.{guard_written}
-use Rattle.dsr_stepped.proofs.ReferenceWrites.{reference_written}
-use Rattle.dsr_stepping.specs.declared.steps.Step.{Step}
-use Rattle.dsr_updating.specs.Changes.{Change}
-use Rattle.dsr_updating.specs.Guards.{guard_write}
-use Rattle.dsr_updating.specs.Options.{options, reference_write, target_option}
+use Rattle.dsr_step_laws.proofs.GuardWrites.{guard_written}
+use Rattle.dsr_step_laws.proofs.ReferenceWrites.{reference_written}
+use Rattle.dsr_step_theory.specs.declared.steps.Step.{Step}
+use Rattle.dsr_update_theory.specs.Changes.{Change}
+use Rattle.dsr_update_theory.specs.Guards.{guard_write}
+use Rattle.dsr_update_theory.specs.Options.{options, reference_write, target_option}
 use Rattle.dsr_meaning.proofs.Items.{in_either, in_filter, of_all}
 use Rattle.dsr_meaning.proofs.Options.{chained_from}
 

@@ -1,8 +1,8 @@
 -- Sizes where a fresh record is counted, and where facts of a symbol stay.
 use Rattle.std.proofs.Common.{◌≡◌, ◌≤◌, ℕ, List, [], ◌∷◌, length, Option, None, Some, IsSome, IsSomeAnd, IsTrue, inl, inr, refl, sym, subst, arith}
-use Rattle.dsr_decided.proofs.Functional.{one_target}
-use Rattle.dsr_decided.proofs.Models.{facts_listed}
-use Rattle.dsr_decided.proofs.Truths.{only_size}
+use Rattle.dsr_model_laws.proofs.Functional.{one_target}
+use Rattle.dsr_model_laws.proofs.Models.{facts_listed}
+use Rattle.dsr_model_laws.proofs.Truths.{only_size}
 use Rattle.dsr_ir.specs.declared.constraints.Atom.TheVariants as atoms
 use Rattle.dsr_ir.specs.declared.constraints.Measure.{Measure}
 use Rattle.dsr_ir.specs.declared.constraints.Measure.TheVariants.{Whole, Out, Into}
@@ -21,8 +21,8 @@ use Rattle.dsr_meaning.specs.Legal.{IsLegalLayout}
 use Rattle.dsr_meaning.specs.Looking.{IsCounted, symbol_of}
 use Rattle.dsr_meaning.specs.Models.{IsFact}
 use Rattle.dsr_meaning.specs.Truth.{AtomHolds, HasSize, element_of}
-use Rattle.dsr_updating.specs.Givers.{is_functional}
-use Rattle.dsr_updating.specs.Templates.{counted_symbol}
+use Rattle.dsr_update_theory.specs.Givers.{is_functional}
+use Rattle.dsr_update_theory.specs.Templates.{counted_symbol}
 
 some_length : {A : Type 0} (x : A) (xs : List A) → IsIn x xs → 1 ≤ length xs
 some_length x [] i = absurd i

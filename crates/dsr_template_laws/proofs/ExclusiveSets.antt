@@ -5,7 +5,7 @@ use Rattle.std.specs.List.{flat_map}
 use Rattle.std.specs.Option.{option_and_then, option_map_or}
 use Rattle.std.proofs.lemmas.List.Elements.{All-cons, All-head, All-nil}
 use Rattle.std.proofs.lemmas.Option.{same_Some, none-some}
-use Rattle.dsr_applying.specs.Applications.{FactsHold}
+use Rattle.dsr_repair_theory.specs.Applications.{FactsHold}
 use Rattle.dsr_ir.specs.declared.constraints.Atom.{Atom}
 use Rattle.dsr_ir.specs.declared.constraints.Atom.TheVariants as atoms
 use Rattle.dsr_ir.specs.declared.constraints.Conj.{Conj}
@@ -30,8 +30,8 @@ use Rattle.dsr_meaning.specs.Models.{IsFact, IsInComplement, IsMemberBy, base_of
 use Rattle.dsr_meaning.specs.Truth.{AtomHolds, LiteralHolds}
 use Rattle.dsr_meaning.specs.Typed.{IsPlainSetOf, IsTyped, IsTypedSet}
 use Rattle.dsr_meaning.proofs.Options.{some_and}
-use Rattle.dsr_feasible.proofs.PlainSets.{as_derived}
-use Rattle.dsr_updating.specs.Facts.{ConstraintFact, Exclusive, Injective, Apart, are_complements, bounded_fact, complement_by, earlier, exclusive, exclusive_by, exclusive_fact, fact_by, fact_of, fact_of_conjs, fact_of_literals, from, giver_by}
+use Rattle.dsr_repair_laws.proofs.PlainSets.{as_derived}
+use Rattle.dsr_update_theory.specs.Facts.{ConstraintFact, Exclusive, Injective, Apart, are_complements, bounded_fact, complement_by, earlier, exclusive, exclusive_by, exclusive_fact, fact_by, fact_of, fact_of_conjs, fact_of_literals, from, giver_by}
 use Rattle.dsr_meaning.proofs.Items.{at_each, in_each_at, in_either, in_flat, place_of}
 
 -- ---- a constraint that gives such a fact

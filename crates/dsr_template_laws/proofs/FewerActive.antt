@@ -3,13 +3,13 @@ use Rattle.std.proofs.Common.{◌≡◌, ◌∙◌, false, [], ◌∷◌, None, 
 use Rattle.std.specs.List.{filter_map}
 use Rattle.std.specs.Option.{option_and_then, option_map_or}
 use Rattle.dsr_effect_laws.specs.Allowed.{Lies}
-use Rattle.dsr_stepped.proofs.GivenSymbols.{symbol_is}
+use Rattle.dsr_step_laws.proofs.GivenSymbols.{symbol_is}
 use Rattle.dsr_effect_laws.proofs.FactChanges.{gives_as_before}
-use Rattle.dsr_feasible.proofs.LastGiven.{given_by}
-use Rattle.dsr_feasible.proofs.MakingRemovals.{IsStoppedAt}
-use Rattle.dsr_feasible.proofs.RawUpdates.{IsStopChosen}
-use Rattle.dsr_feasible.proofs.FormItems.{symbols_same}
-use Rattle.dsr_feasible.proofs.TriedSteps.{stopped}
+use Rattle.dsr_repair_laws.proofs.LastGiven.{given_by}
+use Rattle.dsr_repair_laws.proofs.MakingRemovals.{IsStoppedAt}
+use Rattle.dsr_repair_laws.proofs.RawUpdates.{IsStopChosen}
+use Rattle.dsr_repair_laws.proofs.FormItems.{symbols_same}
+use Rattle.dsr_repair_laws.proofs.TriedSteps.{stopped}
 use Rattle.dsr_ir.specs.Rules as rules
 use Rattle.dsr_ir.specs.Rules.{gives, target_of}
 use Rattle.dsr_ir.specs.declared.rules.Rule.{Rule}
@@ -17,19 +17,19 @@ use Rattle.dsr_ir.specs.declared.tuples.Fact.{Fact}
 use Rattle.dsr_ir.specs.declared.tuples.Instance.{Instance}
 use Rattle.dsr_ir.specs.declared.updates.Pick.TheVariants as picks
 use Rattle.dsr_ir.specs.declared.updates.Symbol.{Symbol}
-use Rattle.dsr_listing.specs.Owners.{Keeps}
-use Rattle.dsr_listing.specs.Sides.{atom_symbol}
+use Rattle.dsr_graph_theory.specs.Owners.{Keeps}
+use Rattle.dsr_graph_theory.specs.Sides.{atom_symbol}
 use Rattle.dsr_meaning.specs.Counting.{IsIn}
 use Rattle.dsr_meaning.specs.Instances.{Gives}
 use Rattle.dsr_meaning.specs.Looking.{symbol_of}
-use Rattle.dsr_stepped.proofs.Stopped.{stopped as stopped_by_guard}
-use Rattle.dsr_stepped.proofs.Targets.{stopped_at_none}
-use Rattle.dsr_stepping.specs.declared.steps.Step.{Step}
-use Rattle.dsr_updating.specs.Changes.{Change}
-use Rattle.dsr_updating.specs.Guards.{guard_write}
-use Rattle.dsr_updating.specs.Options.{reference_write, target_option}
-use Rattle.dsr_updating.specs.declared.effects.Direction.{Direction}
-use Rattle.dsr_updating.specs.declared.effects.Direction.TheVariants.{Gain}
+use Rattle.dsr_step_laws.proofs.Stopped.{stopped as stopped_by_guard}
+use Rattle.dsr_step_laws.proofs.Targets.{stopped_at_none}
+use Rattle.dsr_step_theory.specs.declared.steps.Step.{Step}
+use Rattle.dsr_update_theory.specs.Changes.{Change}
+use Rattle.dsr_update_theory.specs.Guards.{guard_write}
+use Rattle.dsr_update_theory.specs.Options.{reference_write, target_option}
+use Rattle.dsr_update_theory.specs.declared.effects.Direction.{Direction}
+use Rattle.dsr_update_theory.specs.declared.effects.Direction.TheVariants.{Gain}
 use Rattle.dsr_template_laws.specs.Helping.{HasFewer, IsActiveFor}
 use Rattle.dsr_template_laws.specs.Judging.{Application, change_in, owner_of}
 use Rattle.dsr_template_laws.specs.Tried.{IsTried}
@@ -38,7 +38,7 @@ use Rattle.dsr_template_laws.proofs.MadeAsJudged.{made}
 use Rattle.dsr_template_laws.proofs.TriedApplications.{legal, tried_step}
 use Rattle.dsr_meaning.proofs.Items.{in_either, in_filter}
 use Rattle.dsr_meaning.proofs.Options.{chained_from}
-use Rattle.dsr_applying.specs.Choices.{TakesAway}
+use Rattle.dsr_repair_theory.specs.Choices.{TakesAway}
 
 -- of a symbol that doesn't change so, no fact lies in the table
 pub never_lies : (c : Change) (step : Step) (direction : Direction) (fact : Fact) → Keeps c direction (symbol_of fact) → Lies c step direction fact → ⊥

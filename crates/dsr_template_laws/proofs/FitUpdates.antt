@@ -4,16 +4,16 @@ use Rattle.std.specs.List.{filter_map}
 use Rattle.std.specs.Option.{option_and_then, option_map_or}
 use Rattle.std.proofs.lemmas.Bool.{and_parts}
 use Rattle.std.proofs.lemmas.Option.{same_Some, none-some}
-use Rattle.dsr_applying.specs.Choices.{IsFresh, IsFreshFrom}
+use Rattle.dsr_repair_theory.specs.Choices.{IsFresh, IsFreshFrom}
 use Rattle.dsr_effect_laws.specs.Fitting.{IsFitWrite, IsPickFor}
-use Rattle.dsr_feasible.proofs.Compensating.{compensating}
-use Rattle.dsr_feasible.proofs.MakingAdditions.{var_bound}
-use Rattle.dsr_feasible.proofs.MakingCan.{IsMade}
-use Rattle.dsr_feasible.proofs.MakingRecords.{of_rule, target_read, var_record}
-use Rattle.dsr_feasible.proofs.TriedSteps.{IsTriedStep, chosen_kind, each_made, own_fresh}
-use Rattle.dsr_feasible.proofs.TriedTemplates.{single_span}
-use Rattle.dsr_feasible.proofs.TriedUpdates.{IsAdder, IsJoining, IsRelating, IsSetting, IsSupplying}
-use Rattle.dsr_feasible.specs.Grown.{Compensates}
+use Rattle.dsr_repair_laws.proofs.Compensating.{compensating}
+use Rattle.dsr_repair_laws.proofs.MakingAdditions.{var_bound}
+use Rattle.dsr_repair_laws.proofs.MakingCan.{IsMade}
+use Rattle.dsr_repair_laws.proofs.MakingRecords.{of_rule, target_read, var_record}
+use Rattle.dsr_repair_laws.proofs.TriedSteps.{IsTriedStep, chosen_kind, each_made, own_fresh}
+use Rattle.dsr_repair_laws.proofs.TriedTemplates.{single_span}
+use Rattle.dsr_repair_laws.proofs.TriedUpdates.{IsAdder, IsJoining, IsRelating, IsSetting, IsSupplying}
+use Rattle.dsr_repair_laws.specs.Grown.{Compensates}
 use Rattle.dsr_ir.specs.Layouts.{pool_numbers}
 use Rattle.dsr_ir.specs.Rules.{target_of}
 use Rattle.dsr_ir.specs.declared.constraints.Atom.TheVariants as atoms
@@ -45,15 +45,15 @@ use Rattle.dsr_meaning.specs.Counting.{IsIn}
 use Rattle.dsr_meaning.specs.Instances.{kind_pool, referred_pool}
 use Rattle.dsr_meaning.specs.Models.{IsFact}
 use Rattle.dsr_meaning.specs.Typed.{IsPoolNumber, IsTypedAtom, IsTypedKind, IsTypedPath, IsTypedRule, pool_of_var}
-use Rattle.dsr_stepped.proofs.AllTrue.{in_others, target_written}
-use Rattle.dsr_stepped.proofs.ReferenceWrites.{plain_write, reference_written}
-use Rattle.dsr_stepped.proofs.Together.{target_typed}
-use Rattle.dsr_stepping.specs.Steps.{IsSlot}
-use Rattle.dsr_updating.specs.Changes.{Change}
-use Rattle.dsr_updating.specs.Givers.{is_single}
-use Rattle.dsr_updating.specs.Guards.{guard_write}
-use Rattle.dsr_updating.specs.Options.{options, reference_write, target_option}
-use Rattle.dsr_updating.specs.Templates.{all_true, others, pick_of, serves, starts_at, target_writes}
+use Rattle.dsr_step_laws.proofs.AllTrue.{in_others, target_written}
+use Rattle.dsr_step_laws.proofs.ReferenceWrites.{plain_write, reference_written}
+use Rattle.dsr_step_laws.proofs.Together.{target_typed}
+use Rattle.dsr_step_theory.specs.Steps.{IsSlot}
+use Rattle.dsr_update_theory.specs.Changes.{Change}
+use Rattle.dsr_update_theory.specs.Givers.{is_single}
+use Rattle.dsr_update_theory.specs.Guards.{guard_write}
+use Rattle.dsr_update_theory.specs.Options.{options, reference_write, target_option}
+use Rattle.dsr_update_theory.specs.Templates.{all_true, others, pick_of, serves, starts_at, target_writes}
 use Rattle.dsr_template_laws.specs.Judging.{Application, change_in, owner_of}
 use Rattle.dsr_template_laws.specs.Tried.{IsTriedAt}
 use Rattle.dsr_template_laws.proofs.FitWrites.{fit_guard, fit_plain, true_made, unindexed, value_written}

@@ -2,8 +2,8 @@
 use Rattle.std.proofs.Common.{◌≡◌, ◌≢◌, ◌∙◌, ℕ, Bool, true, false, List, [], ◌∷◌, inl, inr, if◌then◌else◌, Option, None, Some, IsSome, MatchBool, refl, sym, ap, subst}
 use Rattle.std.specs.Option.{option_and_then}
 use Rattle.std.proofs.lemmas.Option.{same_Some, none-some}
-use Rattle.dsr_feasible.proofs.MakingCan.{IsMade}
-use Rattle.dsr_feasible.proofs.MakingWrites.{of_guard}
+use Rattle.dsr_repair_laws.proofs.MakingCan.{IsMade}
+use Rattle.dsr_repair_laws.proofs.MakingWrites.{of_guard}
 use Rattle.dsr_ir.specs.Exprs.{ExprShape}
 use Rattle.dsr_ir.specs.declared.declarations.Field.{Field}
 use Rattle.dsr_ir.specs.declared.declarations.Structures.{Structures}
@@ -24,18 +24,18 @@ use Rattle.dsr_meaning.specs.Instances.{kind_pool}
 use Rattle.dsr_meaning.specs.Legal.{IsLegalLayout}
 use Rattle.dsr_meaning.specs.Typed.{IsTypedGuard, IsTypedPath, IsTypedRule, IsTypedTest, RunsOver}
 use Rattle.dsr_effect_laws.proofs.GuardsAfter.{test_of}
-use Rattle.dsr_stepped.proofs.GuardWrites.{guard_written, wanted_write}
-use Rattle.dsr_stepped.proofs.Passed.{picked_meets}
-use Rattle.dsr_stepped.proofs.ReferenceWrites.{plain_write}
-use Rattle.dsr_stepped.proofs.Removed.{picked_fails}
-use Rattle.dsr_stepping.specs.Steps.{IsWanted, picked_number}
-use Rattle.dsr_stepping.specs.declared.steps.Step.{Step}
-use Rattle.dsr_updating.specs.Changes.{Change}
-use Rattle.dsr_updating.specs.Guards.{fitting, guard_write, number_false, number_true, pick_wanted}
-use Rattle.dsr_stepped.proofs.AllTrue.{first_true}
+use Rattle.dsr_step_laws.proofs.GuardWrites.{guard_written, wanted_write}
+use Rattle.dsr_step_laws.proofs.Passed.{picked_meets}
+use Rattle.dsr_step_laws.proofs.ReferenceWrites.{plain_write}
+use Rattle.dsr_step_laws.proofs.Removed.{picked_fails}
+use Rattle.dsr_step_theory.specs.Steps.{IsWanted, picked_number}
+use Rattle.dsr_step_theory.specs.declared.steps.Step.{Step}
+use Rattle.dsr_update_theory.specs.Changes.{Change}
+use Rattle.dsr_update_theory.specs.Guards.{fitting, guard_write, number_false, number_true, pick_wanted}
+use Rattle.dsr_step_laws.proofs.AllTrue.{first_true}
 use Rattle.dsr_ir.specs.declared.declarations.Spec.{Spec}
 use Rattle.dsr_meaning.specs.Instances.{declared_field}
-use Rattle.dsr_updating.specs.Templates.{all_true, value_write}
+use Rattle.dsr_update_theory.specs.Templates.{all_true, value_write}
 use Rattle.dsr_meaning.proofs.Options.{chained_from, failed_from, mapped_from}
 use Rattle.dsr_meaning.proofs.Items.{of_all}
 

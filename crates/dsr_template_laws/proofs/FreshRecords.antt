@@ -4,11 +4,11 @@ use Rattle.std.proofs.Common.{◌≡◌, ◌≢◌, ◌<◌, ◌-◌, ◌∙◌,
 use Rattle.std.specs.Prelude.{unwrap_or}
 use Rattle.std.specs.Option.{option_and_then}
 use Rattle.std.proofs.lemmas.Option.{same_Some, none-some}
-use Rattle.dsr_applying.specs.Choices.{IsFresh, IsFreshFrom, IsOutside, IsPlace, IsSupplied}
+use Rattle.dsr_repair_theory.specs.Choices.{IsFresh, IsFreshFrom, IsOutside, IsPlace, IsSupplied}
 use Rattle.dsr_effect_laws.specs.Judged.{IsFreshFor}
 use Rattle.dsr_effect_laws.proofs.AvoidedSets.{avoided_free}
-use Rattle.dsr_feasible.proofs.PlainSets.{as_derived, as_fact, plain_base}
-use Rattle.dsr_feasible.proofs.TriedSteps.{placed_at}
+use Rattle.dsr_repair_laws.proofs.PlainSets.{as_derived, as_fact, plain_base}
+use Rattle.dsr_repair_laws.proofs.TriedSteps.{placed_at}
 use Rattle.dsr_ir.specs.Layouts.{pool_numbers}
 use Rattle.dsr_ir.specs.declared.declarations.Pool.{Pool}
 use Rattle.dsr_ir.specs.declared.tuples.Element.{Element}
@@ -17,13 +17,13 @@ use Rattle.dsr_ir.specs.declared.tuples.Fact.TheVariants.{Member}
 use Rattle.dsr_ir.specs.declared.updates.Place.{Place}
 use Rattle.dsr_ir.specs.declared.updates.Place.TheVariants as places
 use Rattle.dsr_layout.proofs.Fitting.{pool_found}
-use Rattle.dsr_listing.specs.Sides.{IsNoFreshOne, MaySupply}
+use Rattle.dsr_graph_theory.specs.Sides.{IsNoFreshOne, MaySupply}
 use Rattle.dsr_meaning.specs.Counting.{IsIn}
 use Rattle.dsr_meaning.specs.Models.{Chain, IsDerived, IsFact, base_of}
 use Rattle.dsr_meaning.specs.Typed.{IsPlainSetOf, pool_at}
-use Rattle.dsr_updating.specs.Avoided.{IsAvoided}
-use Rattle.dsr_updating.specs.Changes.{Change, fresh_pool}
-use Rattle.dsr_updating.specs.Touching.{named_by}
+use Rattle.dsr_update_theory.specs.Avoided.{IsAvoided}
+use Rattle.dsr_update_theory.specs.Changes.{Change, fresh_pool}
+use Rattle.dsr_update_theory.specs.Touching.{named_by}
 use Rattle.dsr_template_laws.specs.Judging.{Application, change_in}
 use Rattle.dsr_template_laws.specs.Tried.{IsTried}
 use Rattle.dsr_template_laws.proofs.KnownMembers.{known_holds}

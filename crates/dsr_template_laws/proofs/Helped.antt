@@ -1,12 +1,12 @@
 -- An update that is tried, and serves what it is for, helps its literal.
 use Rattle.std.proofs.Common.{◌≡◌, ◌∙◌, ℕ, zero, suc, Some, MatchBool, inl, inr, refl, sym, subst}
 use Rattle.std.proofs.lemmas.Option.{same_Some}
-use Rattle.dsr_applying.specs.Choices.{Adds, CountsNothing, TakesAway}
+use Rattle.dsr_repair_theory.specs.Choices.{Adds, CountsNothing, TakesAway}
 use Rattle.dsr_effect_laws.specs.Allowed.{Allows}
 use Rattle.dsr_effect_laws.proofs.FactChanges.{new_facts_lie}
-use Rattle.dsr_feasible.proofs.RawUpdates.{IsFirstChosen}
-use Rattle.dsr_feasible.proofs.TriedSteps.{chosen_kind}
-use Rattle.dsr_feasible.proofs.TriedUpdates.{IsAdder}
+use Rattle.dsr_repair_laws.proofs.RawUpdates.{IsFirstChosen}
+use Rattle.dsr_repair_laws.proofs.TriedSteps.{chosen_kind}
+use Rattle.dsr_repair_laws.proofs.TriedUpdates.{IsAdder}
 use Rattle.dsr_ir.specs.declared.constraints.Atom.{Atom}
 use Rattle.dsr_ir.specs.declared.constraints.Atom.TheVariants as atoms
 use Rattle.dsr_ir.specs.declared.constraints.Measure.{Measure}
@@ -18,12 +18,12 @@ use Rattle.dsr_ir.specs.declared.tuples.Fact.TheVariants.{Member}
 use Rattle.dsr_ir.specs.declared.tuples.Target.TheVariants.{Elem}
 use Rattle.dsr_ir.specs.declared.updates.Goal.{Goal}
 use Rattle.dsr_ir.specs.declared.updates.Goal.TheVariants as goals
-use Rattle.dsr_listing.specs.Owners.{Keeps, KeepsPremise}
-use Rattle.dsr_listing.specs.Sides.{KeepsBound, MayServe, SuppliesOne, atom_symbol}
+use Rattle.dsr_graph_theory.specs.Owners.{Keeps, KeepsPremise}
+use Rattle.dsr_graph_theory.specs.Sides.{KeepsBound, MayServe, SuppliesOne, atom_symbol}
 use Rattle.dsr_meaning.specs.Models.{IsFact}
 use Rattle.dsr_meaning.specs.Truth.{AtomHolds, LiteralHolds}
-use Rattle.dsr_updating.specs.Changes.{Change}
-use Rattle.dsr_updating.specs.declared.effects.Direction.TheVariants.{Gain, Loss}
+use Rattle.dsr_update_theory.specs.Changes.{Change}
+use Rattle.dsr_update_theory.specs.declared.effects.Direction.TheVariants.{Gain, Loss}
 use Rattle.dsr_template_laws.specs.Helping.{IsHelped}
 use Rattle.dsr_template_laws.specs.Judging.{Application, IsListed, change_in}
 use Rattle.dsr_template_laws.specs.Tried.{IsTried}

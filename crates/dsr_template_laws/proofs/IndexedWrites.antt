@@ -3,13 +3,13 @@
 use Rattle.std.proofs.Common.{◌≡◌, ◌∙◌, ◌⊎◌, ◌++◌, ℕ, zero, suc, Bool, true, false, List, [], ◌∷◌, Some, inl, inr, refl, sym, ap, subst, slice_get}
 use Rattle.std.proofs.lemmas.Bool.{and_parts, false≢true}
 use Rattle.std.proofs.lemmas.List.{append-nil}
-use Rattle.dsr_applying.specs.Choices.{TakesAway}
-use Rattle.dsr_feasible.proofs.Compensating.{compensating, only_compensated}
-use Rattle.dsr_feasible.proofs.MakingRecords.{of_rule}
-use Rattle.dsr_feasible.proofs.RawUpdates.{raw_updates}
-use Rattle.dsr_feasible.proofs.TriedTemplates.{single_span}
-use Rattle.dsr_feasible.proofs.TriedUpdates.{IsAdder, IsRawUpdate, IsSetAt, IsSetting, IsSupplying}
-use Rattle.dsr_feasible.specs.Grown.{Compensates, IsGrownFrom}
+use Rattle.dsr_repair_theory.specs.Choices.{TakesAway}
+use Rattle.dsr_repair_laws.proofs.Compensating.{compensating, only_compensated}
+use Rattle.dsr_repair_laws.proofs.MakingRecords.{of_rule}
+use Rattle.dsr_repair_laws.proofs.RawUpdates.{raw_updates}
+use Rattle.dsr_repair_laws.proofs.TriedTemplates.{single_span}
+use Rattle.dsr_repair_laws.proofs.TriedUpdates.{IsAdder, IsRawUpdate, IsSetAt, IsSetting, IsSupplying}
+use Rattle.dsr_repair_laws.specs.Grown.{Compensates, IsGrownFrom}
 use Rattle.dsr_ir.specs.Rules.{target_of}
 use Rattle.dsr_ir.specs.declared.constraints.Atom.{Atom}
 use Rattle.dsr_ir.specs.declared.constraints.Literal.{Literal}
@@ -26,17 +26,17 @@ use Rattle.dsr_ir.specs.declared.updates.Place.TheVariants.{Head}
 use Rattle.dsr_ir.specs.declared.updates.Template.{Template}
 use Rattle.dsr_ir.specs.declared.updates.Update.{Update}
 use Rattle.dsr_ir.specs.declared.updates.Write.{Write}
-use Rattle.dsr_listing.specs.Owners.{Owner}
+use Rattle.dsr_graph_theory.specs.Owners.{Owner}
 use Rattle.dsr_meaning.specs.Counting.{IsIn}
 use Rattle.dsr_meaning.specs.Typed.{IsTyped, IsTypedGuard, IsTypedLiteral, IsTypedPath, IsTypedRule}
-use Rattle.dsr_stepped.proofs.AllTrue.{in_others, target_written}
-use Rattle.dsr_stepped.proofs.GuardWrites.{guard_written}
-use Rattle.dsr_stepped.proofs.ReferenceWrites.{reference_written}
-use Rattle.dsr_stepped.proofs.Together.{target_typed}
-use Rattle.dsr_updating.specs.Givers.{is_single}
-use Rattle.dsr_updating.specs.Guards.{guard_write}
-use Rattle.dsr_updating.specs.Templates.{KnownSets, all_true, others, pick_of, serves, starts_at, target_writes}
-use Rattle.dsr_updating.specs.Touching.{is_removal}
+use Rattle.dsr_step_laws.proofs.AllTrue.{in_others, target_written}
+use Rattle.dsr_step_laws.proofs.GuardWrites.{guard_written}
+use Rattle.dsr_step_laws.proofs.ReferenceWrites.{reference_written}
+use Rattle.dsr_step_laws.proofs.Together.{target_typed}
+use Rattle.dsr_update_theory.specs.Givers.{is_single}
+use Rattle.dsr_update_theory.specs.Guards.{guard_write}
+use Rattle.dsr_update_theory.specs.Templates.{KnownSets, all_true, others, pick_of, serves, starts_at, target_writes}
+use Rattle.dsr_update_theory.specs.Touching.{is_removal}
 use Rattle.dsr_template_laws.specs.Tried.{IsTriedAt}
 use Rattle.dsr_template_laws.proofs.FitWrites.{true_made, unindexed, value_written}
 use Rattle.dsr_meaning.proofs.Items.{in_either, of_all}

@@ -30,10 +30,10 @@ use Rattle.dsr_meaning.specs.Truth.{element_of}
 use Rattle.dsr_meaning.specs.Typed.{IsTyped}
 use Rattle.dsr_effect_laws.specs.Allowed.{subject_of}
 use Rattle.dsr_effect_laws.proofs.GivenFacts.{own_subject}
-use Rattle.dsr_stepped.proofs.GivenSymbols.{giver_of}
-use Rattle.dsr_updating.specs.Givers.{IsGiver, IsGivenBy}
-use Rattle.dsr_updating.specs.KnownSets.{GivesMembersOf, GivesTargetsTo, IsKnown}
-use Rattle.dsr_feasible.proofs.PlainSets.{as_derived, as_fact, given_plain, premise_plain}
+use Rattle.dsr_step_laws.proofs.GivenSymbols.{giver_of}
+use Rattle.dsr_update_theory.specs.Givers.{IsGiver, IsGivenBy}
+use Rattle.dsr_update_theory.specs.KnownSets.{GivesMembersOf, GivesTargetsTo, IsKnown}
+use Rattle.dsr_repair_laws.proofs.PlainSets.{as_derived, as_fact, given_plain, premise_plain}
 use Rattle.dsr_meaning.proofs.Items.{all_of, of_all}
 
 module _ (spec : Spec) (typed : IsTyped spec) where

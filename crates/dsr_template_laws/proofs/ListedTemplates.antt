@@ -2,16 +2,16 @@
 -- update of a template that is tried as it is.
 use Rattle.std.proofs.Common.{◌≡◌, ℕ, List, [], Some, refl, ap, subst, slice_get}
 use Rattle.std.specs.Prelude.{MatchOption}
-use Rattle.dsr_feasible.proofs.Forms.{listed_form}
-use Rattle.dsr_feasible.proofs.GrownUpdates.{as_tried, of_form}
-use Rattle.dsr_feasible.proofs.KnownSets.{told}
+use Rattle.dsr_repair_laws.proofs.Forms.{listed_form}
+use Rattle.dsr_repair_laws.proofs.GrownUpdates.{as_tried, of_form}
+use Rattle.dsr_repair_laws.proofs.KnownSets.{told}
 use Rattle.dsr_ir.specs.declared.constraints.Literal.{Literal}
 use Rattle.dsr_ir.specs.declared.updates.Template.{Template}
 use Rattle.dsr_ir.specs.declared.updates.Update.{Update}
-use Rattle.dsr_listing.specs.Owners.{Owner}
-use Rattle.dsr_listing.specs.Sides.{MayServe}
+use Rattle.dsr_graph_theory.specs.Owners.{Owner}
+use Rattle.dsr_graph_theory.specs.Sides.{MayServe}
 use Rattle.dsr_meaning.specs.Counting.{IsIn}
-use Rattle.dsr_updating.specs.Templates.{AreRaw, AreRawOf, KnownSets, TellsKnown, literal_at}
+use Rattle.dsr_update_theory.specs.Templates.{AreRaw, AreRawOf, KnownSets, TellsKnown, literal_at}
 use Rattle.dsr_template_laws.specs.Judging.{Application, IsListed, change_in, owner_of}
 use Rattle.dsr_template_laws.specs.Tried.{IsTried, IsTriedAt}
 use Rattle.dsr_template_laws.proofs.TriedApplications.{update_there}

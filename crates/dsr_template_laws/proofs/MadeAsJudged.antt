@@ -1,17 +1,17 @@
 -- The step of an update that is tried is fit, and made as the update is judged: so what it changes lies in the table.
 use Rattle.std.proofs.Common.{◌≡◌, ◌⊎◌, ◌∙◌, ℕ, true, [], ◌∷◌, Some, inl, inr, refl, sym, ap, subst}
 use Rattle.std.proofs.lemmas.Bool.{false≢true}
-use Rattle.dsr_applying.specs.Changed.{IsGained, IsLost}
-use Rattle.dsr_applying.specs.Choices.{Adds, IsPlace, TakesAway}
+use Rattle.dsr_repair_theory.specs.Changed.{IsGained, IsLost}
+use Rattle.dsr_repair_theory.specs.Choices.{Adds, IsPlace, TakesAway}
 use Rattle.dsr_effect_laws.specs.Allowed.{Lies}
 use Rattle.dsr_effect_laws.specs.Fitting.{IsAlwaysMade, IsFitStep}
 use Rattle.dsr_effect_laws.specs.Judged.{IsMadeAsJudged}
 use Rattle.dsr_effect_laws.proofs.FactChanges.{gains_lie, losses_lie}
-use Rattle.dsr_stepped.proofs.GivenSymbols.{giver_of}
+use Rattle.dsr_step_laws.proofs.GivenSymbols.{giver_of}
 use Rattle.dsr_effect_laws.proofs.StepReads.{left_as_judged}
-use Rattle.dsr_feasible.proofs.PlainSets.{as_fact, given_plain}
-use Rattle.dsr_feasible.proofs.TriedSteps.{IsTriedStep, chosen_kind, placed_at, stopped}
-use Rattle.dsr_stepped.proofs.HeadRules.{only_head}
+use Rattle.dsr_repair_laws.proofs.PlainSets.{as_fact, given_plain}
+use Rattle.dsr_repair_laws.proofs.TriedSteps.{IsTriedStep, chosen_kind, placed_at, stopped}
+use Rattle.dsr_step_laws.proofs.HeadRules.{only_head}
 use Rattle.dsr_ir.specs.declared.constraints.Atom.{Atom}
 use Rattle.dsr_ir.specs.declared.tuples.Binding.{Binding}
 use Rattle.dsr_ir.specs.declared.tuples.Element.{Element}
@@ -23,13 +23,13 @@ use Rattle.dsr_ir.specs.declared.updates.Place.{Place}
 use Rattle.dsr_ir.specs.declared.updates.Place.TheVariants as places
 use Rattle.dsr_ir.specs.declared.updates.Write.{Write}
 use Rattle.dsr_layout.specs.InRange.{IsRecordOf}
-use Rattle.dsr_listing.specs.Owners.{goal_at}
+use Rattle.dsr_graph_theory.specs.Owners.{goal_at}
 use Rattle.dsr_meaning.specs.Counting.{IsIn}
 use Rattle.dsr_meaning.specs.Models.{IsDerived, IsFact}
 use Rattle.dsr_meaning.specs.Truth.{head}
-use Rattle.dsr_updating.specs.Changes.{Change}
-use Rattle.dsr_updating.specs.Touching.{IsKeptApartBy, is_removal}
-use Rattle.dsr_updating.specs.declared.effects.Direction.TheVariants.{Gain, Loss}
+use Rattle.dsr_update_theory.specs.Changes.{Change}
+use Rattle.dsr_update_theory.specs.Touching.{IsKeptApartBy, is_removal}
+use Rattle.dsr_update_theory.specs.declared.effects.Direction.TheVariants.{Gain, Loss}
 use Rattle.dsr_template_laws.specs.Judging.{Application, change_in, owner_of}
 use Rattle.dsr_template_laws.specs.Tried.{IsTried}
 use Rattle.dsr_template_laws.proofs.AlwaysMade.{option_always}

@@ -3,13 +3,13 @@ use Rattle.std.proofs.Common.{◌≡◌, ◌<◌, ◌∙◌, ◌++◌, ℕ, true
 use Rattle.std.specs.Prelude.{option_map}
 use Rattle.std.proofs.lemmas.Bool.{false≢true}
 use Rattle.std.proofs.lemmas.Option.{same_Some}
-use Rattle.dsr_applying.specs.Choices.{IsEntryAt, IsPlace, size_or, written_size}
-use Rattle.dsr_stepped.proofs.GivenSymbols.{giver_of}
+use Rattle.dsr_repair_theory.specs.Choices.{IsEntryAt, IsPlace, size_or, written_size}
+use Rattle.dsr_step_laws.proofs.GivenSymbols.{giver_of}
 use Rattle.dsr_effect_laws.proofs.FactChanges.{not_gained, not_lost}
 use Rattle.dsr_effect_laws.proofs.Writes.{IsLeftFrom, left_from}
 use Rattle.dsr_effect_laws.specs.Fitting.{IsFitStep}
-use Rattle.dsr_feasible.proofs.FormItems.{giver_in}
-use Rattle.dsr_feasible.proofs.MakingRecords.{place_named}
+use Rattle.dsr_repair_laws.proofs.FormItems.{giver_in}
+use Rattle.dsr_repair_laws.proofs.MakingRecords.{place_named}
 use Rattle.dsr_ir.specs.declared.constraints.Atom.TheVariants as atoms
 use Rattle.dsr_ir.specs.declared.constraints.Atom.{Atom}
 use Rattle.dsr_ir.specs.declared.constraints.Bound.TheVariants as bounds
@@ -25,21 +25,21 @@ use Rattle.dsr_ir.specs.declared.updates.Goal.{Goal}
 use Rattle.dsr_ir.specs.declared.updates.Symbol.TheVariants as symbols
 use Rattle.dsr_ir.specs.declared.updates.Update.{Update}
 use Rattle.dsr_ir.specs.declared.updates.Write.{Write}
-use Rattle.dsr_listing.specs.Owners.{Keeps}
-use Rattle.dsr_listing.specs.Sides.{KeepsBound}
+use Rattle.dsr_graph_theory.specs.Owners.{Keeps}
+use Rattle.dsr_graph_theory.specs.Sides.{KeepsBound}
 use Rattle.dsr_meaning.specs.Cells.{cell_value, value_at}
 use Rattle.dsr_meaning.specs.Counting.{IsIn}
 use Rattle.dsr_meaning.specs.Instances.{Compares, Gives, HasTarget, Includes, index_count, pool_of_premise, record_count}
 use Rattle.dsr_meaning.specs.Models.{IsFact}
 use Rattle.dsr_meaning.specs.Truth.{AtomHolds, HasBound, HasSize, element_of, head}
-use Rattle.dsr_stepped.proofs.ReferenceWrites.{plain_write}
-use Rattle.dsr_stepping.specs.Steps.{written_number}
-use Rattle.dsr_updating.specs.Changes.{Change}
-use Rattle.dsr_updating.specs.Templates.{pick_of}
-use Rattle.dsr_updating.specs.declared.effects.Direction.TheVariants.{Gain, Loss}
-use Rattle.dsr_feasible.proofs.TriedSteps.{IsTriedStep, own_entry, own_place}
-use Rattle.dsr_feasible.proofs.TriedUpdates.{IsSetAt, IsSetting}
-use Rattle.dsr_stepped.proofs.HeadRules.{only_head}
+use Rattle.dsr_step_laws.proofs.ReferenceWrites.{plain_write}
+use Rattle.dsr_step_theory.specs.Steps.{written_number}
+use Rattle.dsr_update_theory.specs.Changes.{Change}
+use Rattle.dsr_update_theory.specs.Templates.{pick_of}
+use Rattle.dsr_update_theory.specs.declared.effects.Direction.TheVariants.{Gain, Loss}
+use Rattle.dsr_repair_laws.proofs.TriedSteps.{IsTriedStep, own_entry, own_place}
+use Rattle.dsr_repair_laws.proofs.TriedUpdates.{IsSetAt, IsSetting}
+use Rattle.dsr_step_laws.proofs.HeadRules.{only_head}
 use Rattle.dsr_meaning.specs.Refusals.{reaches_bound}
 use Rattle.dsr_ir.specs.declared.rules.Op.{Op}
 use Rattle.dsr_ir.specs.declared.rules.Op.TheVariants.{Eq, Ge, Gt, Le, Lt, Ne}

@@ -1,15 +1,15 @@
 -- Where an update is to make its rule's instance give something, that gives nothing before.
 use Rattle.std.proofs.Common.{◌≡◌, ◌∙◌, ◌⊎◌, ℕ, zero, suc, false, ◌∷◌, None, Some, MatchBool, inl, inr, refl, sym, ap, subst, slice_get}
 use Rattle.std.proofs.lemmas.Bool.{and_parts}
-use Rattle.dsr_applying.specs.Choices.{Adds, CountsNothing, IsPlace, TakesAway}
+use Rattle.dsr_repair_theory.specs.Choices.{Adds, CountsNothing, IsPlace, TakesAway}
 use Rattle.dsr_effect_laws.specs.Judged.{IsSilent}
-use Rattle.dsr_feasible.proofs.LastGiven.{given_by}
-use Rattle.dsr_feasible.proofs.MakingRecords.{place_named}
-use Rattle.dsr_feasible.proofs.PlainSets.{as_fact, given_plain}
-use Rattle.dsr_feasible.proofs.RawUpdates.{IsFirstChosen}
-use Rattle.dsr_feasible.proofs.TriedSteps.{chosen_kind, own_place}
-use Rattle.dsr_feasible.proofs.TriedTemplates.{single_span}
-use Rattle.dsr_feasible.proofs.TriedUpdates.{GivesCounted, IsAdder, IsAdding, IsJoining, IsSupplying}
+use Rattle.dsr_repair_laws.proofs.LastGiven.{given_by}
+use Rattle.dsr_repair_laws.proofs.MakingRecords.{place_named}
+use Rattle.dsr_repair_laws.proofs.PlainSets.{as_fact, given_plain}
+use Rattle.dsr_repair_laws.proofs.RawUpdates.{IsFirstChosen}
+use Rattle.dsr_repair_laws.proofs.TriedSteps.{chosen_kind, own_place}
+use Rattle.dsr_repair_laws.proofs.TriedTemplates.{single_span}
+use Rattle.dsr_repair_laws.proofs.TriedUpdates.{GivesCounted, IsAdder, IsAdding, IsJoining, IsSupplying}
 use Rattle.dsr_ir.specs.Rules.{target_of}
 use Rattle.dsr_ir.specs.declared.constraints.Atom.{Atom}
 use Rattle.dsr_ir.specs.declared.constraints.Atom.TheVariants as atoms
@@ -26,14 +26,14 @@ use Rattle.dsr_ir.specs.declared.updates.Goal.{Goal}
 use Rattle.dsr_ir.specs.declared.updates.Goal.TheVariants as goals
 use Rattle.dsr_ir.specs.declared.updates.Symbol.{Symbol}
 use Rattle.dsr_ir.specs.declared.updates.Update.{Update}
-use Rattle.dsr_listing.specs.Owners.{goal_at}
+use Rattle.dsr_graph_theory.specs.Owners.{goal_at}
 use Rattle.dsr_meaning.specs.Instances.{Includes}
 use Rattle.dsr_meaning.specs.Models.{IsDerived, IsFact}
 use Rattle.dsr_meaning.specs.Truth.{AtomHolds, element_of}
-use Rattle.dsr_updating.specs.Changes.{Change}
-use Rattle.dsr_updating.specs.Givers.{is_single}
-use Rattle.dsr_updating.specs.Templates.{counted_symbol, starts_at}
-use Rattle.dsr_updating.specs.Touching.{MakesFire}
+use Rattle.dsr_update_theory.specs.Changes.{Change}
+use Rattle.dsr_update_theory.specs.Givers.{is_single}
+use Rattle.dsr_update_theory.specs.Templates.{counted_symbol, starts_at}
+use Rattle.dsr_update_theory.specs.Touching.{MakesFire}
 use Rattle.dsr_template_laws.specs.Judging.{Application, change_in, owner_of}
 use Rattle.dsr_template_laws.specs.Tried.{IsTriedAt}
 use Rattle.dsr_template_laws.proofs.CountedFacts.{counted_some}

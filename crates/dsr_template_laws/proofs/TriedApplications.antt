@@ -1,12 +1,12 @@
 -- An application of an update that is tried, as a step by such an update.
 use Rattle.std.proofs.Common.{◌≡◌, Some, sym, subst, slice_get}
-use Rattle.dsr_feasible.proofs.RawUpdates.{raw_updates}
-use Rattle.dsr_feasible.proofs.TriedSteps.{IsTriedStep, at_place}
-use Rattle.dsr_feasible.proofs.TypedLiterals.{IsTypedIn, typed_in}
+use Rattle.dsr_repair_laws.proofs.RawUpdates.{raw_updates}
+use Rattle.dsr_repair_laws.proofs.TriedSteps.{IsTriedStep, at_place}
+use Rattle.dsr_repair_laws.proofs.TypedLiterals.{IsTypedIn, typed_in}
 use Rattle.dsr_ir.specs.declared.updates.Write.{Write}
 use Rattle.dsr_meaning.specs.Counting.{IsIn}
 use Rattle.dsr_meaning.specs.Legal.{IsLegalLayout}
-use Rattle.dsr_resolved.proofs.AcceptedLayouts.{legal_of}
+use Rattle.dsr_resolve.proofs.AcceptedLayouts.{legal_of}
 use Rattle.dsr_template_laws.specs.Judging.{Application, owner_of}
 use Rattle.dsr_template_laws.specs.Tried.{IsTriedAt}
 use Rattle.dsr_meaning.proofs.Items.{in_left}

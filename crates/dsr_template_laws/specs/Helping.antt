@@ -1,6 +1,6 @@
 -- What a template is to do for its literal.
 use Rattle.std.specs.Prelude.{◌⊎◌, ℕ, List}
-use Rattle.dsr_applying.specs.Choices.{TakesAway}
+use Rattle.dsr_repair_theory.specs.Choices.{TakesAway}
 use Rattle.dsr_ir.specs.declared.constraints.Literal.{Literal}
 use Rattle.dsr_ir.specs.declared.declarations.Spec.{Spec}
 use Rattle.dsr_ir.specs.declared.layouts.Layout.{Layout}
@@ -8,11 +8,11 @@ use Rattle.dsr_ir.specs.declared.rules.Rule.{Rule}
 use Rattle.dsr_ir.specs.declared.tuples.Instance.{Instance}
 use Rattle.dsr_ir.specs.declared.updates.Symbol.{Symbol}
 use Rattle.dsr_ir.specs.declared.updates.Template.{Template}
-use Rattle.dsr_listing.specs.Sides.{atom_symbol}
+use Rattle.dsr_graph_theory.specs.Sides.{atom_symbol}
 use Rattle.dsr_meaning.specs.Models.{IsActive, IsFact}
 use Rattle.dsr_meaning.specs.Truth.{LiteralHolds}
-use Rattle.dsr_stepping.specs.declared.steps.Step.{Step}
-use Rattle.dsr_updating.specs.Givers.{IsGiver}
+use Rattle.dsr_step_theory.specs.declared.steps.Step.{Step}
+use Rattle.dsr_update_theory.specs.Givers.{IsGiver}
 use Rattle.dsr_template_laws.specs.Judging.{Application}
 
 -- the instance is an active one of a rule that gives facts of the symbol

@@ -1,15 +1,15 @@
 -- An update that is applied, and how it is judged.
 use Rattle.std.specs.Prelude.{ℕ, List}
-use Rattle.dsr_applying.specs.Applications.{IsApplied}
+use Rattle.dsr_repair_theory.specs.Applications.{IsApplied}
 use Rattle.dsr_ir.specs.declared.constraints.Constraint.{Constraint}
 use Rattle.dsr_ir.specs.declared.declarations.Spec.{Spec}
 use Rattle.dsr_ir.specs.declared.layouts.Layout.{Layout}
 use Rattle.dsr_ir.specs.declared.updates.Template.{Template}
 use Rattle.dsr_ir.specs.declared.updates.Update.{Update}
-use Rattle.dsr_listing.specs.Owners.{Owner, change_of, goal_at}
-use Rattle.dsr_planning.specs.Plans.{IsListedAt}
-use Rattle.dsr_stepping.specs.declared.steps.Step.{Step}
-use Rattle.dsr_updating.specs.Changes.{Change}
+use Rattle.dsr_graph_theory.specs.Owners.{Owner, change_of, goal_at}
+use Rattle.dsr_plan_theory.specs.Plans.{IsListedAt}
+use Rattle.dsr_step_theory.specs.declared.steps.Step.{Step}
+use Rattle.dsr_update_theory.specs.Changes.{Change}
 
 -- an update of a template, applied at a violated binding of a constraint: its step makes the old
 -- bytes the new ones

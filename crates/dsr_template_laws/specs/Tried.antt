@@ -3,11 +3,11 @@ use Rattle.std.specs.Prelude.{◌≡◌, ℕ, List, Some, slice_get}
 use Rattle.dsr_ir.specs.declared.constraints.Literal.{Literal}
 use Rattle.dsr_ir.specs.declared.updates.Template.{Template}
 use Rattle.dsr_ir.specs.declared.updates.Update.{Update}
-use Rattle.dsr_feasible.specs.Grown.{IsGrownFrom}
-use Rattle.dsr_listing.specs.Owners.{Owner}
+use Rattle.dsr_repair_laws.specs.Grown.{IsGrownFrom}
+use Rattle.dsr_graph_theory.specs.Owners.{Owner}
 use Rattle.dsr_meaning.specs.Counting.{IsIn}
-use Rattle.dsr_updating.specs.Templates.{AreRaw, KnownSets, TellsKnown}
-use Rattle.dsr_listing.specs.Sides.{MayBeMade}
+use Rattle.dsr_update_theory.specs.Templates.{AreRaw, KnownSets, TellsKnown}
+use Rattle.dsr_graph_theory.specs.Sides.{MayBeMade}
 use Rattle.dsr_template_laws.specs.Judging.{Application, change_in, owner_of}
 
 -- the update, by its place in the template, is one of a template that is tried for the literal,

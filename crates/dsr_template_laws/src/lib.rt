@@ -5,7 +5,7 @@
 #![tactic(auto)]
 
 ghost use Rattle.std.specs.Prelude.{◌≡◌, ◌⊎◌, ◌∷◌, ℕ, [], true};
-ghost use Rattle.dsr_applying.specs.Changed.{IsGained, IsLost};
+ghost use Rattle.dsr_repair_theory.specs.Changed.{IsGained, IsLost};
 ghost use Rattle.dsr_effect_laws.specs.Allowed.{Lies};
 ghost use Rattle.dsr_ir.specs.declared.constraints.Literal.{Literal};
 ghost use Rattle.dsr_ir.specs.declared.tuples.Fact.{Fact};
@@ -13,14 +13,14 @@ ghost use Rattle.dsr_ir.specs.declared.updates.Place.TheVariants.{Head};
 ghost use Rattle.dsr_ir.specs.declared.updates.Template.{Template};
 ghost use Rattle.dsr_ir.specs.declared.updates.Update.{Update};
 ghost use Rattle.dsr_ir.specs.declared.updates.Write.{Write};
-ghost use Rattle.dsr_listing.specs.Owners.{Owner};
-ghost use Rattle.dsr_listing.specs.Sides.{MayServe};
+ghost use Rattle.dsr_graph_theory.specs.Owners.{Owner};
+ghost use Rattle.dsr_graph_theory.specs.Sides.{MayServe};
 ghost use Rattle.dsr_meaning.specs.Counting.{IsIn};
 ghost use Rattle.dsr_meaning.specs.Typed.{IsTyped, IsTypedLiteral};
 ghost use Rattle.dsr_template_laws.specs.Helping.{IsHelped};
 ghost use Rattle.dsr_template_laws.specs.Judging.{Application, IsListed, change_in};
 ghost use Rattle.dsr_template_laws.specs.Tried.{IsTried, IsTriedAt};
-ghost use Rattle.dsr_updating.specs.declared.effects.Direction.TheVariants.{Gain, Loss};
+ghost use Rattle.dsr_update_theory.specs.declared.effects.Direction.TheVariants.{Gain, Loss};
 
 /// An indexed write of an update of a template that is tried, compensated or not, is its only
 /// write, or the update writes the head.

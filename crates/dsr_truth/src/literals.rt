@@ -13,7 +13,7 @@ use dsr_ir::{
     Atom, Binding, Bound, Conj, Constraint, Element, Fact, Literal, Measure, Op, Spec, Target, Var,
 };
 use dsr_model::{Model, element_of};
-use dsr_resolved::compares;
+use dsr_resolve::compares;
 
 // The number of what is counted; none where the binding hasn't got the variable.
 #[inline]

@@ -5,7 +5,7 @@ use Rattle.std.specs.Option.{option_map, option_map_or}
 use Rattle.std.specs.Prelude.{slice_get}
 use Rattle.std.proofs.Math.Seq.{drop-cons}
 use Rattle.std.proofs.lemmas.List.{drop_all}
-use Rattle.dsr_apart.proofs.Descending.{line}
+use Rattle.dsr_layout_laws.proofs.Descending.{line}
 use Rattle.dsr_ir.specs.Layouts.{field_place}
 use Rattle.dsr_ir.specs.declared.declarations.Field.{Field}
 use Rattle.dsr_ir.specs.declared.declarations.FieldRef.{FieldRef}
@@ -20,7 +20,7 @@ use Rattle.dsr_meaning.specs.Cells.{cell_of}
 use Rattle.dsr_meaning.specs.Legal.{entry_count}
 use Rattle.dsr_meaning.specs.Lists.{each_at}
 use Rattle.dsr_meaning.specs.Typed.{ancestors, pool_at}
-use Rattle.dsr_stepping.specs.Resets.{byte_cell, entry_puts, field_puts, reset_number, reset_puts, slot_zeros, structure_puts, zeros}
+use Rattle.dsr_step_theory.specs.Resets.{byte_cell, entry_puts, field_puts, reset_number, reset_puts, slot_zeros, structure_puts, zeros}
 
 -- ---- bytes
 

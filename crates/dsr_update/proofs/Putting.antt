@@ -1,8 +1,8 @@
 -- Values are put one after the other: what is left to be put leads to all that is to be put.
 use Rattle.std.proofs.Common.{◌≡◌, ◌∙◌, ℕ, Bool, List, [], ◌∷◌, ◌++◌, length, refl, subst, sym}
 use Rattle.dsr_ir.specs.declared.layouts.Cell.{Cell}
-use Rattle.dsr_stepping.specs.Puts.{ArePut, IsPut}
-use Rattle.dsr_stepping.specs.Puts.ArePut.{done, put}
+use Rattle.dsr_step_theory.specs.Puts.{ArePut, IsPut}
+use Rattle.dsr_step_theory.specs.Puts.ArePut.{done, put}
 
 -- two lists of values in a row
 pub put_both : {xs ys : List (Cell × ℕ)} {old middle new : List ℕ} → ArePut xs old middle → ArePut ys middle new → ArePut (xs ++ ys) old new

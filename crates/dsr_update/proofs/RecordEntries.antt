@@ -24,11 +24,11 @@ use Rattle.dsr_meaning.specs.Layouts.{layout_of}
 use Rattle.dsr_meaning.specs.Legal.{HasBits, HasEntry, IsLegalLayout, entry_count}
 use Rattle.dsr_meaning.specs.Places.{end_of, extent_of, lineage, own_places, placed, placed_at, size_of}
 use Rattle.dsr_meaning.specs.Typed.{Descends, IsTypedKind, pool_at}
-use Rattle.dsr_resolved.proofs.AcceptedLayouts.{legal_of}
-use Rattle.dsr_resolved.proofs.Descent.{descended_end}
-use Rattle.dsr_resolved.proofs.Entries.{item_below}
-use Rattle.dsr_resolved.proofs.PlacesOfFields.{collected_has, mapped_before}
-use Rattle.dsr_stepping.specs.Resets.{reset_number}
+use Rattle.dsr_resolve.proofs.AcceptedLayouts.{legal_of}
+use Rattle.dsr_resolve.proofs.Descent.{descended_end}
+use Rattle.dsr_resolve.proofs.Entries.{item_below}
+use Rattle.dsr_resolve.proofs.PlacesOfFields.{collected_has, mapped_before}
+use Rattle.dsr_step_theory.specs.Resets.{reset_number}
 use Rattle.dsr_update.specs.Claims.{CanReset, IsRecordField}
 use Rattle.dsr_update.proofs.RecordSlots.{in_pool}
 use Rattle.dsr_meaning.proofs.Options.{some_and}

@@ -13,8 +13,8 @@ use Rattle.dsr_ir.specs.declared.tuples.Element.{Element}
 use Rattle.dsr_layout.proofs.Meanings.{legal_pool}
 use Rattle.dsr_meaning.specs.Cells.{cell_of, record_start, width_bits}
 use Rattle.dsr_meaning.specs.Legal.{HasBits, HasEntry, IsLegalLayout}
-use Rattle.dsr_stepping.specs.Steps.{IsSlot}
-use Rattle.dsr_apart.proofs.Records.{entry_cell}
+use Rattle.dsr_step_theory.specs.Steps.{IsSlot}
+use Rattle.dsr_layout_laws.proofs.Records.{entry_cell}
 use Rattle.dsr_update.specs.Claims.{IsSlotClaimed}
 
 -- the numbers of the record's pool

@@ -20,9 +20,9 @@ use Rattle.dsr_meaning.specs.Refusals.{IsLayoutOf}
 use Rattle.dsr_meaning.specs.Typed.{IsPoolNumber, IsTyped, IsTypedKind}
 use Rattle.dsr_layout.proofs.Fitting.{field_found}
 use Rattle.dsr_layout.proofs.LegalLayout.{as_many, built}
-use Rattle.dsr_stepping.specs.Steps.{CanStep}
-use Rattle.dsr_stepping.specs.declared.steps.Step.{Step}
-use Rattle.dsr_resolved.proofs.AcceptedLayouts.{legal_of}
+use Rattle.dsr_step_theory.specs.Steps.{CanStep}
+use Rattle.dsr_step_theory.specs.declared.steps.Step.{Step}
+use Rattle.dsr_resolve.proofs.AcceptedLayouts.{legal_of}
 
 -- a place below the length of a list has an item
 item_there : {X : Type 0} (xs : List X) (i : ℕ) → i < length xs → IsSome (slice_get xs i)

@@ -11,7 +11,7 @@ use Rattle.dsr_meaning.specs.Cells.{record_start}
 use Rattle.dsr_meaning.specs.Instances.{declared_field}
 use Rattle.dsr_meaning.specs.Refusals.{IsLayoutOf}
 use Rattle.dsr_meaning.specs.Typed.{Descends, IsTyped, pool_at}
-use Rattle.dsr_stepping.specs.Steps.{IsSlot}
+use Rattle.dsr_step_theory.specs.Steps.{IsSlot}
 
 -- the bytes of the record's slot are claimed
 abbrev pub IsSlotClaimed : (ℕ → Bool) → Layout → Element → Type 0

@@ -1,7 +1,7 @@
 -- What a reset leaves: a record with the reset values of its fields, in a slot that is 0 beside
 -- them.
 use Rattle.std.specs.Prelude.{◌≡◌, ◌*◌, ℕ, List, Some, IsSomeAnd, length}
-use Rattle.dsr_apart.specs.Entries.{IsEntry}
+use Rattle.dsr_layout_laws.specs.Entries.{IsEntry}
 use Rattle.dsr_ir.specs.Layouts.{pool_numbers}
 use Rattle.dsr_ir.specs.declared.declarations.Field.{Field}
 use Rattle.dsr_ir.specs.declared.declarations.FieldRef.{FieldRef}
@@ -11,7 +11,7 @@ use Rattle.dsr_ir.specs.declared.layouts.Layout.{Layout}
 use Rattle.dsr_ir.specs.declared.tuples.Element.{Element}
 use Rattle.dsr_meaning.specs.Cells.{bit_of, cell_value, record_start}
 use Rattle.dsr_meaning.specs.Writes.{IsBitOf}
-use Rattle.dsr_stepping.specs.Resets.{reset_number}
+use Rattle.dsr_step_theory.specs.Resets.{reset_number}
 use Rattle.dsr_update.specs.Claims.{IsRecordField}
 
 -- the bit is one of the record's slot

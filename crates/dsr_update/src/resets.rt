@@ -5,9 +5,9 @@ ghost use Rattle.dsr_ir.specs.Layouts as layouts;
 ghost use Rattle.dsr_meaning.specs.Cells.{width_bits};
 ghost use Rattle.dsr_meaning.specs.Legal.{HasEntry, IsLegalLayout};
 ghost use Rattle.dsr_meaning.specs.Typed.{pool_at};
-ghost use Rattle.dsr_stepping.specs.Puts.{ArePut};
-ghost use Rattle.dsr_stepping.specs.Resets as said;
-ghost use Rattle.dsr_stepping.specs.Steps.{IsSlot};
+ghost use Rattle.dsr_step_theory.specs.Puts.{ArePut};
+ghost use Rattle.dsr_step_theory.specs.Resets as said;
+ghost use Rattle.dsr_step_theory.specs.Steps.{IsSlot};
 ghost use Rattle.dsr_update.specs.Claims.{CanReset, IsRecordField, IsRecordStructure, IsSlotClaimed};
 
 use dsr_image::ImageBytes;

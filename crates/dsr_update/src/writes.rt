@@ -4,13 +4,13 @@ ghost use Rattle.dsr_ir.specs.Layouts as layouts;
 ghost use Rattle.dsr_meaning.specs.Cells.{IsFieldCell};
 ghost use Rattle.dsr_meaning.specs.Instances as meaning;
 ghost use Rattle.dsr_meaning.specs.Legal.{HasEntry, IsLegalLayout};
-ghost use Rattle.dsr_stepping.specs.Steps as said;
-ghost use Rattle.dsr_stepping.specs.Steps.{IsWanted};
+ghost use Rattle.dsr_step_theory.specs.Steps as said;
+ghost use Rattle.dsr_step_theory.specs.Steps.{IsWanted};
 
 use crate::values::{meets, picked_number, referred_pool};
 use dsr_ir::{Cell, Layout, Spec, Write};
 use dsr_layout::cell;
-use dsr_stepping::Step;
+use dsr_step_theory::Step;
 
 fn written_index(step: &Step, write: &Write) -> u64
     ensures { result ≡ said.written_index step.now write.now }

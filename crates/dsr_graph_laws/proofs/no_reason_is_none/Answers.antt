@@ -1,7 +1,7 @@
 use Rattle.std.proofs.Common.{nat_eq}
-use Rattle.dsr_breaking.specs.Breaks.{MayBreakBy, MayFalsifyOther, SomeUpdate}
-use Rattle.dsr_breaking.specs.Causes.{constraint_causes}
-use Rattle.dsr_breaking.specs.declared.causes.Cause.{Cause}
+use Rattle.dsr_graph_theory.specs.Breaks.{MayBreakBy, MayFalsifyOther, SomeUpdate}
+use Rattle.dsr_graph_theory.specs.Causes.{constraint_causes}
+use Rattle.dsr_graph_theory.specs.declared.causes.Cause.{Cause}
 use Rattle.dsr_graph_laws.proofs.Firsts.{no_first, no_reason, none_first, none_such, some_such}
 use Rattle.dsr_graph_laws.proofs.no_reason_is_none.Goals as goal
 

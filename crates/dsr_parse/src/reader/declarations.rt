@@ -2,10 +2,10 @@
 ghost use Rattle.std.specs.Prelude.{IfOk, IfErr, ◌∷◌, []};
 ghost use Rattle.dsr_tree.specs.Trees as shapes;
 ghost use Rattle.dsr_tree.specs.declared.tokens.Keyword.TheVariants as keyword;
-ghost use Rattle.dsr_text.specs.Grammar as grammar;
-ghost use Rattle.dsr_text.specs.Phrases.{in_turn};
-ghost use Rattle.dsr_text.specs.Syntax.{Many, a_word};
-ghost use Rattle.dsr_text.specs.TreeTexts as texts;
+ghost use Rattle.dsr_syntax_theory.specs.Grammar as grammar;
+ghost use Rattle.dsr_syntax_theory.specs.Phrases.{in_turn};
+ghost use Rattle.dsr_syntax_theory.specs.Syntax.{Many, a_word};
+ghost use Rattle.dsr_syntax_theory.specs.TreeTexts as texts;
 ghost use Rattle.dsr_parse.specs.Ends as ends;
 ghost use Rattle.dsr_parse.specs.Reading.{Reads, Halts, said_pool, said_slot};
 

@@ -1,10 +1,10 @@
 // Structures and their fields.
 ghost use Rattle.std.specs.Prelude.{◌≡◌, IfOk, IfErr, ◌∷◌, []};
 ghost use Rattle.dsr_tree.specs.Trees as shapes;
-ghost use Rattle.dsr_text.specs.Grammar as grammar;
-ghost use Rattle.dsr_text.specs.Phrases.{in_turn};
-ghost use Rattle.dsr_text.specs.Syntax.{Many};
-ghost use Rattle.dsr_text.specs.TreeTexts as texts;
+ghost use Rattle.dsr_syntax_theory.specs.Grammar as grammar;
+ghost use Rattle.dsr_syntax_theory.specs.Phrases.{in_turn};
+ghost use Rattle.dsr_syntax_theory.specs.Syntax.{Many};
+ghost use Rattle.dsr_syntax_theory.specs.TreeTexts as texts;
 ghost use Rattle.dsr_parse.specs.Ends as ends;
 ghost use Rattle.dsr_parse.specs.Reading.{Reads, Halts, is_next, said_field, said_structure, said_length};
 

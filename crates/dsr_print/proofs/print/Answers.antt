@@ -1,5 +1,5 @@
 use Rattle.std.proofs.Common.{sym, subst}
-use Rattle.dsr_text.specs.Parsing.{IsReprinted}
+use Rattle.dsr_syntax_theory.specs.Parsing.{IsReprinted}
 use Rattle.dsr_tree.specs.Trees.{tree_shape}
 use Rattle.dsr_print.proofs.Printed.{printed}
 use Rattle.dsr_print.proofs.Reprinting.{reprinted}

@@ -1,7 +1,7 @@
 use Rattle.std.proofs.Common.{subst, ◌∙◌}
 use Rattle.std.specs.Prelude.{Decides, IfOk}
-use Rattle.dsr_covering.specs.Atoms as marked
-use Rattle.dsr_planning.specs.Plans.{Covers}
+use Rattle.dsr_placement.specs.Atoms as marked
+use Rattle.dsr_plan_theory.specs.Plans.{Covers}
 use Rattle.dsr_cert.proofs.flaws.is_covered.Goals as goal
 
 pub returns : goal.returns

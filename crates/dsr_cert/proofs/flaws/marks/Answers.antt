@@ -1,7 +1,7 @@
 use Rattle.std.proofs.Common.{◌≡◌, ◌<◌, ◌++◌, [], ◌∷◌, List, map, length, get_or, ap, subst, ◌∙◌}
 use Rattle.dsr_cert.proofs.Tested.{marked_more}
 use Rattle.dsr_cert.specs.Searches.{is_test}
-use Rattle.dsr_planning.specs.declared.choices.Way.{Way}
+use Rattle.dsr_plan_theory.specs.declared.choices.Way.{Way}
 use Rattle.dsr_cert.proofs.flaws.marks.Goals as goal
 
 pub loop-ways-preserved : goal.loop-ways-preserved

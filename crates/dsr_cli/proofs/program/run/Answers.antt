@@ -1,6 +1,6 @@
 use Rattle.std.proofs.Common.{map, subst}
 use Rattle.std.specs.String.{string_bytes}
-use Rattle.dsr_asking.specs.Commands.{asked}
+use Rattle.dsr_command_theory.specs.Commands.{asked}
 use Rattle.dsr_script.specs.Causes.{Causes}
 use Rattle.dsr_script.specs.Outside.{told_by}
 use Rattle.dsr_script.specs.Runs.{Runs}

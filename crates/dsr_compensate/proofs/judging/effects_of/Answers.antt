@@ -3,9 +3,9 @@ use Rattle.dsr_compensate.proofs.Each.{take_length}
 use Rattle.dsr_compensate.proofs.Effects.{effects_more}
 use Rattle.dsr_compensate.proofs.Later.{take_next}
 use Rattle.dsr_compensate.specs.Taking.{AreEffectsOf}
-use Rattle.dsr_listing.specs.Owners.{change_of, goal_at}
-use Rattle.dsr_sides.specs.Judged.{IsEffectOf}
-use Rattle.dsr_sides.specs.Owned.{owner_of}
+use Rattle.dsr_graph_theory.specs.Owners.{change_of, goal_at}
+use Rattle.dsr_compensate.specs.Judged.{IsEffectOf}
+use Rattle.dsr_compensate.specs.Owned.{owner_of}
 use Rattle.dsr_compensate.proofs.judging.effects_of.Goals as goal
 
 pub loop-place-preserved : goal.loop-place-preserved

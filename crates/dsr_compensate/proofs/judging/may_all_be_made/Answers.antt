@@ -1,9 +1,9 @@
 use Rattle.std.proofs.Common.{◌≡◌, Some, slice_get, length, refl, sym, ap, subst, ◌∙◌, arith}
 use Rattle.std.proofs.lemmas.Bool.{false≢true}
 use Rattle.dsr_compensate.proofs.Each.{each_ends, each_more, item_at}
-use Rattle.dsr_listing.specs.Owners.{change_of, goal_at}
-use Rattle.dsr_listing.specs.Sides.{MayBeMade}
-use Rattle.dsr_sides.specs.Owned.{owner_of}
+use Rattle.dsr_graph_theory.specs.Owners.{change_of, goal_at}
+use Rattle.dsr_graph_theory.specs.Sides.{MayBeMade}
+use Rattle.dsr_compensate.specs.Owned.{owner_of}
 use Rattle.dsr_compensate.proofs.judging.may_all_be_made.Goals as goal
 
 pub returns-then-not-may_be_made : goal.returns-then-not-may_be_made

@@ -1,7 +1,7 @@
 use Rattle.dsr_compensate.proofs.Each.{EachBefore}
-use Rattle.dsr_listing.specs.Owners.{change_of, goal_at}
-use Rattle.dsr_listing.specs.Sides.{MayBeMade}
-use Rattle.dsr_sides.specs.Owned.{owner_of}
+use Rattle.dsr_graph_theory.specs.Owners.{change_of, goal_at}
+use Rattle.dsr_graph_theory.specs.Sides.{MayBeMade}
+use Rattle.dsr_compensate.specs.Owned.{owner_of}
 use Rattle.dsr_compensate.proofs.judging.may_all_be_made.Given as goal
 
 -- those so far can be made

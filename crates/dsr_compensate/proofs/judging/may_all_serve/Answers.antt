@@ -1,9 +1,9 @@
 use Rattle.std.proofs.Common.{refl, sym, ◌∙◌}
 use Rattle.std.proofs.lemmas.Bool.{false≢true}
 use Rattle.dsr_compensate.proofs.Each.{each_ends, each_more, item_at}
-use Rattle.dsr_listing.specs.Owners.{change_of, goal_at}
-use Rattle.dsr_listing.specs.Sides.{MayServe}
-use Rattle.dsr_sides.specs.Owned.{owner_of}
+use Rattle.dsr_graph_theory.specs.Owners.{change_of, goal_at}
+use Rattle.dsr_graph_theory.specs.Sides.{MayServe}
+use Rattle.dsr_compensate.specs.Owned.{owner_of}
 use Rattle.dsr_compensate.proofs.judging.may_all_serve.Goals as goal
 
 pub loop-place-preserved : goal.loop-place-preserved

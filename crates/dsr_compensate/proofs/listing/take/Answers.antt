@@ -3,7 +3,7 @@ use Rattle.std.proofs.lemmas.Bool.{false≢true}
 use Rattle.dsr_compensate.proofs.Taken.{kept_if, kept_made, kept_serves, listed_length, listed_more, taken_again, taken_full, taken_kept, taken_left, well_more}
 use Rattle.dsr_compensate.specs.Taking.{AreEffectsOf, AreTakenOf, AreWell, MayAllServe, templates_of}
 use Rattle.dsr_meaning.specs.Counting.{IsIn}
-use Rattle.dsr_sides.specs.Owned.{owner_of}
+use Rattle.dsr_compensate.specs.Owned.{owner_of}
 use Rattle.dsr_compensate.proofs.listing.take.Goals as goal
 
 pub returns-then-len-ge-MOST_TEMPLATES-clause-taken : goal.returns-then-len-ge-MOST_TEMPLATES-clause-taken

@@ -1,8 +1,8 @@
 use Rattle.std.proofs.Common.{◌++◌, List, take}
 use Rattle.dsr_compensate.specs.Taking.{AreTakenOf, AreWell, templates_of}
 use Rattle.dsr_ir.specs.declared.updates.Template.{Template}
-use Rattle.dsr_listing.specs.Lists.{with_one}
-use Rattle.dsr_sides.specs.Owned.{owner_of}
+use Rattle.dsr_graph_theory.specs.Lists.{with_one}
+use Rattle.dsr_compensate.specs.Owned.{owner_of}
 use Rattle.dsr_compensate.proofs.listing.take_ones.Given as goal
 
 abbrev pub invariant-loop-write : goal.invariant-loop-write

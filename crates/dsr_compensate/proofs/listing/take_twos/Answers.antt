@@ -1,6 +1,6 @@
 use Rattle.dsr_compensate.proofs.Pairs.{pairs_begin, pairs_end, pairs_next}
 use Rattle.dsr_compensate.specs.Taking.{AreTakenOf, templates_of}
-use Rattle.dsr_sides.specs.Owned.{owner_of}
+use Rattle.dsr_compensate.specs.Owned.{owner_of}
 use Rattle.dsr_compensate.proofs.listing.take_twos.Goals as goal
 
 pub loop-place-init : goal.loop-place-init

@@ -1,7 +1,7 @@
 use Rattle.std.proofs.Common.{List}
 use Rattle.dsr_compensate.proofs.Pairs.{ArePairsTaken}
 use Rattle.dsr_compensate.specs.Taking.{AreTakenOf, AreWell, templates_of}
-use Rattle.dsr_sides.specs.Owned.{owner_of}
+use Rattle.dsr_compensate.specs.Owned.{owner_of}
 use Rattle.dsr_compensate.proofs.listing.take_twos.Given as goal
 
 abbrev pub invariant-loop-place : goal.invariant-loop-place

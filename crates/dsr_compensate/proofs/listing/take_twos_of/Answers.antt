@@ -3,8 +3,8 @@ use Rattle.std.proofs.lemmas.List.{take_more}
 use Rattle.dsr_compensate.proofs.Later.{take_whole}
 use Rattle.dsr_compensate.proofs.GoneOver.{pass_on}
 use Rattle.dsr_compensate.specs.Taking.{AreTakenOf, templates_of}
-use Rattle.dsr_listing.specs.Lists.{compensated_by}
-use Rattle.dsr_sides.specs.Owned.{owner_of}
+use Rattle.dsr_graph_theory.specs.Lists.{compensated_by}
+use Rattle.dsr_compensate.specs.Owned.{owner_of}
 use Rattle.dsr_compensate.proofs.listing.take_twos_of.Goals as goal
 
 pub loop-later-preserved : goal.loop-later-preserved

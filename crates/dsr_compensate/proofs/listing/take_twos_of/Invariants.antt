@@ -1,7 +1,7 @@
 use Rattle.std.proofs.Common.{◌++◌, List, take}
 use Rattle.dsr_compensate.specs.Taking.{AreTakenOf, AreWell, templates_of, with_two_of}
 use Rattle.dsr_ir.specs.declared.updates.Template.{Template}
-use Rattle.dsr_sides.specs.Owned.{owner_of}
+use Rattle.dsr_compensate.specs.Owned.{owner_of}
 use Rattle.dsr_compensate.proofs.listing.take_twos_of.Given as goal
 
 abbrev pub invariant-loop-later : goal.invariant-loop-later

@@ -2,9 +2,9 @@ use Rattle.std.proofs.Common.{◌≡◌, ◌++◌, [], List, MatchOption, Some, 
 use Rattle.std.specs.List.{flat_map}
 use Rattle.dsr_compensate.proofs.Whole.{none_taken, taken_whole}
 use Rattle.dsr_compensate.specs.Taking.{AreTakenOf, ones_of, pairs_of, templates_of, twos_of}
-use Rattle.dsr_listing.specs.Lists.{AreCompensable, AreListed}
-use Rattle.dsr_sides.specs.Owned.{owner_of}
-use Rattle.dsr_updating.specs.Templates.{literal_at}
+use Rattle.dsr_graph_theory.specs.Lists.{AreCompensable, AreListed}
+use Rattle.dsr_compensate.specs.Owned.{owner_of}
+use Rattle.dsr_update_theory.specs.Templates.{literal_at}
 use Rattle.dsr_compensate.proofs.lists.listed.Goals as goal
 
 pub returns-clause-listed : goal.returns-clause-listed

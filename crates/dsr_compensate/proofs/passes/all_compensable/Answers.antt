@@ -2,8 +2,8 @@ use Rattle.std.proofs.Common.{◌≡◌, ◌++◌, [], ◌∷◌, length, take, 
 use Rattle.dsr_compensate.proofs.Later.{take_next, take_whole}
 use Rattle.dsr_compensate.proofs.GoneOver.{compensable_more, pairs_more_of}
 use Rattle.dsr_compensate.specs.Taking.{pairs_of}
-use Rattle.dsr_listing.specs.Lists.{AreCompensable, done}
-use Rattle.dsr_sides.specs.Owned.{owner_of}
+use Rattle.dsr_graph_theory.specs.Lists.{AreCompensable, done}
+use Rattle.dsr_compensate.specs.Owned.{owner_of}
 use Rattle.dsr_compensate.proofs.passes.all_compensable.Goals as goal
 
 pub loop-template-init : goal.loop-template-init

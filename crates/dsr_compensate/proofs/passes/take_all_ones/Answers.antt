@@ -3,8 +3,8 @@ use Rattle.std.specs.List.{flat_map}
 use Rattle.dsr_compensate.proofs.Later.{take_next, take_whole}
 use Rattle.dsr_compensate.proofs.GoneOver.{pass_flat, pass_on}
 use Rattle.dsr_compensate.specs.Taking.{AreTakenOf, ones_of, templates_of, twos_of}
-use Rattle.dsr_listing.specs.Lists.{with_one, with_two}
-use Rattle.dsr_sides.specs.Owned.{owner_of}
+use Rattle.dsr_graph_theory.specs.Lists.{with_one, with_two}
+use Rattle.dsr_compensate.specs.Owned.{owner_of}
 use Rattle.dsr_compensate.proofs.passes.take_all_ones.Goals as goal
 
 pub loop-compensable-preserved : goal.loop-compensable-preserved

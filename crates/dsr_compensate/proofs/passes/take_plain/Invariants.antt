@@ -2,7 +2,7 @@ use Rattle.std.proofs.Common.{◌++◌, List, map, take}
 use Rattle.std.specs.List.{flat_map}
 use Rattle.dsr_compensate.specs.Taking.{AreTakenOf, AreWell, ones_of, templates_of, twos_of}
 use Rattle.dsr_ir.specs.declared.updates.Template.{Template}
-use Rattle.dsr_sides.specs.Owned.{owner_of}
+use Rattle.dsr_compensate.specs.Owned.{owner_of}
 use Rattle.dsr_compensate.proofs.passes.take_plain.Given as goal
 
 abbrev pub invariant-loop-compensable : goal.invariant-loop-compensable

@@ -1,7 +1,7 @@
 use Rattle.std.proofs.Common.{◌≡◌, IfOk, Ok, Err, Result, Vec, Global, option_map, [], List, refl, sym, ap, subst, ◌∙◌}
 use Rattle.dsr_compensate.proofs.Later.{if_compensated}
-use Rattle.dsr_listing.specs.Candidates.{AreCompensations, none}
-use Rattle.dsr_sides.specs.Owned.{owner_of}
+use Rattle.dsr_graph_theory.specs.Candidates.{AreCompensations, none}
+use Rattle.dsr_compensate.specs.Owned.{owner_of}
 use Rattle.dsr_compensate.proofs.preventing.compensations.Goals as goal
 
 pub returns-in-Some : goal.returns-in-Some

@@ -1,8 +1,8 @@
 use Rattle.std.proofs.Common.{◌≡◌, ◌++◌, drop, map}
 use Rattle.dsr_compensate.specs.Preventing.{reads_field}
 use Rattle.dsr_meaning.specs.Lists.{any_of}
-use Rattle.dsr_updating.specs.Changes.{target_paths}
-use Rattle.dsr_updating.specs.Templates.{is_same_field}
+use Rattle.dsr_update_theory.specs.Changes.{target_paths}
+use Rattle.dsr_update_theory.specs.Templates.{is_same_field}
 use Rattle.dsr_compensate.proofs.preventing.reads_field.Given as goal
 
 abbrev pub invariant-loop-guard : goal.invariant-loop-guard

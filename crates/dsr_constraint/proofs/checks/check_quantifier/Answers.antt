@@ -1,7 +1,7 @@
 use Rattle.std.proofs.Common.{ap, sym}
 use Rattle.dsr_names.specs.Tables.{known_of}
-use Rattle.dsr_typing.specs.Constraints.{quantifier_faults}
-use Rattle.dsr_faults.proofs.Finding.{finds_same, finds_then, finds_when}
+use Rattle.dsr_language_theory.specs.Constraints.{quantifier_faults}
+use Rattle.dsr_names.proofs.Finding.{finds_same, finds_then, finds_when}
 use Rattle.dsr_constraint.proofs.checks.check_quantifier.Goals as goal
 
 pub returns-in-Some : goal.returns-in-Some

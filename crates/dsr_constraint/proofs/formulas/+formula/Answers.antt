@@ -1,5 +1,5 @@
 use Rattle.dsr_tree.proofs.TreeRows.{formula_is}
-use Rattle.dsr_faults.proofs.Finding.{finds_then}
+use Rattle.dsr_names.proofs.Finding.{finds_then}
 use Rattle.dsr_constraint.specs.Scoped.{scope_told}
 use Rattle.dsr_constraint.proofs.FormulaSteps.{finds_join, finds_unit}
 use Rattle.dsr_constraint.proofs.formulas.+formula.Goals as goal

@@ -1,5 +1,5 @@
 use Rattle.dsr_tree.proofs.TreeRows.{formula_is}
-use Rattle.dsr_faults.proofs.Finding.{finds_then}
+use Rattle.dsr_names.proofs.Finding.{finds_then}
 use Rattle.dsr_constraint.proofs.FormulaSteps.{finds_negated_join, finds_negated_unit}
 use Rattle.dsr_constraint.proofs.negations.+negation.Goals as goal
 

@@ -1,7 +1,7 @@
 use Rattle.std.proofs.Common.{map, take}
 use Rattle.dsr_tree.specs.Trees.{join_shape, unit_shape, in_joins, in_units}
-use Rattle.dsr_typing.specs.Constraints.{joins_negations, units_negations}
-use Rattle.dsr_faults.specs.Telling.{Finds}
+use Rattle.dsr_language_theory.specs.Constraints.{joins_negations, units_negations}
+use Rattle.dsr_names.specs.Telling.{Finds}
 use Rattle.dsr_constraint.proofs.negations.+negation.Given as goal
 
 abbrev pub invariant-check_joins_negations-loop-join : goal.invariant-check_joins_negations-loop-join

@@ -1,6 +1,6 @@
 use Rattle.std.proofs.Common.{map, refl, sym, ap, ◌∙◌}
 use Rattle.dsr_tree.specs.Trees.{join_shape, in_joins}
-use Rattle.dsr_typing.specs.Constraints.{joins_have_value}
+use Rattle.dsr_language_theory.specs.Constraints.{joins_have_value}
 use Rattle.dsr_constraint.proofs.FormulaSteps.{value_is}
 use Rattle.dsr_constraint.proofs.negations.+value.Goals as goal
 

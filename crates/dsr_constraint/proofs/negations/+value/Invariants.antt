@@ -1,6 +1,6 @@
 use Rattle.std.proofs.Common.{◌≡◌, map, drop}
 use Rattle.dsr_tree.specs.Trees.{join_shape, unit_shape, in_joins, in_units}
-use Rattle.dsr_typing.specs.Constraints.{joins_have_value, units_have_value}
+use Rattle.dsr_language_theory.specs.Constraints.{joins_have_value, units_have_value}
 use Rattle.dsr_constraint.proofs.negations.+value.Given as goal
 
 abbrev pub invariant-joins_have_value-loop-join : goal.invariant-joins_have_value-loop-join

@@ -1,11 +1,11 @@
 use Rattle.std.proofs.Common.{◌≡◌, sym, ap, ◌∙◌}
 use Rattle.dsr_names.specs.Tables.{known_of}
 use Rattle.dsr_tree.specs.Trees.{constraint_shape}
-use Rattle.dsr_typing.specs.Constraints.{refusal_faults}
-use Rattle.dsr_typing.specs.NormalForms.{refusal_of}
-use Rattle.dsr_typing.specs.TypedConstraints.{scope_of, typed_formula}
+use Rattle.dsr_language_theory.specs.Constraints.{refusal_faults}
+use Rattle.dsr_language_theory.specs.NormalForms.{refusal_of}
+use Rattle.dsr_language_theory.specs.TypedConstraints.{scope_of, typed_formula}
 use Rattle.dsr_normal.specs.Telling.{refusal_told}
-use Rattle.dsr_faults.proofs.Finding.{finds_same}
+use Rattle.dsr_names.proofs.Finding.{finds_same}
 use Rattle.dsr_constraint.specs.Scoped.{scope_told}
 use Rattle.dsr_constraint.proofs.Negated.{both_ok, told_found}
 use Rattle.dsr_constraint.proofs.typed.add_typed.Goals as goal

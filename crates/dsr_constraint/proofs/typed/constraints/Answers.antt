@@ -1,8 +1,8 @@
 use Rattle.std.proofs.Common.{◌≡◌, [], IfOk, IfErr, map, sym, subst}
-use Rattle.dsr_faults.specs.FaultsTold.{Tells}
+use Rattle.dsr_names.specs.FaultsTold.{Tells}
 use Rattle.dsr_tree.specs.Trees.{constraint_shape}
-use Rattle.dsr_typing.specs.Constraints.{constraints_faults}
-use Rattle.dsr_typing.specs.TypedConstraints.{typed_constraints}
+use Rattle.dsr_language_theory.specs.Constraints.{constraints_faults}
+use Rattle.dsr_language_theory.specs.TypedConstraints.{typed_constraints}
 use Rattle.dsr_constraint.specs.Widest.{CountRelations}
 use Rattle.dsr_constraint.proofs.Named.{relations_count}
 use Rattle.dsr_constraint.proofs.typed.constraints.Goals as goal

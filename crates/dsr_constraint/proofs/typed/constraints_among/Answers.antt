@@ -1,5 +1,5 @@
 use Rattle.std.proofs.Common.{◌≡◌, [], IfOk, IfErr, subst}
-use Rattle.dsr_faults.specs.FaultsTold.{Tells}
+use Rattle.dsr_names.specs.FaultsTold.{Tells}
 use Rattle.dsr_constraint.specs.Scoped.{faults_of_all, typed_of_all}
 use Rattle.dsr_constraint.proofs.typed.constraints_among.Goals as goal
 

@@ -1,8 +1,8 @@
 use Rattle.std.proofs.Common.{◌≡◌, None, IfOk, IfErr, OnOk, subst, ◌∙◌}
 use Rattle.std.proofs.lemmas.Result.{err_from_is_err_and, IfErr-weaker}
 use Rattle.dsr_tree.specs.Trees.{formula_shape}
-use Rattle.dsr_typing.specs.NormalForms.{normal_form, refusal_of}
-use Rattle.dsr_typing.specs.TypedConstraints.{typed_formula}
+use Rattle.dsr_language_theory.specs.NormalForms.{normal_form, refusal_of}
+use Rattle.dsr_language_theory.specs.TypedConstraints.{typed_formula}
 use Rattle.dsr_normal.specs.Telling.{refusal_told}
 use Rattle.std.specs.Prelude.{IsSome}
 use Rattle.dsr_constraint.specs.Scoped.{scope_told}

@@ -1,5 +1,5 @@
 use Rattle.std.proofs.Common.{◌≡◌, map, take}
-use Rattle.dsr_typing.specs.TypedConstraints.{without_complements}
+use Rattle.dsr_language_theory.specs.TypedConstraints.{without_complements}
 use Rattle.dsr_constraint.proofs.typed_forms.all_without_complements.Given as goal
 
 abbrev pub invariant-loop-conj : goal.invariant-loop-conj

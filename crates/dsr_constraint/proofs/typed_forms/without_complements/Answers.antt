@@ -1,6 +1,6 @@
 use Rattle.std.proofs.Common.{map, ap, ◌∙◌}
 use Rattle.std.proofs.lemmas.List.{take_all}
-use Rattle.dsr_typing.specs.TypedConstraints.{without_complement}
+use Rattle.dsr_language_theory.specs.TypedConstraints.{without_complement}
 use Rattle.dsr_constraint.proofs.Mapped.{map_push_at}
 use Rattle.dsr_constraint.proofs.typed_forms.without_complements.Goals as goal
 

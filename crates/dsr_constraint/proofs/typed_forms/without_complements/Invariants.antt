@@ -1,5 +1,5 @@
 use Rattle.std.proofs.Common.{◌≡◌, map, take}
-use Rattle.dsr_typing.specs.TypedConstraints.{without_complement}
+use Rattle.dsr_language_theory.specs.TypedConstraints.{without_complement}
 use Rattle.dsr_constraint.proofs.typed_forms.without_complements.Given as goal
 
 abbrev pub invariant-loop-literal : goal.invariant-loop-literal

@@ -5,7 +5,7 @@ use Rattle.dsr_ir.proofs.Rows.{row_shapes-hidden}
 use Rattle.dsr_tree.specs.declared.tree.Formula.{out-Formula}
 use Rattle.dsr_tree.specs.Trees.{join_shape, unit_shape, in_joins, in_units}
 use Rattle.dsr_tree.proofs.TreeRows.{formula_is}
-use Rattle.dsr_typing.specs.TypedConstraints.{typed_formula, typed_joins, typed_join, typed_units, typed_unit}
+use Rattle.dsr_language_theory.specs.TypedConstraints.{typed_formula, typed_joins, typed_join, typed_units, typed_unit}
 use Rattle.dsr_constraint.specs.Scoped.{scope_told}
 use Rattle.dsr_constraint.proofs.FormulaSteps.{joins_typed, units_typed}
 use Rattle.dsr_constraint.proofs.Mapped.{map_next}

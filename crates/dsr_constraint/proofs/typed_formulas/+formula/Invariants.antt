@@ -1,7 +1,7 @@
 use Rattle.std.proofs.Common.{◌≡◌, ◌∷◌, map, take}
 use Rattle.dsr_ir.specs.Formulas.{formula_shape}
 use Rattle.dsr_tree.specs.Trees.{join_shape, unit_shape}
-use Rattle.dsr_typing.specs.TypedConstraints.{typed_join, typed_unit}
+use Rattle.dsr_language_theory.specs.TypedConstraints.{typed_join, typed_unit}
 use Rattle.dsr_constraint.specs.Scoped.{scope_told}
 use Rattle.dsr_constraint.proofs.typed_formulas.+formula.Given as goal
 

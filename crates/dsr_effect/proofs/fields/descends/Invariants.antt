@@ -2,8 +2,8 @@ use Rattle.std.proofs.Common.{◌≡◌, suc}
 use Rattle.std.specs.Prelude.{nat_eq}
 use Rattle.std.specs.Option.{option_map_or}
 use Rattle.dsr_meaning.specs.Lists.{any_of}
-use Rattle.dsr_updating.specs.Changes.{descends}
-use Rattle.dsr_apart.proofs.Descending.{line}
+use Rattle.dsr_update_theory.specs.Changes.{descends}
+use Rattle.dsr_layout_laws.proofs.Descending.{line}
 use Rattle.dsr_effect.proofs.fields.descends.Given as goal
 
 -- what is left of the line tells

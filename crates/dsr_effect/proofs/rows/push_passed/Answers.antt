@@ -3,7 +3,7 @@ use Rattle.std.proofs.Common.{[], ◌∷◌, ◌++◌, refl, false, ap, ◌∙�
 use Rattle.dsr_effect.specs.Table.{row_number}
 use Rattle.dsr_effect.specs.Told.{change_of}
 use Rattle.dsr_effect.specs.declared.flows.Flow.{Flow}
-use Rattle.dsr_updating.specs.declared.effects.Direction.TheVariants.{Gain, Loss}
+use Rattle.dsr_update_theory.specs.declared.effects.Direction.TheVariants.{Gain, Loss}
 use Rattle.dsr_effect.proofs.FlowLists.{gain_passing, loss_passing}
 use Rattle.dsr_effect.proofs.rows.push_passed.Goals as goal
 

@@ -1,5 +1,5 @@
 use Rattle.std.proofs.Common.{◌++◌, ◌∙◌, ap}
-use Rattle.dsr_updating.specs.Facts.{complement_by}
+use Rattle.dsr_update_theory.specs.Facts.{complement_by}
 use Rattle.dsr_facts.proofs.Taking.{each_more}
 use Rattle.dsr_facts.proofs.gathering.complements.Goals as goal
 

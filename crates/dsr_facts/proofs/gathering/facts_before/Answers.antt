@@ -1,7 +1,7 @@
 use Rattle.std.proofs.Common.{◌++◌, ◌∙◌, ap, append_assoc, take}
 use Rattle.std.specs.List.{flat_map}
 use Rattle.dsr_meaning.specs.Lists.{each_at}
-use Rattle.dsr_updating.specs.Facts as said
+use Rattle.dsr_update_theory.specs.Facts as said
 use Rattle.dsr_facts.proofs.Taking.{flat_more, each_more}
 use Rattle.dsr_facts.proofs.gathering.facts_before.Goals as goal
 

@@ -2,7 +2,7 @@ use Rattle.std.proofs.Common.{rules, tests}
 use Rattle.std.proofs.lemmas.Iterator.{YieldsList-from_slice, cases_from_all}
 use Rattle.std.proofs.lemmas.Iterator.Consumers.{YieldsList-from_filter}
 use Rattle.dsr_ir.specs.Rules.{gives}
-use Rattle.dsr_updating.specs.KnownSets.{GivesMembersOf}
+use Rattle.dsr_update_theory.specs.KnownSets.{GivesMembersOf}
 use Rattle.dsr_facts.proofs.Givers.{given_decides}
 use Rattle.dsr_facts.proofs.memberships.all_give_members.Goals as goal
 

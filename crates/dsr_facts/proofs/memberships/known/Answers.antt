@@ -1,5 +1,5 @@
 use Rattle.std.proofs.Common.{◌≡◌, ◌+◌, ◌++◌, ◌∙◌, [], ◌∷◌, ap, sym, subst, arith}
-use Rattle.dsr_updating.specs.KnownSets.{IsKnown}
+use Rattle.dsr_update_theory.specs.KnownSets.{IsKnown}
 use Rattle.dsr_facts.proofs.Following.{known_declared}
 use Rattle.dsr_facts.proofs.Listing.{IsListed, all_listed, listed_more, listed_same, none_listed}
 use Rattle.dsr_facts.proofs.memberships.known.Goals as goal

@@ -1,5 +1,5 @@
 use Rattle.std.proofs.Common.{◌≡◌, drop}
-use Rattle.dsr_updating.specs.Templates.{accept_slot}
+use Rattle.dsr_update_theory.specs.Templates.{accept_slot}
 use Rattle.dsr_goal.proofs.adding.accept_slot.Given as goal
 
 abbrev pub invariant-loop-guard : goal.invariant-loop-guard

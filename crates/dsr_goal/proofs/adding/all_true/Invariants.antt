@@ -1,5 +1,5 @@
 use Rattle.std.proofs.Common.{◌≡◌, ◌++◌, drop, option_map}
-use Rattle.dsr_updating.specs.Templates.{all_true}
+use Rattle.dsr_update_theory.specs.Templates.{all_true}
 use Rattle.dsr_goal.proofs.adding.all_true.Given as goal
 
 abbrev pub invariant-loop-place : goal.invariant-loop-place

@@ -1,6 +1,6 @@
 use Rattle.std.proofs.Common.{sym, ap, ◌∙◌}
 use Rattle.std.proofs.lemmas.List.{take_all}
-use Rattle.dsr_updating.specs.Templates.{others}
+use Rattle.dsr_update_theory.specs.Templates.{others}
 use Rattle.dsr_goal.proofs.Writes.{others_skips, others_keeps}
 use Rattle.dsr_goal.proofs.adding.others.Goals as goal
 use Rattle.dsr_goal.proofs.adding.others.Goals.{then-not-is_on+in_ok-push, else-not-is_on}

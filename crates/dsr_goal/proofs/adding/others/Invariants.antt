@@ -1,5 +1,5 @@
 use Rattle.std.proofs.Common.{◌≡◌, take}
-use Rattle.dsr_updating.specs.Templates.{others}
+use Rattle.dsr_update_theory.specs.Templates.{others}
 use Rattle.dsr_goal.proofs.adding.others.Given as goal
 
 abbrev pub invariant-loop-guard : goal.invariant-loop-guard

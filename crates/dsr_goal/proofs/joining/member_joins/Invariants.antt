@@ -2,7 +2,7 @@ use Rattle.std.proofs.Common.{◌≡◌, take, [], if◌then◌else◌}
 use Rattle.dsr_ir.specs.Rules.{gives}
 use Rattle.dsr_ir.specs.declared.updates.Symbol.TheVariants.{Set}
 use Rattle.dsr_meaning.specs.Lists.{each_at}
-use Rattle.dsr_updating.specs.Templates.{joins_by}
+use Rattle.dsr_update_theory.specs.Templates.{joins_by}
 use Rattle.dsr_goal.specs.Knowing.{known_by}
 use Rattle.dsr_goal.proofs.joining.member_joins.Given as goal
 

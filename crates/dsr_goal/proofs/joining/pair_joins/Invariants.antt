@@ -2,7 +2,7 @@ use Rattle.std.proofs.Common.{◌≡◌, take, [], if◌then◌else◌}
 use Rattle.dsr_ir.specs.Rules.{gives}
 use Rattle.dsr_ir.specs.declared.updates.Symbol.TheVariants.{Rel}
 use Rattle.dsr_meaning.specs.Lists.{each_at}
-use Rattle.dsr_updating.specs.Templates.{relates_by}
+use Rattle.dsr_update_theory.specs.Templates.{relates_by}
 use Rattle.dsr_goal.specs.Knowing.{known_by}
 use Rattle.dsr_goal.proofs.joining.pair_joins.Given as goal
 

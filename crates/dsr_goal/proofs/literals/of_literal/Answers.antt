@@ -1,7 +1,7 @@
 use Rattle.std.proofs.Common.{IfOk, sym, subst}
 use Rattle.dsr_ir.specs.declared.constraints.Atom.{Atom}
 use Rattle.dsr_ir.specs.declared.constraints.Atom.TheVariants as atoms
-use Rattle.dsr_updating.specs.Templates.{AreTemplates}
+use Rattle.dsr_update_theory.specs.Templates.{AreTemplates}
 use Rattle.dsr_goal.specs.Knowing.{known_by}
 use Rattle.dsr_goal.proofs.Results.{at_item}
 use Rattle.dsr_goal.proofs.literals.of_literal.Goals as goal

@@ -1,5 +1,5 @@
 use Rattle.std.proofs.Common.{◌≡◌, take}
-use Rattle.dsr_updating.specs.Templates.{with_trims}
+use Rattle.dsr_update_theory.specs.Templates.{with_trims}
 use Rattle.dsr_goal.proofs.literals.with_trims.Given as goal
 
 abbrev pub invariant-loop-supply : goal.invariant-loop-supply

@@ -1,5 +1,5 @@
 use Rattle.std.proofs.Common.{false, ap, sym, ◌∙◌}
-use Rattle.dsr_updating.specs.Guards.{guard_write}
+use Rattle.dsr_update_theory.specs.Guards.{guard_write}
 use Rattle.dsr_goal.proofs.Givers.{filter_more, filter_same}
 use Rattle.dsr_goal.proofs.options.options.Goals as goal
 use Rattle.dsr_goal.proofs.options.options.Goals.{in-Some+in_ok-push, in_default}

@@ -1,6 +1,6 @@
 use Rattle.std.proofs.Common.{◌≡◌, false, take}
 use Rattle.std.specs.List.{filter_map}
-use Rattle.dsr_updating.specs.Guards.{guard_write}
+use Rattle.dsr_update_theory.specs.Guards.{guard_write}
 use Rattle.dsr_goal.proofs.options.options.Given as goal
 
 abbrev pub invariant-loop-guard : goal.invariant-loop-guard

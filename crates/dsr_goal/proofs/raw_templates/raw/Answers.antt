@@ -1,7 +1,7 @@
 use Rattle.std.proofs.Common.{◌≡◌, [], IfOk, MatchOption, sym, subst}
 use Rattle.dsr_meaning.specs.Typed.{IsTypedConstraint}
 use Rattle.dsr_meaning.proofs.Firing.{found_fits}
-use Rattle.dsr_updating.specs.Templates.{AreRawOf}
+use Rattle.dsr_update_theory.specs.Templates.{AreRawOf}
 use Rattle.dsr_goal.proofs.Givers.{item_at}
 use Rattle.dsr_goal.proofs.raw_templates.raw.Goals as goal
 

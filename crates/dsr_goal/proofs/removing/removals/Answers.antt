@@ -1,6 +1,6 @@
 use Rattle.std.proofs.Common.{ℕ, [], IfOk, Bor, map, ap, subst, ◌∙◌}
 use Rattle.dsr_ir.specs.declared.rules.Rule.{Rule}
-use Rattle.dsr_updating.specs.Templates.{AreOnce}
+use Rattle.dsr_update_theory.specs.Templates.{AreOnce}
 use Rattle.dsr_goal.proofs.Removed.{removals_same}
 use Rattle.dsr_goal.proofs.removing.removals.Goals as goal
 

@@ -1,7 +1,7 @@
 use Rattle.std.proofs.Common.{◌≡◌, ◌+◌, [], sym, subst, ◌∙◌, ap, map, arith}
 use Rattle.std.specs.List.{range_with_len}
 use Rattle.dsr_meaning.specs.Counting.{IsIn}
-use Rattle.dsr_updating.specs.Templates.{AreOnce}
+use Rattle.dsr_update_theory.specs.Templates.{AreOnce}
 use Rattle.dsr_goal.specs.Removing.{template_at}
 use Rattle.dsr_goal.proofs.Removed.{none_once, all_once, seen_more, new_more}
 use Rattle.dsr_goal.proofs.removing.templates.Goals as goal

@@ -1,7 +1,7 @@
 use Rattle.std.proofs.Common.{[], map}
 use Rattle.std.specs.List.{range_with_len}
 use Rattle.dsr_goal.specs.Removing.{template_at}
-use Rattle.dsr_updating.specs.Templates.{AreOnce}
+use Rattle.dsr_update_theory.specs.Templates.{AreOnce}
 use Rattle.dsr_goal.proofs.removing.templates.Given as goal
 
 abbrev pub invariant-loop-number : goal.invariant-loop-number

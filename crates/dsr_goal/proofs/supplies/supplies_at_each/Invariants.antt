@@ -1,6 +1,6 @@
 use Rattle.std.proofs.Common.{◌≡◌, take}
 use Rattle.std.specs.List.{flat_map}
-use Rattle.dsr_updating.specs.Templates.{supplies_by}
+use Rattle.dsr_update_theory.specs.Templates.{supplies_by}
 use Rattle.dsr_goal.specs.Knowing.{known_by}
 use Rattle.dsr_goal.proofs.supplies.supplies_at_each.Given as goal
 

@@ -2,8 +2,8 @@ use Rattle.std.proofs.Common.{◌≡◌, ◌&&◌, take, [], is_some, option_and
 use Rattle.dsr_ir.specs.Rules.{gives}
 use Rattle.dsr_ir.specs.declared.updates.Symbol.TheVariants.{Rel}
 use Rattle.dsr_meaning.specs.Lists.{each_at}
-use Rattle.dsr_updating.specs.Givers.{is_own}
-use Rattle.dsr_updating.specs.Templates.{supplies_by}
+use Rattle.dsr_update_theory.specs.Givers.{is_own}
+use Rattle.dsr_update_theory.specs.Templates.{supplies_by}
 use Rattle.dsr_goal.specs.Knowing.{known_by}
 use Rattle.dsr_goal.proofs.supplies.target_supplies.Given as goal
 

@@ -1,7 +1,7 @@
 use Rattle.std.proofs.Common.{◌≡◌, drop, [], ◌∷◌, option_map, if◌then◌else◌}
 use Rattle.dsr_ir.specs.Rules.{gives}
 use Rattle.dsr_meaning.specs.Lists.{each_at}
-use Rattle.dsr_updating.specs.Givers.{givers}
+use Rattle.dsr_update_theory.specs.Givers.{givers}
 use Rattle.dsr_goal.specs.Raws.{only}
 use Rattle.dsr_goal.proofs.Only.{only_of}
 use Rattle.dsr_goal.proofs.values.only_giver.Given as goal

@@ -1,5 +1,5 @@
 use Rattle.std.proofs.Common.{sym, subst}
-use Rattle.dsr_breaking.specs.Breaks.{Breaks}
+use Rattle.dsr_graph_theory.specs.Breaks.{Breaks}
 use Rattle.dsr_graph.proofs.Telling.{breaks_told}
 use Rattle.dsr_graph.specs.Graphs.{owner_at}
 use Rattle.dsr_graph.proofs.asking.breaks.Goals as goal

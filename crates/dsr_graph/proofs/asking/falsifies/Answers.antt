@@ -1,10 +1,10 @@
 use Rattle.std.proofs.Common.{◌≡◌, ◌<◌, None, Some, sym, ap, subst, ◌∙◌, arith}
 use Rattle.std.specs.Result.{result_ok}
 use Rattle.std.proofs.lemmas.Result.{Ok-from_Ok_iff}
-use Rattle.dsr_breaking.specs.Breaks.{Falsifies}
+use Rattle.dsr_graph_theory.specs.Breaks.{Falsifies}
 use Rattle.dsr_graph.proofs.Telling.{falsifies_told, few_told}
 use Rattle.dsr_graph.specs.Graphs.{IsOwnerIn, falsified_in}
-use Rattle.dsr_listing.specs.Owners.{Owner}
+use Rattle.dsr_graph_theory.specs.Owners.{Owner}
 use Rattle.dsr_graph.proofs.asking.falsifies.Goals as goal
 
 pub returns-in-Some : goal.returns-in-Some

@@ -1,6 +1,6 @@
 use Rattle.std.proofs.Common.{eqb, refl}
 use Rattle.std.proofs.lemmas.Bool.Decides.{Decides-eqb}
-use Rattle.dsr_edges.proofs.Deciding.{found_if}
+use Rattle.dsr_graph.proofs.Deciding.{found_if}
 use Rattle.dsr_goal.proofs.Once.{tells_new}
 use Rattle.dsr_graph.proofs.asking.is_among.Goals as goal
 

@@ -1,7 +1,7 @@
 use Rattle.std.proofs.Common.{sym, ap, subst, ◌∙◌}
 use Rattle.dsr_graph.proofs.Found.{ways_listed, ways_only}
 use Rattle.dsr_graph.specs.Graphs.{templates_of}
-use Rattle.dsr_listing.specs.Lists.{AreListedOf}
+use Rattle.dsr_graph_theory.specs.Lists.{AreListedOf}
 use Rattle.dsr_graph.proofs.asking.ways.Goals as goal
 
 pub returns : goal.returns

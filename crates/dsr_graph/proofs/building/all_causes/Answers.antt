@@ -1,9 +1,9 @@
 use Rattle.std.proofs.Common.{[], false, sym, subst, All}
-use Rattle.dsr_breaking.specs.Causes.{constraint_causes}
-use Rattle.dsr_edges.specs.Told.{IsOfDeclared}
+use Rattle.dsr_graph_theory.specs.Causes.{constraint_causes}
+use Rattle.dsr_graph.specs.Told.{IsOfDeclared}
 use Rattle.dsr_graph.proofs.Paired.{paired_all, paired_push}
 use Rattle.dsr_graph.specs.Asking.{AreCausesOf}
-use Rattle.dsr_updating.specs.Templates.{AreOnce}
+use Rattle.dsr_update_theory.specs.Templates.{AreOnce}
 use Rattle.dsr_graph.proofs.building.all_causes.Goals as goal
 
 pub loop-constraint-preserved : goal.loop-constraint-preserved

@@ -1,10 +1,10 @@
 use Rattle.std.proofs.Common.{subst, ap, arith}
 use Rattle.dsr_compensate.proofs.Each.{item_at}
-use Rattle.dsr_edges.specs.Told.{TellsExcuses}
+use Rattle.dsr_graph.specs.Told.{TellsExcuses}
 use Rattle.dsr_graph.proofs.Paired.{paired_back, paired_step, paired_whole}
 use Rattle.dsr_graph.specs.Asking.{IsOwnerAt}
 use Rattle.dsr_graph.specs.Graphs.{owner_at}
-use Rattle.dsr_sides.specs.Owned.{owner_of}
+use Rattle.dsr_compensate.specs.Owned.{owner_of}
 use Rattle.dsr_graph.proofs.building.all_excuses.Goals as goal
 
 pub new-requires-clause-other_sound : goal.new-requires-clause-other_sound

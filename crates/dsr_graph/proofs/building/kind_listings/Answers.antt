@@ -1,6 +1,6 @@
 use Rattle.std.proofs.Common.{sym, subst}
 use Rattle.dsr_graph.specs.Asking.{AllExcuses, AreOwnCauses}
-use Rattle.dsr_sides.specs.Owned.{owner_of}
+use Rattle.dsr_compensate.specs.Owned.{owner_of}
 use Rattle.dsr_graph.proofs.building.kind_listings.Goals as goal
 
 pub listings-requires : goal.listings-requires

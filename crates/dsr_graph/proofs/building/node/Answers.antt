@@ -1,7 +1,7 @@
 use Rattle.std.proofs.Common.{All, subst, sym, ◌∙◌}
 use Rattle.dsr_graph.specs.Graphs.{AreListingsOf}
 use Rattle.dsr_graph.specs.Kinds.{AreKindsOf, IsFirstIn}
-use Rattle.dsr_sides.specs.Owned.{owner_of}
+use Rattle.dsr_compensate.specs.Owned.{owner_of}
 use Rattle.dsr_graph.proofs.building.node.Goals as goal
 
 pub kind_listings-requires : goal.kind_listings-requires

@@ -1,11 +1,11 @@
 use Rattle.std.proofs.Common.{sym, ap, subst, ◌∙◌, arith}
 use Rattle.dsr_compensate.proofs.Each.{item_at}
-use Rattle.dsr_edges.specs.Told.{AreFactsOf}
+use Rattle.dsr_graph.specs.Told.{AreFactsOf}
 use Rattle.dsr_graph.proofs.Paired.{paired_back, paired_step, paired_whole}
 use Rattle.dsr_graph.specs.Asking.{AreCausesOf, AreFactsAt, IsOwnerAt}
 use Rattle.dsr_graph.specs.Graphs.{IsNodeOf, owner_at}
 use Rattle.dsr_graph.specs.Paired.{ArePaired}
-use Rattle.dsr_updating.specs.Facts.{from}
+use Rattle.dsr_update_theory.specs.Facts.{from}
 use Rattle.dsr_graph.proofs.building.of_owners.Goals as goal
 
 pub node-requires-clause-sound : goal.node-requires-clause-sound

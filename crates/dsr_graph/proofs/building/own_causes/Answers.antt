@@ -1,8 +1,8 @@
 use Rattle.std.proofs.Common.{All, sym, subst, ◌∙◌, refl}
-use Rattle.dsr_edges.specs.Told.{IsOfDeclared}
+use Rattle.dsr_graph.specs.Told.{IsOfDeclared}
 use Rattle.dsr_graph.proofs.Paired.{paired_all, paired_step}
 use Rattle.dsr_graph.specs.Asking.{AreOwnCausesOf}
-use Rattle.dsr_sides.proofs.Standing.{item_got}
+use Rattle.dsr_compensate.proofs.Standing.{item_got}
 use Rattle.dsr_graph.proofs.building.own_causes.Goals as goal
 
 pub loop-first-preserved : goal.loop-first-preserved

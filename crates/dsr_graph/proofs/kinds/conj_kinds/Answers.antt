@@ -3,7 +3,7 @@ use Rattle.std.specs.Prelude.{option_and_then}
 use Rattle.dsr_graph.proofs.Growing.{grown_all, grown_kept, kept_then, numbered_kept}
 use Rattle.dsr_graph.proofs.Paired.{paired_all, paired_step}
 use Rattle.dsr_graph.specs.Kinds.{HasKind, IsFirstIn}
-use Rattle.dsr_sides.proofs.Standing.{item_got}
+use Rattle.dsr_compensate.proofs.Standing.{item_got}
 use Rattle.dsr_graph.proofs.kinds.conj_kinds.Goals as goal
 
 pub loop-place-preserved : goal.loop-place-preserved

@@ -2,7 +2,7 @@ use Rattle.std.proofs.Common.{◌≡◌, take, map}
 use Rattle.std.specs.List.{position_from}
 use Rattle.std.specs.Str.{bytes_eq}
 use Rattle.indexmap.specs.IndexMap.{get}
-use Rattle.dsr_typing.specs.Known.{has_field_name}
+use Rattle.dsr_language_theory.specs.Known.{has_field_name}
 use Rattle.dsr_names.proofs.tables.own_fields.Given as goal
 
 abbrev pub invariant-loop-structure : goal.invariant-loop-structure

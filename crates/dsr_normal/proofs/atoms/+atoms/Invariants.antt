@@ -1,6 +1,6 @@
 use Rattle.std.proofs.Common.{◌≡◌, map, take}
 use Rattle.dsr_ir.specs.Formulas.{formula_shape, in_row}
-use Rattle.dsr_typing.specs.NormalForms.{row_atoms}
+use Rattle.dsr_language_theory.specs.NormalForms.{row_atoms}
 use Rattle.dsr_normal.proofs.atoms.+atoms.Given as goal
 
 abbrev pub invariant-parts_atoms-loop-part : goal.invariant-parts_atoms-loop-part

@@ -1,5 +1,5 @@
 use Rattle.std.proofs.Common.{◌≡◌, length, ap, ◌∙◌, arith}
-use Rattle.dsr_typing.specs.NormalForms.{different}
+use Rattle.dsr_language_theory.specs.NormalForms.{different}
 use Rattle.dsr_normal.proofs.AtomLists.{one_too_many, seen_more, seen_again, seen_all}
 use Rattle.dsr_normal.proofs.atoms.are_many.Goals as goal
 use Rattle.dsr_normal.proofs.atoms.are_many.Goals.{then-not-is_among+else-len-eq-MOST_ATOMS+in_ok-push, else-not-is_among}

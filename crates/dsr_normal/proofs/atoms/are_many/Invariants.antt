@@ -1,5 +1,5 @@
 use Rattle.std.proofs.Common.{◌≡◌, ◌≤◌, [], length, drop}
-use Rattle.dsr_typing.specs.NormalForms.{different}
+use Rattle.dsr_language_theory.specs.NormalForms.{different}
 use Rattle.dsr_normal.proofs.atoms.are_many.Given as goal
 
 abbrev pub invariant-loop-atom : goal.invariant-loop-atom

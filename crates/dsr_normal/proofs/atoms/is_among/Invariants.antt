@@ -1,5 +1,5 @@
 use Rattle.std.proofs.Common.{◌≡◌, drop}
-use Rattle.dsr_typing.specs.NormalForms.{has_atom}
+use Rattle.dsr_language_theory.specs.NormalForms.{has_atom}
 use Rattle.dsr_normal.proofs.atoms.is_among.Given as goal
 
 abbrev pub invariant-loop-other : goal.invariant-loop-other

@@ -1,5 +1,5 @@
 use Rattle.std.proofs.Common.{sym, ap, ◌++◌, ◌∙◌}
-use Rattle.dsr_typing.specs.NormalForms.{joined}
+use Rattle.dsr_language_theory.specs.NormalForms.{joined}
 use Rattle.dsr_normal.specs.Literals.{literals_of}
 use Rattle.dsr_normal.proofs.Conjunctions.{literals_append}
 use Rattle.dsr_normal.proofs.Rows.{any_shape, every_shape, any_step, every_step}

@@ -1,5 +1,5 @@
 use Rattle.std.proofs.Common.{◌≡◌, take}
-use Rattle.dsr_typing.specs.NormalForms.{joined}
+use Rattle.dsr_language_theory.specs.NormalForms.{joined}
 use Rattle.dsr_normal.specs.Literals.{literals_of}
 use Rattle.dsr_normal.proofs.building.joined_conjs.Given as goal
 

@@ -1,5 +1,5 @@
 use Rattle.std.proofs.Common.{false, map, ap, ◌∙◌}
-use Rattle.dsr_typing.specs.NormalForms.{conj_of, distributed, one_holds}
+use Rattle.dsr_language_theory.specs.NormalForms.{conj_of, distributed, one_holds}
 use Rattle.dsr_normal.proofs.Conjunctions.{restored}
 use Rattle.dsr_normal.proofs.Saying.{says}
 use Rattle.dsr_normal.proofs.normalizing.normal.Goals as goal

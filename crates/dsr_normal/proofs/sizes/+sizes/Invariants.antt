@@ -1,6 +1,6 @@
 use Rattle.std.proofs.Common.{◌≡◌, map, take}
 use Rattle.dsr_ir.specs.Formulas.{formula_shape, in_row}
-use Rattle.dsr_typing.specs.NormalForms.{any_row, every_row}
+use Rattle.dsr_language_theory.specs.NormalForms.{any_row, every_row}
 use Rattle.dsr_normal.specs.Sizes.{size_of}
 use Rattle.dsr_normal.proofs.sizes.+sizes.Given as goal
 

@@ -1,5 +1,5 @@
 use Rattle.std.proofs.Common.{sym, ap, ◌∙◌}
-use Rattle.dsr_typing.specs.NormalForms.{negates}
+use Rattle.dsr_language_theory.specs.NormalForms.{negates}
 use Rattle.dsr_normal.proofs.Rows.{any_shape, every_shape}
 use Rattle.dsr_normal.proofs.values.+values.Goals as goal
 

@@ -1,5 +1,5 @@
 use Rattle.std.proofs.Common.{◌-◌, length, inl, inr}
-use Rattle.dsr_text.specs.Sentences.{IsUnexpected, IsPastLimit}
+use Rattle.dsr_syntax_theory.specs.Sentences.{IsUnexpected, IsPastLimit}
 use Rattle.dsr_parse.proofs.Sentences.{stops_within, exceeds_within, exceeds_some}
 use Rattle.dsr_parse.proofs.Texts.{unexpected_end, unexpected_left, past_limit_left, no_token}
 use Rattle.dsr_parse.proofs.Told.{at_found, at_end}

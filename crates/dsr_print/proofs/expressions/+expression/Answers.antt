@@ -1,6 +1,6 @@
 use Rattle.std.proofs.lemmas.Result.{on_ok_weaker}
 use Rattle.dsr_tree.specs.Trees.{more_term_shape, more_factor_shape}
-use Rattle.dsr_text.specs.TreeTexts.{more_term_text, more_factor_text}
+use Rattle.dsr_syntax_theory.specs.TreeTexts.{more_term_text, more_factor_text}
 use Rattle.dsr_print.proofs.Steps.{adds_then, adds_shape}
 use Rattle.dsr_print.proofs.Rows.{expr_is, term_is, more_term_is}
 use Rattle.dsr_print.proofs.expressions.+expression.Goals as goal

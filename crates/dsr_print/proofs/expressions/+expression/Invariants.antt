@@ -1,7 +1,7 @@
 use Rattle.std.proofs.Common.{map, take}
 use Rattle.dsr_tree.specs.Trees.{more_term_shape, more_factor_shape}
-use Rattle.dsr_text.specs.Phrases.{in_turn}
-use Rattle.dsr_text.specs.TreeTexts.{more_term_text, more_factor_text}
+use Rattle.dsr_syntax_theory.specs.Phrases.{in_turn}
+use Rattle.dsr_syntax_theory.specs.TreeTexts.{more_term_text, more_factor_text}
 use Rattle.dsr_print.specs.Writing.{Adds}
 use Rattle.dsr_print.proofs.expressions.+expression.Given as goal
 

@@ -1,6 +1,6 @@
 use Rattle.std.proofs.Common.{map, take}
 use Rattle.dsr_tree.specs.Trees.{join_shape, unit_shape}
-use Rattle.dsr_text.specs.Phrases.{in_turn}
+use Rattle.dsr_syntax_theory.specs.Phrases.{in_turn}
 use Rattle.dsr_print.specs.Writing.{Adds, behind_or, behind_and}
 use Rattle.dsr_print.proofs.formulas.+formula.Given as goal
 

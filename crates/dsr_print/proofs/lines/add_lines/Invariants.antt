@@ -1,5 +1,5 @@
 use Rattle.std.proofs.Common.{◌≡◌, ◌++◌, take}
-use Rattle.dsr_text.specs.Canonical.{lines_of}
+use Rattle.dsr_syntax_theory.specs.Canonical.{lines_of}
 use Rattle.dsr_print.proofs.lines.add_lines.Given as goal
 
 abbrev pub invariant-loop-item : goal.invariant-loop-item

@@ -1,6 +1,6 @@
 use Rattle.std.proofs.Common.{take}
-use Rattle.dsr_text.specs.Phrases.{in_turn}
-use Rattle.dsr_text.specs.TreeTexts.{more_name_text}
+use Rattle.dsr_syntax_theory.specs.Phrases.{in_turn}
+use Rattle.dsr_syntax_theory.specs.TreeTexts.{more_name_text}
 use Rattle.dsr_print.specs.Writing.{Adds}
 use Rattle.dsr_print.proofs.pools.add_more_names.Given as goal
 

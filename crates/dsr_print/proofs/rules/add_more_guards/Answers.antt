@@ -1,4 +1,4 @@
-use Rattle.dsr_text.specs.TreeTexts.{more_guard_text}
+use Rattle.dsr_syntax_theory.specs.TreeTexts.{more_guard_text}
 use Rattle.dsr_print.proofs.Steps.{adds_item, adds_then}
 use Rattle.dsr_print.proofs.rules.add_more_guards.Goals as goal
 

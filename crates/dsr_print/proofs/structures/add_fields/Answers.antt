@@ -1,5 +1,5 @@
 use Rattle.dsr_tree.specs.Trees.{field_shape}
-use Rattle.dsr_text.specs.TreeTexts.{field_text}
+use Rattle.dsr_syntax_theory.specs.TreeTexts.{field_text}
 use Rattle.dsr_print.proofs.Steps.{adds_shape}
 use Rattle.dsr_print.proofs.structures.add_fields.Goals as goal
 

@@ -1,7 +1,7 @@
 use Rattle.std.proofs.Common.{map, take}
 use Rattle.dsr_tree.specs.Trees.{field_shape}
-use Rattle.dsr_text.specs.Phrases.{in_turn}
-use Rattle.dsr_text.specs.TreeTexts.{field_text}
+use Rattle.dsr_syntax_theory.specs.Phrases.{in_turn}
+use Rattle.dsr_syntax_theory.specs.TreeTexts.{field_text}
 use Rattle.dsr_print.specs.Writing.{Adds}
 use Rattle.dsr_print.proofs.structures.add_fields.Given as goal
 

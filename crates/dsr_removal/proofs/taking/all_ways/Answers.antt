@@ -2,7 +2,7 @@ use Rattle.std.proofs.Common.{◌≡◌, ◌∙◌, Some, length, slice_get, sym
 use Rattle.dsr_compensate.proofs.Each.{item_at}
 use Rattle.dsr_graph.proofs.Paired.{paired_step, paired_whole}
 use Rattle.dsr_graph.specs.Paired.{ArePaired}
-use Rattle.dsr_placing.specs.Placing.{IsLeft}
+use Rattle.dsr_placement.specs.Placing.{IsLeft}
 use Rattle.dsr_removal.specs.Taking.{AreTakenIn}
 use Rattle.dsr_removal.proofs.taking.all_ways.Goals as goal
 

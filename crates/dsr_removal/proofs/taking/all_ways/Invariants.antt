@@ -1,8 +1,8 @@
 use Rattle.std.proofs.Common.{◌≡◌, length, take}
 use Rattle.dsr_graph.specs.Graphs.{IsOwnerIn}
 use Rattle.dsr_graph.specs.Paired.{ArePaired}
-use Rattle.dsr_listing.specs.Owners.{Owner}
-use Rattle.dsr_placing.specs.Placing.{IsLeft}
+use Rattle.dsr_graph_theory.specs.Owners.{Owner}
+use Rattle.dsr_placement.specs.Placing.{IsLeft}
 use Rattle.dsr_removal.specs.Taking.{AreTakenIn}
 use Rattle.dsr_removal.proofs.taking.all_ways.Given as goal
 

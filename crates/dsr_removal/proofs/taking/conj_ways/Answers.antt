@@ -1,6 +1,6 @@
 use Rattle.std.proofs.Common.{◌∙◌, Some, slice_get, sym, ap}
 use Rattle.std.specs.Prelude.{option_and_then}
-use Rattle.dsr_sides.proofs.Standing.{item_got}
+use Rattle.dsr_compensate.proofs.Standing.{item_got}
 use Rattle.dsr_removal.proofs.taking.conj_ways.Goals as goal
 
 pub literal_way-requires-clause-there : goal.literal_way-requires-clause-there

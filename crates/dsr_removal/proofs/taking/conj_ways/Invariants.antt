@@ -1,9 +1,9 @@
 use Rattle.std.proofs.Common.{◌≡◌, Some, length, slice_get, take}
 use Rattle.dsr_graph.specs.Graphs.{IsOwnerIn}
 use Rattle.dsr_graph.specs.Paired.{ArePaired}
-use Rattle.dsr_listing.specs.Owners.{Owner}
-use Rattle.dsr_placing.specs.Placing.{IsLeft}
-use Rattle.dsr_planning.specs.Taken.{IsTakenWay}
+use Rattle.dsr_graph_theory.specs.Owners.{Owner}
+use Rattle.dsr_placement.specs.Placing.{IsLeft}
+use Rattle.dsr_plan_theory.specs.Taken.{IsTakenWay}
 use Rattle.dsr_removal.proofs.taking.conj_ways.Given as goal
 
 abbrev pub invariant-loop-place : goal.invariant-loop-place

@@ -1,9 +1,9 @@
 use Rattle.std.proofs.Common.{◌≡◌, ◌≤◌, ◌∙◌, ◌+◌, length, slice_get, Some, sym, ap, subst, arith}
 use Rattle.std.proofs.Math.Nat.{min-eq_left}
 use Rattle.dsr_compensate.proofs.Each.{item_at}
-use Rattle.dsr_placing.proofs.Counted.{few_ways}
-use Rattle.dsr_placing.specs.Placing.{IsLeft}
-use Rattle.dsr_removal.proofs.Firsts.{first_for, no_such}
+use Rattle.dsr_placement.proofs.Counted.{few_ways}
+use Rattle.dsr_placement.specs.Placing.{IsLeft}
+use Rattle.dsr_removal.proofs.FirstWays.{first_for, no_such}
 use Rattle.dsr_removal.proofs.taking.literal_way.Goals as goal
 
 pub returns-in_ok-template-in-Some-get : goal.returns-in_ok-template-in-Some-get

@@ -1,6 +1,6 @@
 use Rattle.std.proofs.Common.{◌≡◌, ◌∙◌, ◌-◌, map, sym, ap, subst, arith}
-use Rattle.dsr_placing.specs.Placing.{IsLeft}
-use Rattle.dsr_removal.proofs.Firsts.{row_by}
+use Rattle.dsr_placement.specs.Placing.{IsLeft}
+use Rattle.dsr_removal.proofs.FirstWays.{row_by}
 use Rattle.dsr_removal.proofs.Staying.{left_many}
 use Rattle.dsr_removal.specs.Rounds.{is_late}
 use Rattle.dsr_removal.specs.Taking.{AreTakenWays}

@@ -5,9 +5,9 @@ use Rattle.dsr_meaning.specs.Consistency.{IsConsistent}
 use Rattle.dsr_repair.proofs.RunOn.{less_left, run_on, run_same}
 use Rattle.dsr_repair.proofs.StepMade.{laid_out}
 use Rattle.dsr_repair.specs.Stepping.{TakesTurn, State, state}
-use Rattle.dsr_repairing.specs.Runs.IsPartRun.{begins}
-use Rattle.dsr_repairing.specs.Turns.{IsTurn}
-use Rattle.dsr_resolved.proofs.AcceptedLayouts.{legal_of}
+use Rattle.dsr_repair_theory.specs.Runs.IsPartRun.{begins}
+use Rattle.dsr_repair_theory.specs.Turns.{IsTurn}
+use Rattle.dsr_resolve.proofs.AcceptedLayouts.{legal_of}
 use Rattle.dsr_repair.proofs.repairs.make_steps.Goals as goal
 
 pub prepare-requires-clause-legal : goal.prepare-requires-clause-legal

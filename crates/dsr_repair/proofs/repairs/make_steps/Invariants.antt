@@ -2,7 +2,7 @@
 -- were made.
 use Rattle.std.proofs.Common.{◌-◌, length}
 use Rattle.dsr_bound_laws.specs.Bounds.{bound}
-use Rattle.dsr_repairing.specs.Runs.{IsPartRun}
+use Rattle.dsr_repair_theory.specs.Runs.{IsPartRun}
 use Rattle.dsr_repair.specs.Stepping.{IsModelled}
 use Rattle.dsr_repair.proofs.repairs.make_steps.Given as goal
 

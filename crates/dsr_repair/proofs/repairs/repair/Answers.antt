@@ -1,7 +1,7 @@
 -- A whole repair is one run, of which laws tell the rest.
 use Rattle.std.proofs.Common.{subst}
 use Rattle.dsr_bound_laws.proofs.Runs.{run_bounded}
-use Rattle.dsr_planning.specs.Plans.{IsPlan}
+use Rattle.dsr_plan_theory.specs.Plans.{IsPlan}
 use Rattle.dsr_run_laws.proofs.RunOnce.{run_keeps, run_keeps_fixed}
 use Rattle.dsr_repair.proofs.repairs.repair.Goals as goal
 

@@ -1,12 +1,12 @@
 -- One step.
 use Rattle.std.proofs.Common.{◌∙◌, ◌∷◌, ◌++◌, [], All, refl, sym, ap, subst, length}
-use Rattle.dsr_feasible.proofs.MakingSteps.{writes_free}
+use Rattle.dsr_repair_laws.proofs.MakingSteps.{writes_free}
 use Rattle.dsr_fixpoint.specs.Models.{IsLaidOut, IsModelOf, IsPreparedFor}
-use Rattle.dsr_planning.specs.Plans.{IsPlan}
+use Rattle.dsr_plan_theory.specs.Plans.{IsPlan}
 use Rattle.dsr_repair.proofs.StepMade.{can_be_made, due_by_it, fixed_as_before, fixed_stay, image_stays, laid_out, nearer, never_none, on_err, same_state}
-use Rattle.dsr_repairing.specs.Entries.{IsEntryOf}
-use Rattle.dsr_stepping.specs.Images.{FixedFieldsStay, IsFree}
-use Rattle.dsr_stepping.specs.Steps.{CanStep}
+use Rattle.dsr_repair_theory.specs.Entries.{IsEntryOf}
+use Rattle.dsr_step_theory.specs.Images.{FixedFieldsStay, IsFree}
+use Rattle.dsr_step_theory.specs.Steps.{CanStep}
 use Rattle.dsr_repair.proofs.steps.step.Goals as goal
 
 pub unreachable-requires : goal.unreachable-requires

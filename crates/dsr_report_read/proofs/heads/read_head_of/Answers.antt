@@ -7,7 +7,7 @@ use Rattle.dsr_report_read.specs.Lenient.{behind_number, name_ahead}
 use Rattle.dsr_report_read.specs.Lines.{bare}
 use Rattle.dsr_report_read.specs.Reads.{IsHeadOf}
 use Rattle.dsr_report_read.proofs.heads.read_head_of.Goals as goal
-use Rattle.dsr_updating.specs.Templates.{literal_at}
+use Rattle.dsr_update_theory.specs.Templates.{literal_at}
 
 pub returns-then-not-is_ahead : goal.returns-then-not-is_ahead
 returns-then-not-is_ahead c = λ x such is.

@@ -1,6 +1,6 @@
 use Rattle.dsr_names.specs.Tables.{known_of}
-use Rattle.dsr_typing.specs.RuleFaults.{rule_faults}
-use Rattle.dsr_faults.proofs.Finding.{finds_next_of}
+use Rattle.dsr_language_theory.specs.RuleFaults.{rule_faults}
+use Rattle.dsr_names.proofs.Finding.{finds_next_of}
 use Rattle.dsr_rules.proofs.checks.check_rules.Goals as goal
 
 pub loop-number-preserved : goal.loop-number-preserved

@@ -1,7 +1,7 @@
 use Rattle.std.proofs.Common.{◌≡◌, [], IfOk, IfErr, subst}
-use Rattle.dsr_faults.specs.FaultsTold.{Tells}
-use Rattle.dsr_typing.specs.RuleFaults.{rules_faults}
-use Rattle.dsr_typing.specs.TypedRules.{typed_rules}
+use Rattle.dsr_names.specs.FaultsTold.{Tells}
+use Rattle.dsr_language_theory.specs.RuleFaults.{rules_faults}
+use Rattle.dsr_language_theory.specs.TypedRules.{typed_rules}
 use Rattle.dsr_rules.proofs.typed.rules.Goals as goal
 
 pub returns : goal.returns

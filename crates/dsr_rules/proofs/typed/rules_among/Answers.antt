@@ -1,6 +1,6 @@
 use Rattle.dsr_names.specs.Tables.{known_of}
-use Rattle.dsr_typing.specs.RuleFaults.{rules_faults}
-use Rattle.dsr_faults.proofs.Finding.{finds_same}
+use Rattle.dsr_language_theory.specs.RuleFaults.{rules_faults}
+use Rattle.dsr_names.proofs.Finding.{finds_same}
 use Rattle.dsr_rules.proofs.typed.rules_among.Goals as goal
 
 pub returns-in-Some-clause-fault : goal.returns-in-Some-clause-fault

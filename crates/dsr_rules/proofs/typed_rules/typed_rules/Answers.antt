@@ -1,7 +1,7 @@
 use Rattle.std.proofs.Common.{◌++◌, ◌∷◌, [], sym, ap, ◌∙◌}
 use Rattle.std.proofs.lemmas.List.{map_more}
 use Rattle.dsr_names.specs.Tables.{known_of}
-use Rattle.dsr_typing.specs.TypedRules.{typed_rule}
+use Rattle.dsr_language_theory.specs.TypedRules.{typed_rule}
 use Rattle.dsr_rules.proofs.typed_rules.typed_rules.Goals as goal
 
 pub loop-rule-preserved : goal.loop-rule-preserved

@@ -1,6 +1,6 @@
 use Rattle.std.proofs.Common.{◌≡◌, map, take}
 use Rattle.dsr_names.specs.Tables.{known_of}
-use Rattle.dsr_typing.specs.TypedRules.{typed_rule}
+use Rattle.dsr_language_theory.specs.TypedRules.{typed_rule}
 use Rattle.dsr_rules.proofs.typed_rules.typed_rules.Given as goal
 
 abbrev pub invariant-loop-rule : goal.invariant-loop-rule

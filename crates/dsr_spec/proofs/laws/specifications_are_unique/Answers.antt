@@ -1,6 +1,6 @@
 use Rattle.std.proofs.Common.{sym, ap, ◌∙◌}
 use Rattle.dsr_parse.proofs.TreesOnce.{tree_unique}
-use Rattle.dsr_typing.specs.Specifications.{specification}
+use Rattle.dsr_language_theory.specs.Specifications.{specification}
 use Rattle.dsr_spec.proofs.laws.specifications_are_unique.Goals as goal
 
 pub returns : goal.returns

@@ -2,7 +2,7 @@ use Rattle.std.specs.Str.{bytes_eq}
 use Rattle.indexmap.specs.IndexMap.{get}
 use Rattle.dsr_tree.proofs.TreeRows.{expr_is, term_is}
 use Rattle.dsr_struct.proofs.ExprSteps.{finds_term, finds_factor}
-use Rattle.dsr_faults.proofs.Finding.{finds_then}
+use Rattle.dsr_names.proofs.Finding.{finds_then}
 use Rattle.dsr_struct.proofs.expr_checks.+expression.Goals as goal
 
 pub check_expr-returns : goal.check_expr-returns

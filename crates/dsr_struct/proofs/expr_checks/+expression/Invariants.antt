@@ -2,8 +2,8 @@ use Rattle.std.proofs.Common.{map, take}
 use Rattle.std.specs.Str.{bytes_eq}
 use Rattle.indexmap.specs.IndexMap.{get}
 use Rattle.dsr_tree.specs.Trees.{more_term_shape, more_factor_shape, in_terms, in_factors}
-use Rattle.dsr_text.specs.Declarations.{more_terms_faults, more_factors_faults}
-use Rattle.dsr_faults.specs.Telling.{Finds}
+use Rattle.dsr_language_theory.specs.Declarations.{more_terms_faults, more_factors_faults}
+use Rattle.dsr_names.specs.Telling.{Finds}
 use Rattle.dsr_struct.proofs.expr_checks.+expression.Given as goal
 
 abbrev pub invariant-check_more_terms-loop-more : goal.invariant-check_more_terms-loop-more

@@ -2,7 +2,7 @@ use Rattle.std.proofs.Common.{map, get_or, sym, ap, ◌∙◌, ◌∷◌, []}
 use Rattle.std.proofs.lemmas.List.{map-append, length-map}
 use Rattle.std.specs.Str.{bytes_eq}
 use Rattle.indexmap.specs.IndexMap.{get}
-use Rattle.dsr_text.specs.Names.{parent_number, with_ancestors}
+use Rattle.dsr_language_theory.specs.Names.{parent_number, with_ancestors}
 use Rattle.dsr_struct.proofs.Ancestors.{ancestors_next}
 use Rattle.dsr_struct.proofs.names.ancestors_of.Goals as goal
 

@@ -5,7 +5,7 @@ use Rattle.std.specs.Str.{bytes_eq}
 use Rattle.indexmap.specs.IndexMap.{get}
 use Rattle.dsr_tree.specs.Trees.{field_shape}
 use Rattle.dsr_tree.specs.declared.tree.Field.{Field}
-use Rattle.dsr_text.specs.Names.{has_fixed_name}
+use Rattle.dsr_language_theory.specs.Names.{has_fixed_name}
 use Rattle.dsr_struct.proofs.Numbering.{position_map, position_next, position_stays}
 use Rattle.dsr_struct.proofs.names.fixed_fields.Goals as goal
 use Rattle.dsr_struct.proofs.names.fixed_fields.Goals.{in-Named+then-is_some+in_ok-enter, in-Named+else-is_some, in_default}

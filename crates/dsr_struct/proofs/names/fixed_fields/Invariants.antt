@@ -3,7 +3,7 @@ use Rattle.std.specs.List.{position_from}
 use Rattle.std.specs.Str.{bytes_eq}
 use Rattle.indexmap.specs.IndexMap.{get}
 use Rattle.dsr_tree.specs.Trees.{field_shape}
-use Rattle.dsr_text.specs.Names.{has_fixed_name}
+use Rattle.dsr_language_theory.specs.Names.{has_fixed_name}
 use Rattle.dsr_struct.proofs.names.fixed_fields.Given as goal
 
 abbrev pub invariant-loop-number : goal.invariant-loop-number

@@ -4,7 +4,7 @@ use Rattle.std.proofs.Math.Nat.{min_comm}
 use Rattle.std.specs.Str.{bytes_eq}
 use Rattle.indexmap.specs.IndexMap.{get}
 use Rattle.dsr_tree.specs.Trees.{structure_shape}
-use Rattle.dsr_text.specs.Names.{all_ancestors}
+use Rattle.dsr_language_theory.specs.Names.{all_ancestors}
 use Rattle.dsr_struct.proofs.names.structure_rows.Goals as goal
 
 pub returns : goal.returns

@@ -2,7 +2,7 @@ use Rattle.std.proofs.Common.{map, take, ap, ◌∙◌}
 use Rattle.std.specs.Str.{bytes_eq}
 use Rattle.indexmap.specs.IndexMap.{get}
 use Rattle.dsr_tree.specs.Trees.{structure_shape}
-use Rattle.dsr_text.specs.Names.{all_ancestors, field_number}
+use Rattle.dsr_language_theory.specs.Names.{all_ancestors, field_number}
 use Rattle.dsr_struct.proofs.names.structure_tables.Goals as goal
 
 pub returns : goal.returns

@@ -2,7 +2,7 @@ use Rattle.std.proofs.Common.{◌≡◌, map, take}
 use Rattle.std.specs.Str.{bytes_eq}
 use Rattle.indexmap.specs.IndexMap.{get}
 use Rattle.dsr_tree.specs.Trees.{more_term_shape, more_factor_shape, in_terms, in_factors}
-use Rattle.dsr_text.specs.Tables.{typed_sum, typed_product}
+use Rattle.dsr_language_theory.specs.Tables.{typed_sum, typed_product}
 use Rattle.dsr_struct.proofs.typed_exprs.+expression.Given as goal
 
 abbrev pub invariant-typed_sum-loop-more : goal.invariant-typed_sum-loop-more

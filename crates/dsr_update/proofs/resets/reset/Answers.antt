@@ -1,7 +1,7 @@
 -- The structures of a record are reset, up its line.
 use Rattle.std.proofs.Common.{◌<◌, suc, length, refl, sym, subst}
 use Rattle.std.specs.Option.{option_map_or}
-use Rattle.dsr_stepping.specs.Resets.{reset_puts}
+use Rattle.dsr_step_theory.specs.Resets.{reset_puts}
 use Rattle.dsr_update.proofs.Left.{line_begins, line_end, line_next}
 use Rattle.dsr_update.proofs.Putting.{put_all, put_more, put_none}
 use Rattle.dsr_update.proofs.RecordEntries.{as_long, legal_where_small}

@@ -1,7 +1,7 @@
 -- The structures that are reset already, and the measure.
 use Rattle.std.proofs.Common.{suc}
 use Rattle.std.specs.Option.{option_map_or}
-use Rattle.dsr_stepping.specs.Resets.{reset_puts}
+use Rattle.dsr_step_theory.specs.Resets.{reset_puts}
 use Rattle.dsr_update.proofs.Left.{line_puts}
 use Rattle.dsr_update.proofs.Putting.{IsPutting}
 use Rattle.dsr_update.proofs.RecordLines.{AreOfRecord}

@@ -3,8 +3,8 @@ use Rattle.std.proofs.Common.{◌≡◌, ◌<◌, ◌^◌, ◌∙◌, length, sy
 use Rattle.std.specs.Prelude.{IfSome, unwrap_or}
 use Rattle.dsr_meaning.specs.Cells.{width_bits}
 use Rattle.dsr_meaning.specs.Legal.{entry_count}
-use Rattle.dsr_stepping.specs.Puts.{ArePut}
-use Rattle.dsr_stepping.specs.Puts.ArePut.{done}
+use Rattle.dsr_step_theory.specs.Puts.{ArePut}
+use Rattle.dsr_step_theory.specs.Puts.ArePut.{done}
 use Rattle.dsr_update.proofs.Left.{none_without_number, none_without_place, puts_of_field}
 use Rattle.dsr_update.proofs.RecordEntries.{as_long, has_entry, reset_fits}
 use Rattle.dsr_update.proofs.resets.reset_field.Goals as goal

@@ -4,9 +4,9 @@ use Rattle.std.specs.Prelude.{option_and_then, slice_get}
 use Rattle.std.proofs.lemmas.Option.{slice_get_past, slice_get_read}
 use Rattle.dsr_ir.specs.declared.declarations.Structure.{Structure}
 use Rattle.dsr_layout.proofs.Items.{item_at}
-use Rattle.dsr_stepping.specs.Puts.{ArePut}
-use Rattle.dsr_stepping.specs.Puts.ArePut.{done}
-use Rattle.dsr_stepping.specs.Resets.{field_puts}
+use Rattle.dsr_step_theory.specs.Puts.{ArePut}
+use Rattle.dsr_step_theory.specs.Puts.ArePut.{done}
+use Rattle.dsr_step_theory.specs.Resets.{field_puts}
 use Rattle.dsr_update.proofs.Left.{items_end, items_next, none_without_structure, puts_of_structure}
 use Rattle.dsr_update.proofs.Putting.{put_all, put_more, put_none}
 use Rattle.dsr_update.specs.Claims.{CanReset, IsSlotClaimed}

@@ -1,7 +1,7 @@
 -- The fields that are reset already.
 use Rattle.std.proofs.Common.{drop}
 use Rattle.dsr_meaning.specs.Lists.{each_at}
-use Rattle.dsr_stepping.specs.Resets.{field_puts}
+use Rattle.dsr_step_theory.specs.Resets.{field_puts}
 use Rattle.dsr_update.proofs.Putting.{IsPutting}
 use Rattle.dsr_update.proofs.resets.reset_structure.Given as goal
 

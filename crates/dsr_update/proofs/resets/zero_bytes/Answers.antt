@@ -1,6 +1,6 @@
 -- Bytes become 0, one after the other.
 use Rattle.std.proofs.Common.{◌≤◌, ◌+◌, ◌/◌, ◌∙◌, inl, refl, ap, arith}
-use Rattle.dsr_stepping.specs.Resets.{byte_cell}
+use Rattle.dsr_step_theory.specs.Resets.{byte_cell}
 use Rattle.dsr_update.proofs.Left.{zeros_begin, zeros_end, zeros_next}
 use Rattle.dsr_update.proofs.Putting.{put_all, put_none, put_one}
 use Rattle.dsr_update.proofs.resets.zero_bytes.Goals as goal

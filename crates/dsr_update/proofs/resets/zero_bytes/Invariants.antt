@@ -1,6 +1,6 @@
 -- The bytes that are 0 already.
 use Rattle.std.proofs.Common.{◌+◌, ◌-◌}
-use Rattle.dsr_stepping.specs.Resets.{zeros}
+use Rattle.dsr_step_theory.specs.Resets.{zeros}
 use Rattle.dsr_update.proofs.Putting.{IsPutting}
 use Rattle.dsr_update.proofs.resets.zero_bytes.Given as goal
 

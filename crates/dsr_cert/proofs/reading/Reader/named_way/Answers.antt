@@ -1,6 +1,6 @@
 use Rattle.std.proofs.Common.{◌++◌, ap, sym, subst, inr, refl}
 use Rattle.std.specs.Prelude.{codes}
-use Rattle.dsr_planning.specs.Plans.{IsListedAt, owner_at}
+use Rattle.dsr_plan_theory.specs.Plans.{IsListedAt, owner_at}
 use Rattle.dsr_cert.proofs.reading.Reader.named_way.Goals as goal
 
 pub returns-in_default : goal.returns-in_default

@@ -11,7 +11,7 @@ use Rattle.dsr_compensate.proofs.Later.{take_whole}
 use Rattle.dsr_graph.proofs.Paired.{paired_none, paired_step}
 use Rattle.dsr_graph.specs.Paired.{ArePaired}
 use Rattle.dsr_meaning.specs.Lists.{each_at}
-use Rattle.dsr_planning.specs.Plans.{owner_at}
+use Rattle.dsr_plan_theory.specs.Plans.{owner_at}
 use Rattle.std.specs.Prelude.{option_and_then}
 use Rattle.dsr_cert.proofs.reading.Reader.read_conjs.Goals as goal
 

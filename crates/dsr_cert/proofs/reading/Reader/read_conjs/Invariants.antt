@@ -4,7 +4,7 @@ use Rattle.dsr_meaning.specs.Lists.{each_at}
 use Rattle.dsr_cert.specs.Certificates.{conjs_lines}
 use Rattle.dsr_cert.specs.Forms.{conj_forms}
 use Rattle.dsr_cert.specs.Parts.{AreNamedIn, IsPart, texts_of}
-use Rattle.dsr_planning.specs.Plans.{owner_at}
+use Rattle.dsr_plan_theory.specs.Plans.{owner_at}
 use Rattle.dsr_cert.proofs.reading.Reader.read_conjs.Given as goal
 
 abbrev pub invariant-loop-place : goal.invariant-loop-place

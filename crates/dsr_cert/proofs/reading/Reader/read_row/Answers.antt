@@ -4,7 +4,7 @@ use Rattle.dsr_cert.proofs.Saying.{few_forms}
 use Rattle.dsr_cert.specs.Certificates.{conjs_lines, constraint_line}
 use Rattle.dsr_cert.specs.Forms.{OfConstraint, conjs_forms, constraint_forms}
 use Rattle.dsr_cert.specs.Parts.{AreNamed, IsPart, texts_of}
-use Rattle.dsr_planning.specs.Plans.{owner_at}
+use Rattle.dsr_plan_theory.specs.Plans.{owner_at}
 use Rattle.dsr_cert.proofs.reading.Reader.read_row.Goals as goal
 
 pub read_level-requires-clause-stands : goal.read_level-requires-clause-stands

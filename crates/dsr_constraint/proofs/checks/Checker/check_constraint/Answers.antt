@@ -4,8 +4,8 @@ use Rattle.std.specs.Str.{bytes_eq}
 use Rattle.indexmap.specs.IndexMap.{get}
 use Rattle.dsr_names.specs.Tables.{known_of}
 use Rattle.dsr_tree.specs.Trees.{constraint_shape}
-use Rattle.dsr_typing.specs.Constraints.{own_faults, form_faults}
-use Rattle.dsr_faults.proofs.Finding.{finds_same, finds_then, finds_when}
+use Rattle.dsr_language_theory.specs.Constraints.{own_faults, form_faults}
+use Rattle.dsr_names.proofs.Finding.{finds_same, finds_then, finds_when}
 use Rattle.dsr_constraint.proofs.Merged.{none_found, nothing}
 use Rattle.dsr_constraint.proofs.checks.Checker.check_constraint.Goals as goal
 

@@ -1,9 +1,9 @@
 use Rattle.std.proofs.Common.{◌≡◌, ◌&&◌, sym, ap, ◌∙◌}
 use Rattle.dsr_tree.specs.declared.faults.Condition.TheVariants as conditions
-use Rattle.dsr_text.specs.Faults.{when}
-use Rattle.dsr_typing.specs.Known.{is_nil}
-use Rattle.dsr_typing.specs.Constraints.{atom_mismatches, atom_names}
-use Rattle.dsr_faults.proofs.Finding.{finds_same, finds_then}
+use Rattle.dsr_language_theory.specs.Faults.{when}
+use Rattle.dsr_language_theory.specs.Known.{is_nil}
+use Rattle.dsr_language_theory.specs.Constraints.{atom_mismatches, atom_names}
+use Rattle.dsr_names.proofs.Finding.{finds_same, finds_then}
 use Rattle.dsr_constraint.specs.Scoped.{scope_told}
 use Rattle.dsr_constraint.proofs.Merged.{none_found}
 use Rattle.dsr_constraint.proofs.scopes.Scope.check_atom.Goals as goal

@@ -1,6 +1,6 @@
 use Rattle.std.proofs.Common.{◌^◌, leb, sym, ap, ◌∙◌}
 use Rattle.dsr_names.specs.Tables.{known_of}
-use Rattle.dsr_typing.specs.Constraints.{is_too_great}
+use Rattle.dsr_language_theory.specs.Constraints.{is_too_great}
 use Rattle.dsr_constraint.proofs.Narrowest.{least_fits}
 use Rattle.dsr_constraint.proofs.widths.Constants.is_too_great.Goals as goal
 

@@ -1,6 +1,6 @@
 use Rattle.std.proofs.Common.{◌∙◌, false, refl, inl, sym}
 use Rattle.std.proofs.lemmas.Bool.{false≢true}
-use Rattle.dsr_updating.specs.Touching.{IsSureAtF}
+use Rattle.dsr_update_theory.specs.Touching.{IsSureAtF}
 use Rattle.dsr_effect.specs.Told.{change_of}
 use Rattle.dsr_effect.proofs.Guards.{each_more, some_found}
 use Rattle.dsr_effect.proofs.changes.Change.is_blocked_at_f.Goals as goal

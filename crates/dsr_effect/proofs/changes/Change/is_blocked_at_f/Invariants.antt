@@ -1,5 +1,5 @@
 use Rattle.std.proofs.Common.{false, take}
-use Rattle.dsr_updating.specs.Touching.{IsSureAtF}
+use Rattle.dsr_update_theory.specs.Touching.{IsSureAtF}
 use Rattle.dsr_effect.specs.Told.{change_of}
 use Rattle.dsr_effect.proofs.Guards.{NoneIn}
 use Rattle.dsr_effect.proofs.changes.Change.is_blocked_at_f.Given as goal

@@ -1,6 +1,6 @@
 use Rattle.std.proofs.Common.{refl, subst}
 use Rattle.std.proofs.lemmas.Bool.{false≢true}
-use Rattle.dsr_updating.specs.Values.{NoneReference}
+use Rattle.dsr_update_theory.specs.Values.{NoneReference}
 use Rattle.dsr_effect.specs.Told.{IsLeft, change_of}
 use Rattle.dsr_effect.proofs.changes.Change.leaves_none.Goals as goal
 

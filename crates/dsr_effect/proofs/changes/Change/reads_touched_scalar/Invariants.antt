@@ -1,6 +1,6 @@
 use Rattle.std.proofs.Common.{◌≡◌, ◌++◌, drop, map}
 use Rattle.dsr_meaning.specs.Lists.{any_of}
-use Rattle.dsr_updating.specs.Changes.{paths_of, target_paths}
+use Rattle.dsr_update_theory.specs.Changes.{paths_of, target_paths}
 use Rattle.dsr_effect.specs.Told.{change_of, is_touched_scalar}
 use Rattle.dsr_effect.proofs.changes.Change.reads_touched_scalar.Given as goal
 

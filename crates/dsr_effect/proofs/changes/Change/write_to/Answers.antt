@@ -1,7 +1,7 @@
 use Rattle.std.proofs.Common.{rules, tests}
 use Rattle.std.proofs.lemmas.Iterator.{YieldsList-from_slice}
 use Rattle.std.proofs.lemmas.Iterator.Search.{find_from_yields_List}
-use Rattle.dsr_updating.specs.Templates.{is_same_field}
+use Rattle.dsr_update_theory.specs.Templates.{is_same_field}
 use Rattle.dsr_effect.proofs.changes.Change.write_to.Goals as goal
 
 pub returns : goal.returns

@@ -2,7 +2,7 @@ use Rattle.std.proofs.Common.{◌↔◌, false, inl, inr, replicate, subst, sym,
 use Rattle.dsr_effect.proofs.Apart.{nothing_apart}
 use Rattle.dsr_effect.specs.Contexts.{change_in}
 use Rattle.dsr_facts.specs.Marks.{IsMarked}
-use Rattle.dsr_updating.specs.Touching.{IsKeptApartBy}
+use Rattle.dsr_update_theory.specs.Touching.{IsKeptApartBy}
 use Rattle.dsr_effect.proofs.context.Context.apart_at.Goals as goal
 
 pub returns-in-Head : goal.returns-in-Head

@@ -4,7 +4,7 @@ use Rattle.dsr_effect.proofs.Gaining.{item_at, mark_more, place_below}
 use Rattle.dsr_effect.proofs.ListItems.{next_in}
 use Rattle.dsr_effect.specs.Contexts.{change_in}
 use Rattle.dsr_effect.specs.Told.{ChangesAtW}
-use Rattle.dsr_updating.specs.declared.effects.Direction.TheVariants.{Gain}
+use Rattle.dsr_update_theory.specs.declared.effects.Direction.TheVariants.{Gain}
 use Rattle.dsr_effect.proofs.context.Context.gaining_rules.Goals as goal
 
 pub gains_at_w-requires-clause-among : goal.gains_at_w-requires-clause-among

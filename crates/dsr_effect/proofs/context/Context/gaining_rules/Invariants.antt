@@ -2,7 +2,7 @@ use Rattle.std.proofs.Common.{◌≡◌, ◌<◌, ◌↔◌, ℕ, IsTrue, Some, 
 use Rattle.dsr_effect.specs.Contexts.{change_in}
 use Rattle.dsr_effect.specs.Told.{ChangesAtW}
 use Rattle.dsr_ir.specs.declared.rules.Rule.{Rule}
-use Rattle.dsr_updating.specs.declared.effects.Direction.TheVariants.{Gain}
+use Rattle.dsr_update_theory.specs.declared.effects.Direction.TheVariants.{Gain}
 use Rattle.dsr_effect.proofs.context.Context.gaining_rules.Given as goal
 
 -- the rules so far are marked as they are

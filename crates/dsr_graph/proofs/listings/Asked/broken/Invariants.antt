@@ -1,8 +1,8 @@
 use Rattle.std.proofs.Common.{take}
-use Rattle.dsr_breaking.specs.Breaks.{Breaks}
+use Rattle.dsr_graph_theory.specs.Breaks.{Breaks}
 use Rattle.dsr_graph.specs.Graphs.{owner_at, reason_of}
 use Rattle.dsr_graph.specs.Paired.{ArePaired}
-use Rattle.dsr_sides.specs.Owned.{owner_of}
+use Rattle.dsr_compensate.specs.Owned.{owner_of}
 use Rattle.dsr_graph.proofs.listings.Asked.broken.Given as goal
 
 abbrev pub invariant-loop-other : goal.invariant-loop-other

@@ -1,12 +1,12 @@
 use Rattle.std.proofs.Common.{◌↔◌, IsTrue, ◌∙◌, arith}
 use Rattle.std.proofs.lemmas.List.Elements.{All-same}
-use Rattle.dsr_breaking.specs.Breaks.{MayFalsify}
+use Rattle.dsr_graph_theory.specs.Breaks.{MayFalsify}
 use Rattle.dsr_compensate.proofs.Each.{item_at}
-use Rattle.dsr_edges.specs.Told.{IsOfDeclared}
+use Rattle.dsr_graph.specs.Told.{IsOfDeclared}
 use Rattle.dsr_graph.proofs.Breaking.{falsify_if}
 use Rattle.dsr_graph.proofs.Paired.{paired_back, paired_step, paired_whole}
 use Rattle.dsr_graph.specs.Asking.{AreOwnCausesOf}
-use Rattle.dsr_sides.specs.Owned.{owner_of}
+use Rattle.dsr_compensate.specs.Owned.{owner_of}
 use Rattle.dsr_graph.proofs.listings.Asked.falsified.Goals as goal
 
 pub may_falsify-requires-clause-declared : goal.may_falsify-requires-clause-declared

@@ -1,7 +1,7 @@
 use Rattle.std.proofs.Common.{◌↔◌, IsTrue, take}
-use Rattle.dsr_breaking.specs.Breaks.{MayFalsify}
+use Rattle.dsr_graph_theory.specs.Breaks.{MayFalsify}
 use Rattle.dsr_graph.specs.Paired.{ArePaired}
-use Rattle.dsr_sides.specs.Owned.{owner_of}
+use Rattle.dsr_compensate.specs.Owned.{owner_of}
 use Rattle.dsr_graph.proofs.listings.Asked.falsified.Given as goal
 
 abbrev pub invariant-loop-causes : goal.invariant-loop-causes

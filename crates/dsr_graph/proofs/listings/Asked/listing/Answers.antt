@@ -3,9 +3,9 @@ use Rattle.dsr_compensate.specs.Taking.{templates_of}
 use Rattle.dsr_graph.proofs.Growing.{alike_turned}
 use Rattle.dsr_graph.proofs.Unique.{listed_alike}
 use Rattle.dsr_graph.specs.Graphs.{AreOutcomesOf}
-use Rattle.dsr_listing.proofs.Unique.{listed_one}
-use Rattle.dsr_listing.specs.Lists.{AreListedOf}
-use Rattle.dsr_sides.specs.Owned.{owner_of}
+use Rattle.dsr_plan_laws.proofs.Unique.{listed_one}
+use Rattle.dsr_graph_theory.specs.Lists.{AreListedOf}
+use Rattle.dsr_compensate.specs.Owned.{owner_of}
 use Rattle.dsr_graph.proofs.listings.Asked.listing.Goals as goal
 
 pub returns : goal.returns

@@ -1,8 +1,8 @@
 use Rattle.std.proofs.Common.{refl}
 use Rattle.dsr_graph.proofs.Paired.{paired_all, paired_step}
 use Rattle.dsr_graph.specs.Graphs.{IsListingOf}
-use Rattle.dsr_sides.proofs.Standing.{item_got}
-use Rattle.dsr_sides.specs.Owned.{owner_of}
+use Rattle.dsr_compensate.proofs.Standing.{item_got}
+use Rattle.dsr_compensate.specs.Owned.{owner_of}
 use Rattle.dsr_graph.proofs.listings.Asked.listings.Goals as goal
 
 pub loop-first-preserved : goal.loop-first-preserved

@@ -3,7 +3,7 @@ use Rattle.dsr_compensate.proofs.Each.{item_at}
 use Rattle.dsr_compensate.specs.Taking.{templates_of}
 use Rattle.dsr_graph.proofs.Paired.{made_item, made_length, paired_step, paired_whole}
 use Rattle.dsr_graph.specs.Graphs.{IsOutcomeOf}
-use Rattle.dsr_sides.specs.Owned.{owner_of}
+use Rattle.dsr_compensate.specs.Owned.{owner_of}
 use Rattle.dsr_graph.proofs.listings.Asked.outcomes.Goals as goal
 
 pub loop-its-preserved : goal.loop-its-preserved

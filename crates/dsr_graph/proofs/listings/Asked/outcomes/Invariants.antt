@@ -2,7 +2,7 @@ use Rattle.std.proofs.Common.{take}
 use Rattle.dsr_compensate.specs.Taking.{templates_of}
 use Rattle.dsr_graph.specs.Graphs.{IsOutcomeOf}
 use Rattle.dsr_graph.specs.Paired.{ArePaired}
-use Rattle.dsr_sides.specs.Owned.{owner_of}
+use Rattle.dsr_compensate.specs.Owned.{owner_of}
 use Rattle.dsr_graph.proofs.listings.Asked.outcomes.Given as goal
 
 abbrev pub invariant-loop-its : goal.invariant-loop-its

@@ -1,15 +1,15 @@
 use Rattle.std.proofs.Common.{[], false, sym, subst, ◌∙◌, arith}
 use Rattle.std.proofs.lemmas.List.Elements.{All-same}
-use Rattle.dsr_breaking.specs.Causes.{constraint_causes}
+use Rattle.dsr_graph_theory.specs.Causes.{constraint_causes}
 use Rattle.dsr_compensate.proofs.Each.{item_at}
-use Rattle.dsr_edges.specs.Told.{IsOfDeclared}
+use Rattle.dsr_graph.specs.Told.{IsOfDeclared}
 use Rattle.dsr_graph.proofs.Breaking.{Such, by_causes, first_declared, own_once, same_once}
 use Rattle.dsr_graph.proofs.Paired.{item_there, paired_back}
 use Rattle.dsr_graph.specs.Asking.{AreCausesOf}
 use Rattle.dsr_graph.specs.Graphs.{owner_at}
-use Rattle.dsr_sides.proofs.Standing.{item_got}
-use Rattle.dsr_sides.specs.Owned.{owner_of}
-use Rattle.dsr_updating.specs.Templates.{AreOnce}
+use Rattle.dsr_compensate.proofs.Standing.{item_got}
+use Rattle.dsr_compensate.specs.Owned.{owner_of}
+use Rattle.dsr_update_theory.specs.Templates.{AreOnce}
 use Rattle.dsr_graph.proofs.listings.Asked.reason.Goals as goal
 
 pub returns-then-breaks_nothing-clause-breaks : goal.returns-then-breaks_nothing-clause-breaks

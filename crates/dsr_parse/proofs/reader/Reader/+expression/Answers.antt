@@ -14,7 +14,7 @@ pub expr-returns-in_err-first-2-clause-err : goal.expr-returns-in_err-first-2-cl
 expr-returns-in_err-first-2-clause-err t c = passed_on c.from_residual-in_err-first-2.result c.from_residual-in_err-first-2.ensures.1 (halts_rest c.in_ok-first.ensures.ok (behind_stops _ c.more_terms.result c.in_err-first-2.ensures.err c.more_terms.ensures.err))
 
 pub expr-returns-clause-ok : goal.expr-returns-clause-ok
-expr-returns-clause-ok t c = reads_as (expr_made (record { first = c.in_ok-first-2.first; rest = c.in_ok-first-2.rest })) (reads_then (reads_as (ap (λ u. Rattle.dsr_text.specs.TreeTexts.term2_text (Rattle.dsr_tree.specs.Trees.term_shape u)) c.in_ok-first-2.ensures.ok.0) c.in_ok-first.ensures.ok) (behind_is _ c.more_terms.result c.in_ok-first-2.ensures.ok c.more_terms.ensures.ok))
+expr-returns-clause-ok t c = reads_as (expr_made (record { first = c.in_ok-first-2.first; rest = c.in_ok-first-2.rest })) (reads_then (reads_as (ap (λ u. Rattle.dsr_syntax_theory.specs.TreeTexts.term2_text (Rattle.dsr_tree.specs.Trees.term_shape u)) c.in_ok-first-2.ensures.ok.0) c.in_ok-first.ensures.ok) (behind_is _ c.more_terms.result c.in_ok-first-2.ensures.ok c.more_terms.ensures.ok))
 
 pub term2-returns-in_err-first-clause-err : goal.term2-returns-in_err-first-clause-err
 term2-returns-in_err-first-clause-err t c = passed_on c.from_residual.result c.from_residual.ensures.1 (halts_first c.in_err-first.ensures.err)
@@ -45,7 +45,7 @@ factor-returns-in_err-inner-2-clause-err t c = passed_on c.from_residual-in_err-
 
 pub factor-returns-clause-ok : goal.factor-returns-clause-ok
 factor-returns-clause-ok t c =
-    let inner = ap (λ e. Rattle.dsr_text.specs.TreeTexts.expr_text (Rattle.dsr_tree.specs.Trees.expr_shape e)) (c.in_ok-inner-3.ensures.ok ∙ c.in_ok-inner-2.ensures.same) in
+    let inner = ap (λ e. Rattle.dsr_syntax_theory.specs.TreeTexts.expr_text (Rattle.dsr_tree.specs.Trees.expr_shape e)) (c.in_ok-inner-3.ensures.ok ∙ c.in_ok-inner-2.ensures.same) in
     reads_right refl (other_is (sym c.is_number.ensures ∙ c.if-is_number.false)) (reads_right refl (other_is (sym c.is_name.ensures ∙ c.if-is_name.false)) (reads_then c.in_ok-place.ensures.ok (reads_then (reads_as inner (expression_inside c.in_ok-inner.ensures.ok)) c.in_ok-inner-2.ensures.ok)))
 
 pub more_terms-loop-terms-init : goal.more_terms-loop-terms-init

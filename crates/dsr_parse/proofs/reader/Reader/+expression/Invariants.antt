@@ -1,5 +1,5 @@
 use Rattle.std.proofs.Common.{◌+◌, ◌*◌, length}
-use Rattle.dsr_text.specs.Grammar.{more_term, more_factor}
+use Rattle.dsr_syntax_theory.specs.Grammar.{more_term, more_factor}
 use Rattle.dsr_parse.specs.Reading.{ReadsItems, said_term, said_factor}
 use Rattle.dsr_parse.proofs.reader.Reader.+expression.Given as goal
 

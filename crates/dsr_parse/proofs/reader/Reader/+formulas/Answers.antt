@@ -1,5 +1,5 @@
 use Rattle.std.proofs.Common.{refl, sym, ap, ◌∙◌, arith}
-use Rattle.dsr_text.specs.TreeTexts.{unit_text, join_text, formula_text}
+use Rattle.dsr_syntax_theory.specs.TreeTexts.{unit_text, join_text, formula_text}
 use Rattle.dsr_tree.specs.Trees.{unit_shape, join_shape, formula_shape}
 use Rattle.std.proofs.lemmas.Result.{IfOk-weaker}
 use Rattle.dsr_parse.proofs.Passing.{passed_on, err_from, said_shorter, next_is, other_is, halts_first, halts_rest, halts_left, halts_right, reads_then, reads_left, reads_right, reads_as, reads_within, says_within, unit_inside, unit_halts, formula_inside, formula_halts, items_none, items_more, items_halt}

@@ -1,5 +1,5 @@
 use Rattle.std.proofs.Common.{◌+◌, ◌*◌, length}
-use Rattle.dsr_text.specs.Grammar.{more_join, more_unit}
+use Rattle.dsr_syntax_theory.specs.Grammar.{more_join, more_unit}
 use Rattle.dsr_parse.specs.Reading.{ReadsItems, said_join, said_unit}
 use Rattle.dsr_parse.proofs.reader.Reader.+formulas.Given as goal
 

@@ -1,6 +1,6 @@
 use Rattle.dsr_parse.proofs.Grouped.{behind_is, behind_stops, handed}
 use Rattle.dsr_parse.proofs.Passing.{err_from, formula_stops, formula_whole, halts_first, halts_rest, passed_on, reads_as, reads_then}
-use Rattle.dsr_text.specs.TreeTexts.{maybe_text, quantifier_text}
+use Rattle.dsr_syntax_theory.specs.TreeTexts.{maybe_text, quantifier_text}
 use Rattle.std.proofs.Common.{ap}
 use Rattle.dsr_parse.proofs.reader.Reader.constraint_end.Goals as goal
 

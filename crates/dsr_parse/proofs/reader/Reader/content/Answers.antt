@@ -1,7 +1,7 @@
 use Rattle.std.proofs.Common.{refl, ◌∙◌}
 use Rattle.dsr_parse.proofs.Passing.{passed_on, next_is, other_is, halts_rest, halts_left, halts_right, reads_then, reads_left, reads_right, reads_none, next_left, next_right, next_neither}
 use Rattle.dsr_tree.specs.declared.tokens.Keyword.TheVariants as keyword
-use Rattle.dsr_text.specs.Grammar.{word}
+use Rattle.dsr_syntax_theory.specs.Grammar.{word}
 use Rattle.dsr_parse.proofs.Taking.{halts_from, next_behind, reads_from, reads_to}
 use Rattle.dsr_parse.proofs.reader.Reader.content.Goals as goal
 

@@ -1,6 +1,6 @@
 use Rattle.dsr_parse.proofs.Grouped.{behind_is, behind_stops}
 use Rattle.dsr_parse.proofs.Passing.{halts_first, halts_rest, passed_on, reads_as, reads_then}
-use Rattle.dsr_text.specs.TreeTexts.{size_text, word_at}
+use Rattle.dsr_syntax_theory.specs.TreeTexts.{size_text, word_at}
 use Rattle.dsr_tree.specs.declared.tokens.Keyword.TheVariants.{Size}
 use Rattle.std.proofs.Common.{ap}
 use Rattle.dsr_parse.proofs.reader.Reader.count_atom.Goals as goal

@@ -2,7 +2,7 @@ use Rattle.dsr_parse.proofs.Grouped.{behind_is, behind_stops, handed}
 use Rattle.dsr_parse.proofs.PartTexts.{length_said}
 use Rattle.dsr_parse.proofs.Passing.{err_from, halts_first, halts_rest, passed_on, reads_as, reads_then}
 use Rattle.dsr_parse.specs.Reading.{said_length}
-use Rattle.dsr_text.specs.TreeTexts.{maybe_text}
+use Rattle.dsr_syntax_theory.specs.TreeTexts.{maybe_text}
 use Rattle.std.proofs.Common.{ap, ◌∙◌}
 use Rattle.dsr_parse.proofs.reader.Reader.field_end.Goals as goal
 

@@ -1,5 +1,5 @@
 use Rattle.std.proofs.Common.{length}
-use Rattle.dsr_text.specs.Grammar.{field}
+use Rattle.dsr_syntax_theory.specs.Grammar.{field}
 use Rattle.dsr_parse.specs.Reading.{ReadsItems, said_field}
 use Rattle.dsr_parse.proofs.reader.Reader.fields.Given as goal
 

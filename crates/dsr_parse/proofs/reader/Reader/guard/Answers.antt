@@ -1,7 +1,7 @@
 use Rattle.dsr_parse.proofs.Grouped.{behind_is, behind_stops, handed}
 use Rattle.dsr_parse.proofs.Passing.{err_from, halts_first, halts_left, halts_rest, halts_right, next_is, other_is, passed_on, reads_as, reads_left, reads_right, reads_then, reads_unkept}
 use Rattle.dsr_parse.proofs.Taking.{halts_from, reads_from}
-use Rattle.dsr_text.specs.TreeTexts.{path_text}
+use Rattle.dsr_syntax_theory.specs.TreeTexts.{path_text}
 use Rattle.std.proofs.Common.{ap, refl}
 use Rattle.dsr_parse.proofs.reader.Reader.guard.Goals as goal
 

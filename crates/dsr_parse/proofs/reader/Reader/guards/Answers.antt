@@ -1,7 +1,7 @@
 use Rattle.dsr_parse.proofs.Grouped.{behind_is, behind_stops}
 use Rattle.dsr_parse.proofs.Passing.{halts_first, halts_left, halts_rest, next_is, other_is, passed_on, reads_as, reads_left, reads_then}
 use Rattle.dsr_parse.proofs.Taking.{none_known, reads_nothing, some_next, some_read, turns_as}
-use Rattle.dsr_text.specs.TreeTexts.{guard_text, more_guard_text}
+use Rattle.dsr_syntax_theory.specs.TreeTexts.{guard_text, more_guard_text}
 use Rattle.std.proofs.Common.{ap, not, refl, ◌∙◌}
 use Rattle.dsr_parse.proofs.reader.Reader.guards.Goals as goal
 

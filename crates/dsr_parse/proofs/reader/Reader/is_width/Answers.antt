@@ -1,7 +1,7 @@
 use Rattle.std.proofs.Common.{refl, sym, ◌∙◌, ◌≡◌, ◌||◌}
 use Rattle.dsr_parse.proofs.PartTexts.{width_next, or_then, or_else}
 use Rattle.dsr_tree.specs.declared.tokens.Keyword.TheVariants as keyword
-use Rattle.dsr_text.specs.Grammar.{word}
+use Rattle.dsr_syntax_theory.specs.Grammar.{word}
 use Rattle.dsr_parse.specs.Reading.{is_next}
 use Rattle.dsr_parse.proofs.reader.Reader.is_width.Goals as goal
 use Rattle.dsr_parse.proofs.reader.Reader.is_width.Goals.{else-is_word, else-is_word-2, else-is_word-3, then-is_word, then-is_word-2, then-is_word-3}

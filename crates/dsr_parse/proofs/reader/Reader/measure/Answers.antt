@@ -1,5 +1,5 @@
 use Rattle.dsr_parse.proofs.Passing.{halts_first, halts_left, halts_rest, halts_right, next_is, other_is, passed_on, reads_as, reads_left, reads_right, reads_then}
-use Rattle.dsr_text.specs.TreeTexts.{word_at}
+use Rattle.dsr_syntax_theory.specs.TreeTexts.{word_at}
 use Rattle.dsr_tree.specs.declared.tokens.Keyword.TheVariants.{Size}
 use Rattle.std.proofs.Common.{ap, refl, sym, ◌∙◌}
 use Rattle.dsr_parse.proofs.reader.Reader.measure.Goals as goal

@@ -1,6 +1,6 @@
 use Rattle.std.proofs.Common.{length}
-use Rattle.dsr_text.specs.Grammar.{more_name}
-use Rattle.dsr_text.specs.TreeTexts.{more_name_text}
+use Rattle.dsr_syntax_theory.specs.Grammar.{more_name}
+use Rattle.dsr_syntax_theory.specs.TreeTexts.{more_name_text}
 use Rattle.dsr_parse.specs.Reading.{ReadsItems}
 use Rattle.dsr_parse.proofs.reader.Reader.more_names.Given as goal
 

@@ -1,6 +1,6 @@
 use Rattle.dsr_parse.proofs.Grouped.{both_halt, both_read}
 use Rattle.dsr_parse.proofs.Passing.{halts_first, halts_rest, passed_on, reads_as, reads_then}
-use Rattle.dsr_text.specs.TreeTexts.{path_text}
+use Rattle.dsr_syntax_theory.specs.TreeTexts.{path_text}
 use Rattle.std.proofs.Common.{ap}
 use Rattle.dsr_parse.proofs.reader.Reader.pair_end.Goals as goal
 

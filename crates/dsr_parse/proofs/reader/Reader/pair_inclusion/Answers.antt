@@ -1,6 +1,6 @@
 use Rattle.dsr_parse.proofs.Grouped.{behind_is, behind_stops}
 use Rattle.dsr_parse.proofs.Passing.{halts_first, halts_rest, passed_on, reads_as, reads_then}
-use Rattle.dsr_text.specs.TreeTexts.{term_text}
+use Rattle.dsr_syntax_theory.specs.TreeTexts.{term_text}
 use Rattle.std.proofs.Common.{ap, ◌∙◌}
 use Rattle.dsr_parse.proofs.reader.Reader.pair_inclusion.Goals as goal
 

@@ -1,7 +1,7 @@
-use Rattle.dsr_text.specs.Phrases.{◌▸◌}
+use Rattle.dsr_syntax_theory.specs.Phrases.{◌▸◌}
 use Rattle.dsr_parse.proofs.Grouped.{behind_is, behind_stops, halts_behind, halts_group, reads_group}
 use Rattle.dsr_parse.proofs.Passing.{halts_first, halts_rest, passed_on, reads_as, reads_then}
-use Rattle.dsr_text.specs.TreeTexts.{brackets_text, mark, name_text}
+use Rattle.dsr_syntax_theory.specs.TreeTexts.{brackets_text, mark, name_text}
 use Rattle.dsr_tree.specs.Trees.{expr_shape}
 use Rattle.dsr_tree.specs.declared.tokens.Sign.TheVariants.{Colon}
 use Rattle.std.proofs.Common.{ap}

@@ -2,7 +2,7 @@ use Rattle.dsr_parse.proofs.Grouped.{behind_is, behind_stops}
 use Rattle.dsr_parse.proofs.PartTexts.{slot_said}
 use Rattle.dsr_parse.proofs.Passing.{halts_first, halts_rest, passed_on, reads_as, reads_then}
 use Rattle.dsr_parse.specs.Reading.{said_slot}
-use Rattle.dsr_text.specs.TreeTexts.{maybe_text}
+use Rattle.dsr_syntax_theory.specs.TreeTexts.{maybe_text}
 use Rattle.std.proofs.Common.{ap, ◌∙◌}
 use Rattle.dsr_parse.proofs.reader.Reader.pool_end.Goals as goal
 

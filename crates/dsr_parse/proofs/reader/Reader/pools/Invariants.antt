@@ -1,5 +1,5 @@
 use Rattle.std.proofs.Common.{length}
-use Rattle.dsr_text.specs.Grammar.{pool}
+use Rattle.dsr_syntax_theory.specs.Grammar.{pool}
 use Rattle.dsr_parse.specs.Reading.{ReadsItems, said_pool}
 use Rattle.dsr_parse.proofs.reader.Reader.pools.Given as goal
 

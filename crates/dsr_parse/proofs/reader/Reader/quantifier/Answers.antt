@@ -1,7 +1,7 @@
 use Rattle.dsr_parse.proofs.Grouped.{behind_is, behind_stops, halts_behind, halts_group, reads_group}
 use Rattle.dsr_parse.proofs.Passing.{halts_first, halts_left, halts_rest, next_is, other_is, passed_on, reads_as, reads_left, reads_then, reads_unkept}
 use Rattle.dsr_parse.proofs.Taking.{reads_nothing}
-use Rattle.dsr_text.specs.TreeTexts.{binder_text}
+use Rattle.dsr_syntax_theory.specs.TreeTexts.{binder_text}
 use Rattle.std.proofs.Common.{ap, refl}
 use Rattle.dsr_parse.proofs.reader.Reader.quantifier.Goals as goal
 

@@ -1,5 +1,5 @@
 use Rattle.std.proofs.Common.{refl, ◌∙◌}
-use Rattle.dsr_text.specs.TreeTexts.{test_text}
+use Rattle.dsr_syntax_theory.specs.TreeTexts.{test_text}
 use Rattle.dsr_parse.proofs.Passing.{next_is, other_is, reads_left, reads_right, next_left, next_right, next_neither}
 use Rattle.dsr_parse.proofs.Taking.{found_none, reads_from, other_from, next_from}
 use Rattle.dsr_parse.proofs.reader.Reader.ref_test.Goals as goal

@@ -1,6 +1,6 @@
 use Rattle.std.proofs.Common.{length}
-use Rattle.dsr_text.specs.Grammar.{relation}
-use Rattle.dsr_text.specs.TreeTexts.{relation_text}
+use Rattle.dsr_syntax_theory.specs.Grammar.{relation}
+use Rattle.dsr_syntax_theory.specs.TreeTexts.{relation_text}
 use Rattle.dsr_parse.specs.Reading.{ReadsItems}
 use Rattle.dsr_parse.proofs.reader.Reader.relations.Given as goal
 

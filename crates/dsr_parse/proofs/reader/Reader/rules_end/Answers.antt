@@ -1,6 +1,6 @@
 use Rattle.dsr_parse.proofs.Passing.{halts_first, halts_rest, passed_on, reads_then}
 use Rattle.dsr_parse.proofs.Taking.{turns_as, turns_mapped}
-use Rattle.dsr_text.specs.TreeTexts.{constraint_text, fresh_text, rule_text}
+use Rattle.dsr_syntax_theory.specs.TreeTexts.{constraint_text, fresh_text, rule_text}
 use Rattle.dsr_tree.specs.Trees.{constraint_shape}
 use Rattle.dsr_parse.proofs.reader.Reader.rules_end.Goals as goal
 

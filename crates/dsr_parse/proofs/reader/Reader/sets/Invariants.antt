@@ -1,6 +1,6 @@
 use Rattle.std.proofs.Common.{length}
-use Rattle.dsr_text.specs.Grammar.{set}
-use Rattle.dsr_text.specs.TreeTexts.{set_text}
+use Rattle.dsr_syntax_theory.specs.Grammar.{set}
+use Rattle.dsr_syntax_theory.specs.TreeTexts.{set_text}
 use Rattle.dsr_parse.specs.Reading.{ReadsItems}
 use Rattle.dsr_parse.proofs.reader.Reader.sets.Given as goal
 

@@ -1,6 +1,6 @@
 use Rattle.std.proofs.Common.{length}
-use Rattle.dsr_text.specs.Grammar.{fresh}
-use Rattle.dsr_text.specs.TreeTexts.{fresh_text}
+use Rattle.dsr_syntax_theory.specs.Grammar.{fresh}
+use Rattle.dsr_syntax_theory.specs.TreeTexts.{fresh_text}
 use Rattle.dsr_parse.specs.Reading.{ReadsItems}
 use Rattle.dsr_parse.proofs.reader.Reader.supplies.Given as goal
 

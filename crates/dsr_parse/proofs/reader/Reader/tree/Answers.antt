@@ -1,6 +1,6 @@
 use Rattle.dsr_parse.proofs.Passing.{halts_first, halts_rest, passed_on, reads_then}
 use Rattle.dsr_parse.proofs.Taking.{turns_mapped}
-use Rattle.dsr_text.specs.TreeTexts.{pool_text, structure_text}
+use Rattle.dsr_syntax_theory.specs.TreeTexts.{pool_text, structure_text}
 use Rattle.dsr_tree.specs.Trees.{pool_shape, structure_shape}
 use Rattle.dsr_parse.proofs.reader.Reader.tree.Goals as goal
 

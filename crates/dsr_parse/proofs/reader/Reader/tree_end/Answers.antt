@@ -1,6 +1,6 @@
 use Rattle.dsr_parse.proofs.Passing.{halts_first, halts_rest, passed_on, reads_then}
 use Rattle.dsr_parse.proofs.Taking.{turns_as}
-use Rattle.dsr_text.specs.TreeTexts.{relation_text, set_text}
+use Rattle.dsr_syntax_theory.specs.TreeTexts.{relation_text, set_text}
 use Rattle.dsr_parse.proofs.reader.Reader.tree_end.Goals as goal
 
 pub returns-in_err-sets-clause-err : goal.returns-in_err-sets-clause-err

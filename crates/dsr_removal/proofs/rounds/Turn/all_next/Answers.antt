@@ -2,7 +2,7 @@ use Rattle.std.proofs.Common.{◌≡◌, ◌∙◌, None, Some, slice_get, slice
 use Rattle.dsr_compensate.proofs.Each.{item_at}
 use Rattle.dsr_graph.proofs.Paired.{paired_step}
 use Rattle.dsr_graph.specs.Graphs.{owner_at}
-use Rattle.dsr_placing.specs.Placing.{IsLeft}
+use Rattle.dsr_placement.specs.Placing.{IsLeft}
 use Rattle.dsr_removal.proofs.Staying.{left_many, left_told, next_same}
 use Rattle.dsr_removal.specs.Rounds.{IsLeftAt, IsNext}
 use Rattle.dsr_removal.proofs.rounds.Turn.all_next.Goals as goal

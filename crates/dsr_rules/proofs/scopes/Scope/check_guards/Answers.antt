@@ -1,8 +1,8 @@
 use Rattle.std.proofs.Common.{ap, sym}
 use Rattle.dsr_meaning.specs.Lists.{each_at}
-use Rattle.dsr_typing.specs.RuleFaults.{guard_faults}
-use Rattle.dsr_typing.specs.Rules.{guards_of}
-use Rattle.dsr_faults.proofs.Finding.{finds_same, finds_then}
+use Rattle.dsr_language_theory.specs.RuleFaults.{guard_faults}
+use Rattle.dsr_language_theory.specs.Rules.{guards_of}
+use Rattle.dsr_names.proofs.Finding.{finds_same, finds_then}
 use Rattle.dsr_rules.specs.Scopes.{scope_told}
 use Rattle.dsr_rules.proofs.scopes.Scope.check_guards.Goals as goal
 

@@ -1,4 +1,4 @@
-use Rattle.dsr_typing.specs.RuleFaults.{guard_faults}
+use Rattle.dsr_language_theory.specs.RuleFaults.{guard_faults}
 use Rattle.dsr_rules.specs.Scopes.{scope_told}
 use Rattle.dsr_rules.proofs.Counted.{finds_next_from}
 use Rattle.dsr_rules.proofs.scopes.Scope.check_more_guards.Goals as goal

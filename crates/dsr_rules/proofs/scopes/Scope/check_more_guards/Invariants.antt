@@ -1,7 +1,7 @@
 use Rattle.std.proofs.Common.{take}
 use Rattle.dsr_meaning.specs.Lists.{each_at}
-use Rattle.dsr_typing.specs.RuleFaults.{guard_faults}
-use Rattle.dsr_faults.specs.Telling.{Finds}
+use Rattle.dsr_language_theory.specs.RuleFaults.{guard_faults}
+use Rattle.dsr_names.specs.Telling.{Finds}
 use Rattle.dsr_rules.specs.Scopes.{scope_told}
 use Rattle.dsr_rules.proofs.scopes.Scope.check_more_guards.Given as goal
 

@@ -1,6 +1,6 @@
 use Rattle.std.proofs.Common.{ap, ◌∙◌, refl}
-use Rattle.dsr_typing.specs.RuleFaults.{index_faults, pair_mismatches}
-use Rattle.dsr_faults.proofs.Finding.{finds_then, finds_same}
+use Rattle.dsr_language_theory.specs.RuleFaults.{index_faults, pair_mismatches}
+use Rattle.dsr_names.proofs.Finding.{finds_then, finds_same}
 use Rattle.dsr_rules.specs.Scopes.{scope_told}
 use Rattle.dsr_rules.proofs.Steps.{finds_mismatch}
 use Rattle.dsr_rules.proofs.scopes.Scope.check_pair.Goals as goal

@@ -1,6 +1,6 @@
 use Rattle.std.proofs.Common.{ap}
-use Rattle.dsr_typing.specs.Known.{unknown}
-use Rattle.dsr_faults.proofs.Finding.{finds_same, finds_then}
+use Rattle.dsr_language_theory.specs.Known.{unknown}
+use Rattle.dsr_names.proofs.Finding.{finds_same, finds_then}
 use Rattle.dsr_rules.proofs.scopes.Scope.check_pair_names.Goals as goal
 
 pub returns-else-is_source-clause-told : goal.returns-else-is_source-clause-told

@@ -1,6 +1,6 @@
 use Rattle.std.proofs.Common.{◌∙◌, refl}
-use Rattle.dsr_text.specs.Declarations.{disagree}
-use Rattle.dsr_faults.proofs.Finding.{finds_then}
+use Rattle.dsr_language_theory.specs.Declarations.{disagree}
+use Rattle.dsr_names.proofs.Finding.{finds_then}
 use Rattle.dsr_rules.proofs.Steps.{finds_mismatch}
 use Rattle.dsr_rules.proofs.scopes.Scope.check_slot_of.Goals as goal
 

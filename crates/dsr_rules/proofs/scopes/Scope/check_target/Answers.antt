@@ -1,7 +1,7 @@
 use Rattle.std.proofs.Common.{ap, ◌∙◌, ◌||◌}
-use Rattle.dsr_typing.specs.Known.{field_is}
-use Rattle.dsr_typing.specs.RuleFaults.{is_other_head, index_faults, refers_elsewhere}
-use Rattle.dsr_faults.proofs.Finding.{finds_then, finds_same}
+use Rattle.dsr_language_theory.specs.Known.{field_is}
+use Rattle.dsr_language_theory.specs.RuleFaults.{is_other_head, index_faults, refers_elsewhere}
+use Rattle.dsr_names.proofs.Finding.{finds_then, finds_same}
 use Rattle.dsr_rules.specs.Scopes.{scope_told}
 use Rattle.dsr_rules.proofs.Steps.{finds_mismatch}
 use Rattle.dsr_rules.proofs.scopes.Scope.check_target.Goals as goal

@@ -1,6 +1,6 @@
 use Rattle.std.proofs.Common.{map, ◌++◌, ◌∷◌, [], sym, ap, ◌∙◌}
 use Rattle.std.proofs.lemmas.List.{map_more, take_all}
-use Rattle.dsr_typing.specs.TypedRules.{typed_guard}
+use Rattle.dsr_language_theory.specs.TypedRules.{typed_guard}
 use Rattle.dsr_rules.specs.Scopes.{scope_told}
 use Rattle.dsr_rules.proofs.scopes.Scope.typed_guard_list.Goals as goal
 

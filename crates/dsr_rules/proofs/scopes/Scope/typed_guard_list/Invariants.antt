@@ -1,5 +1,5 @@
 use Rattle.std.proofs.Common.{◌≡◌, ◌∷◌, map, take}
-use Rattle.dsr_typing.specs.TypedRules.{typed_guard}
+use Rattle.dsr_language_theory.specs.TypedRules.{typed_guard}
 use Rattle.dsr_rules.specs.Scopes.{scope_told}
 use Rattle.dsr_rules.proofs.scopes.Scope.typed_guard_list.Given as goal
 

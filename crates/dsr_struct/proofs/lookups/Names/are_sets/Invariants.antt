@@ -1,5 +1,5 @@
 use Rattle.std.proofs.Common.{◌≡◌, drop}
-use Rattle.dsr_text.specs.Declarations.{all_sets}
+use Rattle.dsr_language_theory.specs.Declarations.{all_sets}
 use Rattle.dsr_struct.specs.Known.{known_of}
 use Rattle.dsr_struct.proofs.lookups.Names.are_sets.Given as goal
 

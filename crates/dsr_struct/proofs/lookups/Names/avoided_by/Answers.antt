@@ -1,5 +1,5 @@
 use Rattle.std.proofs.Common.{◌∙◌}
-use Rattle.dsr_text.specs.Tables.{number_in}
+use Rattle.dsr_language_theory.specs.Tables.{number_in}
 use Rattle.dsr_struct.specs.Known.{known_of}
 use Rattle.dsr_struct.proofs.Growing.{all_made_behind, one_more_behind}
 use Rattle.dsr_struct.proofs.lookups.Names.avoided_by.Goals as goal

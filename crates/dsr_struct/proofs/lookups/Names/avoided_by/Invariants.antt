@@ -1,5 +1,5 @@
 use Rattle.std.proofs.Common.{◌≡◌, ◌∷◌, map, take}
-use Rattle.dsr_text.specs.Tables.{number_in}
+use Rattle.dsr_language_theory.specs.Tables.{number_in}
 use Rattle.dsr_struct.specs.Known.{known_of}
 use Rattle.dsr_struct.proofs.lookups.Names.avoided_by.Given as goal
 

@@ -2,10 +2,10 @@ use Rattle.std.proofs.Common.{ap, sym, ◌∙◌, map, take}
 use Rattle.std.proofs.Math.Nat.{min_comm}
 use Rattle.std.proofs.lemmas.List.{take-map, take_min}
 use Rattle.dsr_tree.specs.Trees.{pool_shape, structure_shape}
-use Rattle.dsr_text.specs.Declarations.{structure_faults, pool_faults, set_faults, relation_faults, supply_faults}
+use Rattle.dsr_language_theory.specs.Declarations.{structure_faults, pool_faults, set_faults, relation_faults, supply_faults}
 use Rattle.dsr_meaning.specs.Lists.{each_at}
 use Rattle.dsr_struct.specs.Known.{known_of}
-use Rattle.dsr_faults.proofs.Finding.{finds_same, finds_then}
+use Rattle.dsr_names.proofs.Finding.{finds_same, finds_then}
 use Rattle.dsr_struct.proofs.lookups.Names.check.Goals as goal
 
 pub returns : goal.returns

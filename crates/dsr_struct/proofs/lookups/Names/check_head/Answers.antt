@@ -1,7 +1,7 @@
 use Rattle.std.proofs.Common.{ap, not, sym, ◌∙◌, is_none}
 use Rattle.std.proofs.Math.Bool.{not-not}
 use Rattle.dsr_struct.specs.Known.{known_of}
-use Rattle.dsr_faults.proofs.Finding.{finds_when}
+use Rattle.dsr_names.proofs.Finding.{finds_when}
 use Rattle.dsr_struct.proofs.lookups.Names.check_head.Goals as goal
 
 pub returns : goal.returns

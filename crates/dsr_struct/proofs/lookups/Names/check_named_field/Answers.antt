@@ -1,5 +1,5 @@
 use Rattle.std.proofs.Common.{sym, ◌∙◌}
-use Rattle.dsr_faults.proofs.Finding.{finds_then, finds_when}
+use Rattle.dsr_names.proofs.Finding.{finds_then, finds_when}
 use Rattle.dsr_struct.proofs.lookups.Names.check_named_field.Goals as goal
 use Rattle.dsr_struct.proofs.lookups.Names.check_named_field.Goals.{then-is_some, else-is_some}
 

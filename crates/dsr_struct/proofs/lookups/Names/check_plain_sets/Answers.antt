@@ -1,5 +1,5 @@
-use Rattle.dsr_text.specs.Declarations.{unknown_name}
-use Rattle.dsr_text.specs.Names.{plain_set}
+use Rattle.dsr_language_theory.specs.Declarations.{unknown_name}
+use Rattle.dsr_language_theory.specs.Names.{plain_set}
 use Rattle.dsr_struct.specs.Known.{known_of}
 use Rattle.dsr_struct.proofs.Counted.{finds_next_from}
 use Rattle.dsr_struct.proofs.lookups.Names.check_plain_sets.Goals as goal

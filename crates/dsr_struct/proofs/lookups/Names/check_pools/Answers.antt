@@ -1,7 +1,7 @@
 use Rattle.dsr_tree.specs.Trees.{pool_shape}
-use Rattle.dsr_text.specs.Declarations.{pool_faults}
+use Rattle.dsr_language_theory.specs.Declarations.{pool_faults}
 use Rattle.dsr_struct.specs.Known.{known_of}
-use Rattle.dsr_faults.proofs.Finding.{finds_next}
+use Rattle.dsr_names.proofs.Finding.{finds_next}
 use Rattle.dsr_struct.proofs.lookups.Names.check_pools.Goals as goal
 
 pub loop-number-preserved : goal.loop-number-preserved

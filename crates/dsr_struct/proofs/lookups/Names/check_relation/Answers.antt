@@ -1,7 +1,7 @@
 use Rattle.std.proofs.Common.{◌≡◌, ap, not, ◌∙◌, ◌||◌, is_some}
-use Rattle.dsr_text.specs.Names.{is_at}
+use Rattle.dsr_language_theory.specs.Names.{is_at}
 use Rattle.dsr_struct.specs.Known.{known_of}
-use Rattle.dsr_faults.proofs.Finding.{finds_then, finds_when}
+use Rattle.dsr_names.proofs.Finding.{finds_then, finds_when}
 use Rattle.dsr_struct.proofs.lookups.Names.check_relation.Goals.{then-is_some, else-is_some}
 use Rattle.dsr_struct.proofs.lookups.Names.check_relation.Goals as goal
 

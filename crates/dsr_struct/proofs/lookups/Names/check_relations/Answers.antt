@@ -1,6 +1,6 @@
-use Rattle.dsr_text.specs.Declarations.{relation_faults}
+use Rattle.dsr_language_theory.specs.Declarations.{relation_faults}
 use Rattle.dsr_struct.specs.Known.{known_of}
-use Rattle.dsr_faults.proofs.Finding.{finds_next_of}
+use Rattle.dsr_names.proofs.Finding.{finds_next_of}
 use Rattle.dsr_struct.proofs.lookups.Names.check_relations.Goals as goal
 
 pub loop-number-preserved : goal.loop-number-preserved

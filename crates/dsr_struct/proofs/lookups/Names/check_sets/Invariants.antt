@@ -1,8 +1,8 @@
 use Rattle.std.proofs.Common.{take}
-use Rattle.dsr_text.specs.Declarations.{set_faults}
+use Rattle.dsr_language_theory.specs.Declarations.{set_faults}
 use Rattle.dsr_meaning.specs.Lists.{each_at}
 use Rattle.dsr_struct.specs.Known.{known_of}
-use Rattle.dsr_faults.specs.Telling.{Finds}
+use Rattle.dsr_names.specs.Telling.{Finds}
 use Rattle.dsr_struct.proofs.lookups.Names.check_sets.Given as goal
 
 abbrev pub invariant-loop-number : goal.invariant-loop-number

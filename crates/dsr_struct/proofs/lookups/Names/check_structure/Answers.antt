@@ -1,6 +1,6 @@
 use Rattle.std.proofs.Common.{ap, not, ◌∙◌}
-use Rattle.dsr_text.specs.Names.{is_at}
-use Rattle.dsr_faults.proofs.Finding.{finds_then, finds_when}
+use Rattle.dsr_language_theory.specs.Names.{is_at}
+use Rattle.dsr_names.proofs.Finding.{finds_then, finds_when}
 use Rattle.dsr_struct.proofs.lookups.Names.check_structure.Goals as goal
 
 pub returns : goal.returns

@@ -1,9 +1,9 @@
 use Rattle.std.proofs.Common.{ap, not, ◌∙◌, is_none}
-use Rattle.dsr_text.specs.Declarations.{unknown_name}
+use Rattle.dsr_language_theory.specs.Declarations.{unknown_name}
 use Rattle.dsr_meaning.specs.Lists.{each_at}
-use Rattle.dsr_text.specs.Names.{is_at, plain_set}
+use Rattle.dsr_language_theory.specs.Names.{is_at, plain_set}
 use Rattle.dsr_struct.specs.Known.{known_of}
-use Rattle.dsr_faults.proofs.Finding.{finds_same, finds_then, finds_when}
+use Rattle.dsr_names.proofs.Finding.{finds_same, finds_then, finds_when}
 use Rattle.dsr_struct.proofs.lookups.Names.check_supply.Goals as goal
 
 pub returns : goal.returns

@@ -1,7 +1,7 @@
 use Rattle.std.proofs.Common.{ap, sym, ◌∙◌, is_none, Some}
-use Rattle.dsr_text.specs.Declarations.{view_faults, is_unrelated, disagree}
+use Rattle.dsr_language_theory.specs.Declarations.{view_faults, is_unrelated, disagree}
 use Rattle.dsr_struct.specs.Known.{known_of}
-use Rattle.dsr_faults.proofs.Finding.{finds_same, finds_then, finds_when}
+use Rattle.dsr_names.proofs.Finding.{finds_same, finds_then, finds_when}
 use Rattle.dsr_struct.proofs.lookups.Names.check_view.Goals as goal
 
 pub returns-in-Some-As : goal.returns-in-Some-As

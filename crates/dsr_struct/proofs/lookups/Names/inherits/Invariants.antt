@@ -1,5 +1,5 @@
 use Rattle.std.proofs.Common.{◌≡◌, drop, is_some}
-use Rattle.dsr_text.specs.Names.{inherits, own_field}
+use Rattle.dsr_language_theory.specs.Names.{inherits, own_field}
 use Rattle.dsr_meaning.specs.Lists.{any_of}
 use Rattle.dsr_struct.specs.Known.{known_of}
 use Rattle.dsr_struct.proofs.lookups.Names.inherits.Given as goal

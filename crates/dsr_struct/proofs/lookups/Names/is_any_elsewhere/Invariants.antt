@@ -1,5 +1,5 @@
 use Rattle.std.proofs.Common.{◌≡◌, drop}
-use Rattle.dsr_text.specs.Declarations.{is_elsewhere}
+use Rattle.dsr_language_theory.specs.Declarations.{is_elsewhere}
 use Rattle.dsr_meaning.specs.Lists.{any_of}
 use Rattle.dsr_struct.specs.Known.{known_of}
 use Rattle.dsr_struct.proofs.lookups.Names.is_any_elsewhere.Given as goal

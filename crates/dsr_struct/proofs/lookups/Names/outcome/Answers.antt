@@ -1,7 +1,7 @@
 use Rattle.std.proofs.Common.{sym, ap, ◌∙◌, subst}
 use Rattle.std.proofs.lemmas.Result.{err_from_is_err_and}
 use Rattle.dsr_tree.specs.Trees.{tree_shape}
-use Rattle.dsr_text.specs.Tables.{tables_with}
+use Rattle.dsr_language_theory.specs.Tables.{tables_with}
 use Rattle.dsr_struct.specs.Known.{known_of}
 use Rattle.dsr_meaning.specs.Placeable.{ArePlaceable}
 use Rattle.dsr_struct.proofs.Outcome.{fault_told, no_fault, numbers_fit, widths_legal}

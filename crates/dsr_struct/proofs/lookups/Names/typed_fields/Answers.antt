@@ -1,6 +1,6 @@
 use Rattle.std.proofs.Common.{refl, ◌∙◌}
 use Rattle.dsr_tree.specs.Trees.{field_shape}
-use Rattle.dsr_text.specs.Tables.{typed_field}
+use Rattle.dsr_language_theory.specs.Tables.{typed_field}
 use Rattle.dsr_struct.specs.Known.{known_of, HasLegalWidth}
 use Rattle.dsr_struct.proofs.Mapped.{all_shaped, item_has, made_next}
 use Rattle.dsr_struct.proofs.lookups.Names.typed_fields.Goals as goal

@@ -1,6 +1,6 @@
 use Rattle.std.proofs.Common.{◌∙◌}
 use Rattle.dsr_tree.specs.Trees.{pool_shape}
-use Rattle.dsr_text.specs.Tables.{typed_pool}
+use Rattle.dsr_language_theory.specs.Tables.{typed_pool}
 use Rattle.dsr_struct.specs.Known.{known_of}
 use Rattle.dsr_struct.proofs.Mapped.{all_shaped, made_next}
 use Rattle.dsr_struct.proofs.lookups.Names.typed_pools.Goals as goal

@@ -1,5 +1,5 @@
 use Rattle.std.proofs.Common.{◌∙◌}
-use Rattle.dsr_text.specs.Tables.{typed_relation}
+use Rattle.dsr_language_theory.specs.Tables.{typed_relation}
 use Rattle.dsr_struct.specs.Known.{known_of}
 use Rattle.dsr_struct.proofs.Growing.{all_made, one_more}
 use Rattle.dsr_struct.proofs.lookups.Names.typed_relations.Goals as goal

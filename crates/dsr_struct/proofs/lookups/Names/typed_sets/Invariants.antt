@@ -1,5 +1,5 @@
 use Rattle.std.proofs.Common.{◌≡◌, map, take}
-use Rattle.dsr_text.specs.Tables.{typed_set}
+use Rattle.dsr_language_theory.specs.Tables.{typed_set}
 use Rattle.dsr_struct.specs.Known.{known_of}
 use Rattle.dsr_struct.proofs.lookups.Names.typed_sets.Given as goal
 

@@ -1,6 +1,6 @@
 use Rattle.std.proofs.Common.{All, map, subst, sym, ◌∙◌}
 use Rattle.dsr_tree.specs.Trees.{structure_shape}
-use Rattle.dsr_text.specs.Tables.{typed_structure}
+use Rattle.dsr_language_theory.specs.Tables.{typed_structure}
 use Rattle.dsr_struct.specs.Known.{known_of, HasLegalWidths}
 use Rattle.dsr_struct.proofs.Mapped.{all_shaped, item_has, made_next}
 use Rattle.dsr_struct.proofs.lookups.Names.typed_structures.Goals as goal

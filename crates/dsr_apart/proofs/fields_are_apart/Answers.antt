@@ -1,6 +1,0 @@
--- Cells of two fields of a record share no bit.
-use Rattle.dsr_apart.proofs.Fields.{in_other_fields}
-use Rattle.dsr_apart.proofs.fields_are_apart.Goals as goal
-
-pub returns : goal.returns
-returns c = in_other_fields

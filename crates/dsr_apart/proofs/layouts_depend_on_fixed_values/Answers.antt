@@ -1,5 +1,0 @@
-use Rattle.dsr_meaning.specs.Layouts.{layout_with}
-use Rattle.dsr_apart.proofs.layouts_depend_on_fixed_values.Goals as goal
-
-pub returns : goal.returns
-returns c base old new long same = λ i. layout_with (λ field. same field i) base (long i)

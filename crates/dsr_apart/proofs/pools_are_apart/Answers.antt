@@ -1,6 +1,0 @@
--- Cells of two pools share no bit.
-use Rattle.dsr_apart.proofs.Records.{in_other_pools}
-use Rattle.dsr_apart.proofs.pools_are_apart.Goals as goal
-
-pub returns : goal.returns
-returns c = in_other_pools

@@ -1,6 +1,0 @@
--- Cells of two slots of a pool share no bit.
-use Rattle.dsr_apart.proofs.Records.{in_other_slots}
-use Rattle.dsr_apart.proofs.slots_are_apart.Goals as goal
-
-pub returns : goal.returns
-returns c layout = in_other_slots layout

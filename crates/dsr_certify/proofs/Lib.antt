@@ -1,2 +1,0 @@
-pub mod Excluding
-pub mod Answered

@@ -1,3 +1,0 @@
-pub mod Certified
-pub mod Faults
-pub mod Verified

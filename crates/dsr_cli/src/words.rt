@@ -1,0 +1,174 @@
+// The words of the command line.
+ghost use Rattle.std.specs.Prelude.{◌≡◌, map, option_map, string_bytes};
+ghost use Rattle.dsr_cli.specs.Asking.{asked_of};
+ghost use Rattle.std.specs.Str.{all_ascii_digits};
+ghost use Rattle.dsr_command_theory.specs.Words as said;
+
+/// A command, with the names of its files.
+#[derive(Clone, Copy)]
+pub enum Command<'a> {
+    /// A certificate of the plan of a specification, saved under the second name.
+    Certify {
+        spec: &'a str,
+        certificate: &'a str,
+    },
+    /// Whether an image is consistent under a specification.
+    Check {
+        spec: &'a str,
+        image: &'a str,
+    },
+    /// The plan of a specification.
+    Plan {
+        spec: &'a str,
+    },
+    /// A repair of an image by the plan of a specification, saved under the last name.
+    Repair {
+        spec: &'a str,
+        image: &'a str,
+        out: &'a str,
+    },
+    /// The canonical text of a specification.
+    Text {
+        spec: &'a str,
+    },
+    /// The trial of this number.
+    Trial(u16),
+    /// Whether a certificate is one of a plan of the specification.
+    Verify {
+        spec: &'a str,
+        certificate: &'a str,
+    },
+}
+
+fn is_odd(word: &str) -> bool
+    ensures { result ≡ said.is_odd word.now }
+{
+    match word.as_bytes() {
+        [] => true,
+        [first, ..] => *first == b'-',
+    }
+}
+
+fn are_digits(word: &[u8]) -> bool
+    ensures { result ≡ all_ascii_digits word.now }
+{
+    for byte in word {
+        if !byte.is_ascii_digit() {
+            return false;
+        }
+    }
+    true
+}
+
+// The number of a trial. Zeros may stand in front of it.
+fn trial_number(word: &str) -> Option<u16>
+    ensures { result ≡ said.trial_number word.now }
+{
+    if word.len() > 5 || !are_digits(word.as_bytes()) {
+        return None;
+    }
+    word.parse::<u16>().ok()
+}
+
+fn to_try<'a>(word: &str) -> Option<Command<'a>>
+    ensures { option_map asked_of result ≡ said.to_try word.now }
+{
+    Some(Command::Trial(trial_number(word)?))
+}
+
+// The commands with one word behind them.
+fn with_one<'a>(command: &str, word: &'a str) -> Option<Command<'a>>
+    ensures { option_map asked_of result ≡ said.with_one command.now word.now }
+{
+    if command == "text" {
+        return Some(Command::Text { spec: word });
+    }
+    if command == "plan" {
+        return Some(Command::Plan { spec: word });
+    }
+    if command == "trial" {
+        return to_try(word);
+    }
+    None
+}
+
+// What is saved has another name than the specification.
+fn certify<'a>(spec: &'a str, certificate: &'a str) -> Option<Command<'a>>
+    ensures { option_map asked_of result ≡ said.to_certify spec.now certificate.now }
+{
+    if certificate == spec {
+        return None;
+    }
+    Some(Command::Certify { spec, certificate })
+}
+
+// Those with two.
+fn with_two<'a>(command: &str, spec: &'a str, file: &'a str) -> Option<Command<'a>>
+    ensures { option_map asked_of result ≡ said.with_two command.now spec.now file.now }
+{
+    if command == "check" {
+        return Some(Command::Check { spec, image: file });
+    }
+    if command == "certify" {
+        return certify(spec, file);
+    }
+    if command == "verify" {
+        return Some(Command::Verify {
+            spec,
+            certificate: file,
+        });
+    }
+    None
+}
+
+// What is saved has another name than the specification, and may have that of the image.
+fn repair<'a>(spec: &'a str, image: &'a str, out: &'a str) -> Option<Command<'a>>
+    ensures { option_map asked_of result ≡ said.to_repair spec.now image.now out.now }
+{
+    if out == spec {
+        return None;
+    }
+    Some(Command::Repair { spec, image, out })
+}
+
+// The one with three.
+fn with_three<'a>(command: &str, spec: &'a str, image: &'a str, out: &'a str) -> Option<Command<'a>>
+    ensures { option_map asked_of result ≡ said.with_three command.now spec.now image.now out.now }
+{
+    if command == "repair" {
+        return repair(spec, image, out);
+    }
+    None
+}
+
+/// What the words ask for; none where they are no command.
+pub fn command_of(words: &[String]) -> Option<Command<'_>>
+    ensures { option_map asked_of result ≡ said.command_of (map string_bytes words.now) }
+{
+    match words {
+        [command, word] => {
+            if is_odd(word.as_str()) {
+                return None;
+            }
+            with_one(command.as_str(), word.as_str())
+        }
+        [command, spec, file] => {
+            if is_odd(spec.as_str()) || is_odd(file.as_str()) {
+                return None;
+            }
+            with_two(command.as_str(), spec.as_str(), file.as_str())
+        }
+        [command, spec, image, out] => {
+            if is_odd(spec.as_str()) || is_odd(image.as_str()) || is_odd(out.as_str()) {
+                return None;
+            }
+            with_three(
+                command.as_str(),
+                spec.as_str(),
+                image.as_str(),
+                out.as_str(),
+            )
+        }
+        _ => None,
+    }
+}

@@ -1,0 +1,11 @@
+pub mod ImagesChecked
+pub mod TextsPrinted
+pub mod UsageTold
+pub mod PlansFound
+pub mod PlansCertified
+pub mod CertificatesVerified
+pub mod Unmoved
+pub mod ImagesRepaired
+pub mod TrialsTold
+pub mod Lasting
+pub mod Tellings

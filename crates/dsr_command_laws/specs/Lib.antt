@@ -1,0 +1,4 @@
+pub mod ImageHeadlines
+pub mod PlanHeadlines
+pub mod Repairs
+pub mod RepairHeadlines

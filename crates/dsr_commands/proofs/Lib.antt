@@ -1,3 +1,0 @@
-pub mod NoCommand
-pub mod Stages
-pub mod TrialNumbers

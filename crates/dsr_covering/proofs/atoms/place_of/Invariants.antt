@@ -1,5 +1,0 @@
-use Rattle.dsr_covering.proofs.Places.{IsLeft}
-use Rattle.dsr_covering.proofs.atoms.place_of.Given as goal
-
-abbrev pub invariant-loop-place : goal.invariant-loop-place
-invariant-loop-place l = IsLeft l.atom l.atoms l.place

@@ -1,5 +1,0 @@
-use Rattle.dsr_decided.proofs.Functional.{one_target}
-use Rattle.dsr_decided.proofs.laws.functional_relations_have_one_target.Goals as goal
-
-pub returns : goal.returns
-returns c = one_target

@@ -1,7 +1,0 @@
-use Rattle.dsr_meaning.specs.Models.{IsFact}
-use Rattle.dsr_decided.proofs.Models.{facts_listed}
-use Rattle.dsr_decided.proofs.Violations.{in_order}
-use Rattle.dsr_decided.proofs.laws.violations_are_there.Goals as goal
-
-pub returns : goal.returns
-returns c spec layout bytes = in_order (IsFact spec layout bytes) (facts_listed spec layout bytes) spec

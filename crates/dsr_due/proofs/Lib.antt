@@ -1,9 +1,0 @@
-pub mod Best
-pub mod Chosen
-pub mod Gone
-pub mod Here
-pub mod Laws
-pub mod Made
-pub mod Passing
-pub mod Same
-pub mod Taken

@@ -1,4 +1,0 @@
-pub mod Violations
-pub mod Literals
-pub mod Chosen
-pub mod Supplies

@@ -1,6 +1,0 @@
-use Rattle.std.proofs.Common.{[], take}
-use Rattle.dsr_updating.specs.Templates.{AreOnce}
-use Rattle.dsr_edges.proofs.causes.each_once.Given as goal
-
-abbrev pub invariant-loop-cause : goal.invariant-loop-cause
-invariant-loop-cause l = AreOnce [] (take l.cause-index l.causes) l.once.items

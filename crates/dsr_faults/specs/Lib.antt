@@ -1,2 +1,0 @@
-pub mod FaultsTold
-pub mod Telling

@@ -1,3 +1,0 @@
-pub mod ImagesChecked
-pub mod TextsPrinted
-pub mod UsageTold

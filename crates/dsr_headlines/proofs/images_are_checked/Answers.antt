@@ -1,8 +1,0 @@
-use Rattle.dsr_headlines.proofs.ImagesChecked.{checks_images, checks_nothing_else}
-use Rattle.dsr_headlines.proofs.images_are_checked.Goals as goal
-
-pub returns : goal.returns
-returns c = record {
-  images = checks_images c.texts_have_one_meaning.ensures;
-  nothing_else = checks_nothing_else c.texts_have_one_meaning.ensures;
-}

@@ -1,0 +1,16 @@
+pub mod BoundVariables
+pub mod Constants
+pub mod FormulaAtoms
+pub mod FormulaLiterals
+pub mod FoundNames
+pub mod Items
+pub mod RulePaths
+pub mod RuleScopes
+pub mod SameAtoms
+pub mod TypedAtoms
+pub mod TypedConstraints
+pub mod TypedInclusions
+pub mod TypedRules
+pub mod TypedSizes
+pub mod SpelledPhrases
+pub mod SpelledTrees

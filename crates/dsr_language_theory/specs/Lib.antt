@@ -1,0 +1,12 @@
+pub mod Declarations
+pub mod Faults
+pub mod Names
+pub mod Tables
+pub mod Constraints
+pub mod Known
+pub mod NormalForms
+pub mod RuleFaults
+pub mod Rules
+pub mod Specifications
+pub mod TypedConstraints
+pub mod TypedRules

@@ -1,3 +1,0 @@
-pub mod FirstKept
-pub mod KnownSets
-pub mod Unique

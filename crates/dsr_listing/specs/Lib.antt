@@ -1,4 +1,0 @@
-pub mod Owners
-pub mod Sides
-pub mod Candidates
-pub mod Lists

@@ -1,4 +1,0 @@
-pub mod Changed
-pub mod PutBytes
-pub mod Sets
-pub mod ToldChanges

@@ -1,7 +1,0 @@
-mod Clean
-mod Same
-mod Spelled
-mod Splits
-mod Told
-mod Unique
-mod Words

@@ -1,5 +1,0 @@
-use Rattle.dsr_reading.proofs.Once.{one_reading, one_refusal}
-use Rattle.dsr_one_meaning.proofs.refusals_are_one.Goals as goal
-
-pub returns : goal.returns
-returns c = record { refusals = one_refusal; readings = one_reading }

@@ -1,5 +1,0 @@
-use Rattle.dsr_reading.proofs.Once.{not_refused, tree_unique}
-use Rattle.dsr_one_meaning.proofs.texts_have_one_meaning.Goals as goal
-
-pub returns : goal.returns
-returns c = record { unique = tree_unique; not_refused = not_refused }

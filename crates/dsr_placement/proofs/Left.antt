@@ -1,0 +1,23 @@
+-- What is left, one constraint after the other.
+use Rattle.std.proofs.Common.{◌≡◌, ◌<◌, ◌+◌, ℕ, zero, suc, Bool, true, false, nat_eq, List, [], ◌∷◌, Some, length, slice_get, refl, subst, arith}
+use Rattle.std.proofs.lemmas.Bool.{false≢true}
+use Rattle.std.proofs.lemmas.Bool.Decides.{nat_tests}
+use Rattle.dsr_placement.specs.Placing.{IsLeft}
+
+pub left_below : (left : List Bool) (n : ℕ) → IsLeft left n → n < length left
+left_below [] n is = absurd (false≢true is)
+left_below (x ∷ left) zero is = omega arith
+left_below (x ∷ left) (suc n) is = let less = left_below left n is in omega (arith, less)
+
+pub item_there : {T : Type 0} (xs : List T) (n : ℕ) → n < length xs → (x : T) × (slice_get xs n ≡ Some x)
+item_there [] n less = absurd (omega (arith, less))
+item_there (x ∷ xs) zero less = (x, refl)
+item_there (x ∷ xs) (suc n) less = item_there xs n (omega (arith, less))
+
+-- none of those so far, and not this one
+pub none_more : (P : ℕ → Type 0) (n : ℕ) → (P n → ⊥) → ((m : ℕ) → m < n → P m → ⊥) → (m : ℕ) → m < n + 1 → P m → ⊥
+none_more P n not_here before m below its =
+    elim (nat_eq m n) as (λ t. nat_eq m n ≡ t → ⊥) [
+      | true ↦ λ e. let same : m ≡ n = grind (arith, nat_tests) in not_here (subst P same its)
+      | false ↦ λ e. before m (grind (arith, nat_tests)) its
+    ] refl

@@ -1,0 +1,13 @@
+use Rattle.std.proofs.Common.{◌≡◌, length}
+use Rattle.dsr_compensate.proofs.Each.{EachBefore}
+use Rattle.dsr_graph.specs.Graphs.{IsWayOf}
+use Rattle.dsr_ir.specs.declared.updates.Template.{Template}
+use Rattle.dsr_graph_theory.specs.Owners.{Owner}
+use Rattle.dsr_placement.specs.Placing.{BreaksLeft, IsLeft}
+use Rattle.dsr_placement.proofs.sparing.spares.Given as goal
+
+-- none of those so far is left and broken
+abbrev pub invariant-loop-other : goal.invariant-loop-other
+invariant-loop-other l =
+    (owner : Owner) (template : Template) → IsWayOf l.graph l.at.constraint l.at.conj l.at.literal l.way owner template → length l.left ≡ length owner.spec.constraints
+    → EachBefore (λ n other. BreaksLeft owner (IsLeft l.left) template n other → ⊥) owner.spec.constraints l.other

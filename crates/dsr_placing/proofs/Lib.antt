@@ -1,4 +1,0 @@
-pub mod Once
-pub mod Counted
-pub mod Left
-pub mod Marks

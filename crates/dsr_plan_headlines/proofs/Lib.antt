@@ -1,3 +1,0 @@
-pub mod PlansFound
-pub mod PlansCertified
-pub mod CertificatesVerified

@@ -1,8 +1,0 @@
-use Rattle.dsr_plan_headlines.proofs.PlansFound.{finds_nothing_else, finds_plans}
-use Rattle.dsr_plan_headlines.proofs.plans_are_found.Goals as goal
-
-pub returns : goal.returns
-returns c = record {
-  plans = finds_plans c.texts_have_one_meaning.ensures;
-  nothing_else = finds_nothing_else c.texts_have_one_meaning.ensures;
-}

@@ -1,0 +1,3 @@
+pub mod KnownSets
+pub mod Unique
+pub mod OnePlan

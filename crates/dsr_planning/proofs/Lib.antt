@@ -1,4 +1,0 @@
-pub mod Descent
-pub mod Fitting
-pub mod Grown
-pub mod OnePlan

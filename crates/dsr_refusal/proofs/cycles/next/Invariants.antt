@@ -1,7 +1,0 @@
-use Rattle.std.proofs.Common.{◌≡◌}
-use Rattle.dsr_compensate.proofs.Each.{EachBefore}
-use Rattle.dsr_refusal.proofs.cycles.next.Given as goal
-
--- none of those so far has the number
-abbrev pub invariant-loop-member : goal.invariant-loop-member
-invariant-loop-member l = EachBefore (λ _ member. member.constraint ≡ l.number → ⊥) l.members l.member-index

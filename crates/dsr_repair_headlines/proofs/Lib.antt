@@ -1,4 +1,0 @@
-pub mod Unmoved
-pub mod ImagesRepaired
-pub mod TrialsTold
-pub mod Lasting

@@ -1,2 +1,0 @@
-pub mod Repairs
-pub mod Headlines

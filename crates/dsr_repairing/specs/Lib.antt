@@ -1,4 +1,0 @@
-pub mod Due
-pub mod Turns
-pub mod Entries
-pub mod Runs

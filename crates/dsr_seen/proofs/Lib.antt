@@ -1,2 +1,0 @@
-pub mod Bridged
-pub mod SameFacts

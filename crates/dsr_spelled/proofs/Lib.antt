@@ -1,2 +1,0 @@
-pub mod SpelledPhrases
-pub mod SpelledTrees

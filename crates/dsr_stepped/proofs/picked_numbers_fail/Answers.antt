@@ -1,5 +1,0 @@
-use Rattle.dsr_stepped.proofs.Removed.{picked_fails}
-use Rattle.dsr_stepped.proofs.picked_numbers_fail.Goals as goal
-
-pub returns : goal.returns
-returns c spec layout step field f test pick number legal = picked_fails spec layout legal step field f test pick number

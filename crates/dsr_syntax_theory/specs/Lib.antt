@@ -1,0 +1,9 @@
+pub mod Bare
+pub mod Canonical
+pub mod Grammar
+pub mod Parsing
+pub mod Phrases
+pub mod Sentences
+pub mod Syntax
+pub mod Tokens
+pub mod TreeTexts

@@ -1,6 +1,0 @@
-use Rattle.std.proofs.Common.{◌≡◌, drop}
-use Rattle.dsr_tokens.specs.Spelled.{sign_among}
-use Rattle.dsr_tokens.proofs.spellings.find_front.Given as goal
-
-abbrev pub invariant-loop-sign : goal.invariant-loop-sign
-invariant-loop-sign l = sign_among (drop l.sign-index l.signs) l.bytes ≡ sign_among l.signs l.bytes

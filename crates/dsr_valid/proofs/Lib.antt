@@ -1,6 +1,0 @@
-pub mod Items
-pub mod Feedless
-pub mod Formed
-pub mod TakenLevels
-pub mod SaidLines
-pub mod Valid

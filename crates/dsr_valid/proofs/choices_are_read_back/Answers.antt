@@ -1,5 +1,0 @@
-use Rattle.dsr_valid.proofs.Valid.{once_said, right_said}
-use Rattle.dsr_valid.proofs.choices_are_read_back.Goals as goal
-
-pub returns : goal.returns
-returns c = record { right = right_said; read = once_said }

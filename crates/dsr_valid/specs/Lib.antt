@@ -1,2 +1,0 @@
-pub mod LowLevels
-pub mod Said

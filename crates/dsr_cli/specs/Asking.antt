@@ -1,13 +1,20 @@
 -- A command, as its words ask for it.
+use Rattle.std.specs.Prelude.{ℕ, List}
 use Rattle.dsr_command_theory.specs.Words.{Asked, Certify, Check, Plan, Repair, Text, Trial, Verify}
 use Rattle.dsr_cli.specs.declared.words.Command.{Command}
 use Rattle.dsr_cli.specs.declared.words.Command.TheVariants as commands
+use Rattle.dsr_cli.specs.declared.words.Task.{Task}
+use Rattle.dsr_cli.specs.declared.words.Task.TheVariants as tasks
+
+-- what is asked of the specification of this name
+abbrev pub asked_for : List ℕ → Task → Asked
+asked_for spec (tasks.Certify certificate) = Certify spec certificate.now
+asked_for spec (tasks.Check image) = Check spec image.now
+asked_for spec tasks.Plan = Plan spec
+asked_for spec (tasks.Repair image out) = Repair spec image.now out.now
+asked_for spec tasks.Text = Text spec
+asked_for spec (tasks.Verify certificate) = Verify spec certificate.now
 
 abbrev pub asked_of : Command → Asked
-asked_of (commands.Certify spec certificate) = Certify spec.now certificate.now
-asked_of (commands.Check spec image) = Check spec.now image.now
-asked_of (commands.Plan spec) = Plan spec.now
-asked_of (commands.Repair spec image out) = Repair spec.now image.now out.now
-asked_of (commands.Text spec) = Text spec.now
+asked_of (commands.Of spec task) = asked_for spec.now task
 asked_of (commands.Trial number) = Trial number
-asked_of (commands.Verify spec certificate) = Verify spec.now certificate.now

@@ -9,4 +9,4 @@ mod words;
 pub use dsr_script::{Status, Verdict};
 pub use program::run;
 pub use waiting::Waiting;
-pub use words::{Command, command_of};
+pub use words::{Command, Task, command_of};

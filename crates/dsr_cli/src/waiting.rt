@@ -1,14 +1,16 @@
 // Commands that wait for a file.
 ghost use Rattle.std.specs.Prelude.{◌≡◌, ◌≤◌, ◌+◌, IfOk, Some, length};
 ghost use Rattle.dsr_command_theory.specs.Commands as commands;
-ghost use Rattle.dsr_command_theory.specs.Commands.{certify_after, check_after, checks, plan_after, repair_after, repairs, script_of, text_after, verifies, verify_after};
+ghost use Rattle.dsr_command_theory.specs.Commands.{loads_certificate, loads_image, plans_repair, reads, repairs, saves_plan, script_of, tells_text};
 ghost use Rattle.dsr_cli.specs.Asking.{asked_of};
-ghost use Rattle.dsr_cli.specs.Stages.{due, is_ready, left};
+ghost use Rattle.dsr_cli.specs.Stages.{comes_to, due, is_ready, left, loaded_for};
 ghost use Rattle.dsr_meaning.specs.Typed.{IsTyped};
 ghost use Rattle.dsr_plan_theory.specs.Taken.{IsTaken};
+ghost use Rattle.dsr_compile.specs.Readings.{IsSpecOf};
 ghost use Rattle.dsr_script.specs.Moves.{Follows, IsReady, loads_of};
+ghost use Rattle.dsr_tree.specs.Trees.{tree_shape};
 
-use crate::words::{Command, command_of};
+use crate::words::{Command, Task, command_of};
 use dsr_answers::told;
 use dsr_command_certify::{Certified, certify, verify};
 use dsr_command_image::{Repaired, check, repair};
@@ -19,6 +21,7 @@ use dsr_ir::{NoMemory, Spec};
 use dsr_parse::print;
 use dsr_plan_theory::{Choice, Plan};
 use dsr_script::{Commands, Move, Stage, Told, Verdict};
+use dsr_tree::Tree;
 use std::alloc::{AllocError, Global};
 
 /// The most bytes of a specification's text.
@@ -30,31 +33,17 @@ const CERTIFICATE_LIMIT: u32 = 1_048_576;
 /// A command that waits for a file.
 #[derive(Drop)]
 pub enum Waiting<'a> {
-    /// `text`, for the text of the specification.
-    Text,
-    /// `plan`, for the text of the specification.
-    Plan,
-    /// `check`, for the text of the specification; then comes the image of this name.
-    Check(&'a str),
+    /// For the text of the specification.
+    Spec(Task<'a>),
     /// `check`, for the image, with the specification that the text means.
     Image(Spec),
-    /// `certify`, for the text of the specification; then the certificate is saved under this name.
-    Certify(&'a str),
-    /// `repair`, for the text of the specification; then comes the image, and what is repaired is
-    /// saved under the other name.
-    Repair {
-        image: &'a str,
-        out: &'a str,
-    },
-    /// `repair`, for the image, with the specification that the text means and the choice that is
-    /// its plan.
+    /// `repair`, for the image, with the specification that the text means and the choice that is its
+    /// plan.
     Damaged {
         spec: Spec,
         choice: Choice,
         out: &'a str,
     },
-    /// `verify`, for the text of the specification; then comes the certificate of this name.
-    Verify(&'a str),
     /// `verify`, for the certificate, with the specification that the text means.
     Certificate(Spec),
 }
@@ -71,48 +60,30 @@ fn image_limit(spec: &Spec) -> u32
     }
 }
 
-// `text` goes on with the text.
-fn tell_text<'a>(alloc: Global, text: &[u8]) -> Result<Move<'a, Waiting<'a>>, NoMemory>
+// `text` goes on with the tree of the text.
+fn tell_text<'a>(alloc: Global, tree: &Tree) -> Result<Move<'a, Waiting<'a>>, NoMemory>
     ensures ready { IfOk result (λ move. IsReady is_ready move) }
-    ensures follows { IfOk result (λ move. Follows due (text_after text.now) move) }
+    ensures follows { IfOk result (λ move. Follows due (tells_text (tree_shape tree.now)) move) }
     ensures fewer { IfOk result (λ move. loads_of left move ≤ 0) }
 {
-    match read(alloc, text)? {
-        Reading::Means(tree, _) => Ok(Move::Tell(Told {
-            verdict: Verdict::Ok,
-            text: print(alloc, &tree)?,
-        })),
-        Reading::Refused(told) => Ok(Move::Tell(told)),
-    }
+    Ok(Move::Tell(Told {
+        verdict: Verdict::Ok,
+        text: print(alloc, tree)?,
+    }))
 }
 
-// `plan` goes on with the text.
-fn tell_plan<'a>(alloc: Global, text: &[u8]) -> Result<Move<'a, Waiting<'a>>, NoMemory>
-    ensures ready { IfOk result (λ move. IsReady is_ready move) }
-    ensures follows { IfOk result (λ move. Follows due (plan_after text.now) move) }
-    ensures fewer { IfOk result (λ move. loads_of left move ≤ 0) }
-{
-    match read(alloc, text)? {
-        Reading::Means(_, spec) => Ok(Move::Tell(plan(alloc, &spec)?)),
-        Reading::Refused(told) => Ok(Move::Tell(told)),
-    }
-}
-
-// `certify` goes on with the text.
+// `certify` goes on with the specification.
 fn save_certificate<'a>(
     alloc: Global,
-    text: &[u8],
+    spec: &Spec,
     certificate: &'a str,
 ) -> Result<Move<'a, Waiting<'a>>, NoMemory>
+    requires typed { IsTyped spec.now }
     ensures ready { IfOk result (λ move. IsReady is_ready move) }
-    ensures follows { IfOk result (λ move. Follows due (certify_after certificate.now text.now) move) }
+    ensures follows { IfOk result (λ move. Follows due (saves_plan certificate.now spec.now) move) }
     ensures fewer { IfOk result (λ move. loads_of left move ≤ 0) }
 {
-    let spec = match read(alloc, text)? {
-        Reading::Means(_, spec) => spec,
-        Reading::Refused(told) => return Ok(Move::Tell(told)),
-    };
-    match certify(alloc, &spec)? {
+    match certify(alloc, spec)? {
         Certified::Certificate(bytes, told) => Ok(Move::Save {
             name: certificate,
             bytes,
@@ -122,92 +93,48 @@ fn save_certificate<'a>(
     }
 }
 
-// `verify` goes on with the text.
-fn load_certificate<'a>(
-    alloc: Global,
-    text: &[u8],
-    certificate: &'a str,
-) -> Result<Move<'a, Waiting<'a>>, NoMemory>
-    ensures ready { IfOk result (λ move. IsReady is_ready move) }
-    ensures follows { IfOk result (λ move. Follows due (verify_after certificate.now text.now) move) }
-    ensures fewer { IfOk result (λ move. loads_of left move ≤ 1) }
+// `verify` goes on with the specification.
+fn load_certificate<'a>(spec: Spec, certificate: &'a str) -> Move<'a, Waiting<'a>>
+    requires typed { IsTyped spec }
+    ensures ready { IsReady is_ready result }
+    ensures follows { Follows due (loads_certificate certificate.now spec) result }
+    ensures fewer { loads_of left result ≤ 1 }
 {
-    match read(alloc, text)? {
-        Reading::Means(_, spec) => Ok(Move::Load {
-            name: certificate,
-            limit: CERTIFICATE_LIMIT,
-            long: b"too long certificate\n",
-            stage: Waiting::Certificate(spec),
-        }),
-        Reading::Refused(told) => Ok(Move::Tell(told)),
+    Move::Load {
+        name: certificate,
+        limit: CERTIFICATE_LIMIT,
+        long: b"too long certificate\n",
+        stage: Waiting::Certificate(spec),
     }
 }
 
-// `verify` goes on with the certificate.
-fn tell_verify<'a>(
-    alloc: Global,
-    spec: &Spec,
-    certificate: &[u8],
-) -> Result<Move<'a, Waiting<'a>>, NoMemory>
-    requires typed { IsTyped spec.now }
-    ensures ready { IfOk result (λ move. IsReady is_ready move) }
-    ensures follows { IfOk result (λ move. Follows due (verifies spec.now certificate.now) move) }
-    ensures fewer { IfOk result (λ move. loads_of left move ≤ 0) }
+// `check` goes on with the specification.
+fn load_image<'a>(spec: Spec, image: &'a str) -> Move<'a, Waiting<'a>>
+    requires typed { IsTyped spec }
+    ensures ready { IsReady is_ready result }
+    ensures follows { Follows due (loads_image image.now spec) result }
+    ensures fewer { loads_of left result ≤ 1 }
 {
-    Ok(Move::Tell(verify(alloc, spec, certificate)?))
-}
-
-// `check` goes on with the text.
-fn load_image<'a>(
-    alloc: Global,
-    text: &[u8],
-    image: &'a str,
-) -> Result<Move<'a, Waiting<'a>>, NoMemory>
-    ensures ready { IfOk result (λ move. IsReady is_ready move) }
-    ensures follows { IfOk result (λ move. Follows due (check_after image.now text.now) move) }
-    ensures fewer { IfOk result (λ move. loads_of left move ≤ 1) }
-{
-    match read(alloc, text)? {
-        Reading::Means(_, spec) => Ok(Move::Load {
-            name: image,
-            limit: image_limit(&spec),
-            long: b"too long image\n",
-            stage: Waiting::Image(spec),
-        }),
-        Reading::Refused(told) => Ok(Move::Tell(told)),
+    Move::Load {
+        name: image,
+        limit: image_limit(&spec),
+        long: b"too long image\n",
+        stage: Waiting::Image(spec),
     }
 }
 
-// `check` goes on with the image.
-fn tell_check<'a>(
-    alloc: Global,
-    spec: &Spec,
-    image: Vec<u8>,
-) -> Result<Move<'a, Waiting<'a>>, NoMemory>
-    requires typed { IsTyped spec.now }
-    requires small { length image.items ≤ 67108864 }
-    ensures ready { IfOk result (λ move. IsReady is_ready move) }
-    ensures follows { IfOk result (λ move. Follows due (checks spec.now image.items) move) }
-    ensures fewer { IfOk result (λ move. loads_of left move ≤ 0) }
-{
-    Ok(Move::Tell(check(alloc, spec, image)?))
-}
-
-// `repair` goes on with the text.
+// `repair` goes on with the specification.
 fn load_damaged<'a>(
     alloc: Global,
-    text: &[u8],
+    spec: Spec,
     image: &'a str,
     out: &'a str,
 ) -> Result<Move<'a, Waiting<'a>>, NoMemory>
+    requires typed { IsTyped spec }
     ensures ready { IfOk result (λ move. IsReady is_ready move) }
-    ensures follows { IfOk result (λ move. Follows due (repair_after image.now out.now text.now) move) }
+    ensures follows { IfOk result (λ move. Follows due (plans_repair image.now out.now spec) move) }
     ensures fewer { IfOk result (λ move. loads_of left move ≤ 1) }
 {
-    let spec = match read(alloc, text)? {
-        Reading::Means(_, spec) => spec,
-        Reading::Refused(told) => return Ok(Move::Tell(told)),
-    };
     match find(alloc, &spec)? {
         Found::Plan(choice) => Ok(Move::Load {
             name: image,
@@ -216,6 +143,44 @@ fn load_damaged<'a>(
             stage: Waiting::Damaged { spec, choice, out },
         }),
         Found::Stuck(set) => Ok(Move::Tell(refused(alloc, &spec, &set)?)),
+    }
+}
+
+// What a task comes to for the specification of a tree.
+fn go_on_with<'a>(
+    alloc: Global,
+    task: Task<'a>,
+    tree: &Tree,
+    spec: Spec,
+) -> Result<Move<'a, Waiting<'a>>, NoMemory>
+    requires spec { IsSpecOf (tree_shape tree.now) spec }
+    ensures ready { IfOk result (λ move. IsReady is_ready move) }
+    ensures follows { IfOk result (λ move. Follows due (comes_to task.entry (tree_shape tree.now)) move) }
+    ensures fewer { IfOk result (λ move. loads_of left move ≤ loaded_for task.entry) }
+{
+    match task {
+        Task::Certify { certificate } => save_certificate(alloc, &spec, certificate),
+        Task::Check { image } => Ok(load_image(spec, image)),
+        Task::Plan => Ok(Move::Tell(plan(alloc, &spec)?)),
+        Task::Repair { image, out } => load_damaged(alloc, spec, image, out),
+        Task::Text => tell_text(alloc, tree),
+        Task::Verify { certificate } => Ok(load_certificate(spec, certificate)),
+    }
+}
+
+// A task goes on with the text of its specification: what that means, or why it means nothing, is told.
+fn read_spec<'a>(
+    alloc: Global,
+    text: &[u8],
+    task: Task<'a>,
+) -> Result<Move<'a, Waiting<'a>>, NoMemory>
+    ensures ready { IfOk result (λ move. IsReady is_ready move) }
+    ensures follows { IfOk result (λ move. Follows due (reads text.now (comes_to task.entry)) move) }
+    ensures fewer { IfOk result (λ move. loads_of left move ≤ loaded_for task.entry) }
+{
+    match read(alloc, text)? {
+        Reading::Means(tree, spec) => go_on_with(alloc, task, &tree, spec),
+        Reading::Refused(told) => Ok(Move::Tell(told)),
     }
 }
 
@@ -257,15 +222,10 @@ fn next_move<'a>(
     ensures fewer { IfOk result (λ move. loads_of left move ≤ left stage.entry) }
 {
     match stage {
-        Waiting::Text => tell_text(alloc, &bytes),
-        Waiting::Plan => tell_plan(alloc, &bytes),
-        Waiting::Check(image) => load_image(alloc, &bytes, image),
-        Waiting::Image(spec) => tell_check(alloc, &spec, bytes),
-        Waiting::Certify(certificate) => save_certificate(alloc, &bytes, certificate),
-        Waiting::Repair { image, out } => load_damaged(alloc, &bytes, image, out),
+        Waiting::Spec(task) => read_spec(alloc, &bytes, task),
+        Waiting::Image(spec) => Ok(Move::Tell(check(alloc, &spec, bytes)?)),
         Waiting::Damaged { spec, choice, out } => save_repaired(alloc, &spec, choice, bytes, out),
-        Waiting::Verify(certificate) => load_certificate(alloc, &bytes, certificate),
-        Waiting::Certificate(spec) => tell_verify(alloc, &spec, &bytes),
+        Waiting::Certificate(spec) => Ok(Move::Tell(verify(alloc, &spec, &bytes)?)),
     }
 }
 
@@ -286,27 +246,20 @@ impl<'a> Stage<'a> for Waiting<'a> {
     }
 }
 
-// What a command does first: a trial is told, and each other one loads the text of its
-// specification.
+// What a command does first: a trial is told, and each other one loads the text of its specification.
 fn first_move<'a>(alloc: Global, command: Command<'a>) -> Result<Move<'a, Waiting<'a>>, NoMemory>
     ensures ready { IfOk result (λ move. IsReady is_ready move) }
     ensures follows { IfOk result (λ move. Follows due (script_of (Some (asked_of command.entry))) move) }
 {
-    let (spec, stage) = match command {
-        Command::Certify { spec, certificate } => (spec, Waiting::Certify(certificate)),
-        Command::Check { spec, image } => (spec, Waiting::Check(image)),
-        Command::Plan { spec } => (spec, Waiting::Plan),
-        Command::Repair { spec, image, out } => (spec, Waiting::Repair { image, out }),
-        Command::Text { spec } => (spec, Waiting::Text),
-        Command::Trial(number) => return Ok(Move::Tell(trial(alloc, number)?)),
-        Command::Verify { spec, certificate } => (spec, Waiting::Verify(certificate)),
-    };
-    Ok(Move::Load {
-        name: spec,
-        limit: SPEC_LIMIT,
-        long: b"too long spec\n",
-        stage,
-    })
+    match command {
+        Command::Of { spec, task } => Ok(Move::Load {
+            name: spec,
+            limit: SPEC_LIMIT,
+            long: b"too long spec\n",
+            stage: Waiting::Spec(task),
+        }),
+        Command::Trial(number) => Ok(Move::Tell(trial(alloc, number)?)),
+    }
 }
 
 impl<'a> Commands<'a> for Waiting<'a> {

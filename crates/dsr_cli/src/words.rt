@@ -1,43 +1,40 @@
 // The words of the command line.
-ghost use Rattle.std.specs.Prelude.{◌≡◌, map, option_map, string_bytes};
-ghost use Rattle.dsr_cli.specs.Asking.{asked_of};
+ghost use Rattle.std.specs.Prelude.{◌≡◌, Some, map, option_map, string_bytes};
+ghost use Rattle.dsr_cli.specs.Asking.{asked_for, asked_of};
 ghost use Rattle.std.specs.Str.{all_ascii_digits};
 ghost use Rattle.dsr_command_theory.specs.Words as said;
+
+/// What is to be done with a specification.
+#[derive(Clone, Copy)]
+pub enum Task<'a> {
+    /// The certificate of its plan is saved under this name.
+    Certify { certificate: &'a str },
+    /// Whether the image of this name is consistent under it is told.
+    Check { image: &'a str },
+    /// Its plan is told.
+    Plan,
+    /// The image is repaired by its plan, and what comes of it saved under the other name.
+    Repair { image: &'a str, out: &'a str },
+    /// Its canonical text is told.
+    Text,
+    /// Whether the file of this name is the certificate of a plan for it is told.
+    Verify { certificate: &'a str },
+}
 
 /// A command, with the names of its files.
 #[derive(Clone, Copy)]
 pub enum Command<'a> {
-    /// A certificate of the plan of a specification, saved under the second name.
-    Certify {
-        spec: &'a str,
-        certificate: &'a str,
-    },
-    /// Whether an image is consistent under a specification.
-    Check {
-        spec: &'a str,
-        image: &'a str,
-    },
-    /// The plan of a specification.
-    Plan {
-        spec: &'a str,
-    },
-    /// A repair of an image by the plan of a specification, saved under the last name.
-    Repair {
-        spec: &'a str,
-        image: &'a str,
-        out: &'a str,
-    },
-    /// The canonical text of a specification.
-    Text {
-        spec: &'a str,
-    },
+    /// A task for the specification of this name.
+    Of { spec: &'a str, task: Task<'a> },
     /// The trial of this number.
     Trial(u16),
-    /// Whether a certificate is one of a plan of the specification.
-    Verify {
-        spec: &'a str,
-        certificate: &'a str,
-    },
+}
+
+// The command that asks this of a specification.
+fn of<'a>(spec: &'a str, task: Task<'a>) -> Option<Command<'a>>
+    ensures { option_map asked_of result ≡ Some (asked_for spec.now task.entry) }
+{
+    Some(Command::Of { spec, task })
 }
 
 fn is_odd(word: &str) -> bool
@@ -81,10 +78,10 @@ fn with_one<'a>(command: &str, word: &'a str) -> Option<Command<'a>>
     ensures { option_map asked_of result ≡ said.with_one command.now word.now }
 {
     if command == "text" {
-        return Some(Command::Text { spec: word });
+        return of(word, Task::Text);
     }
     if command == "plan" {
-        return Some(Command::Plan { spec: word });
+        return of(word, Task::Plan);
     }
     if command == "trial" {
         return to_try(word);
@@ -99,7 +96,7 @@ fn certify<'a>(spec: &'a str, certificate: &'a str) -> Option<Command<'a>>
     if certificate == spec {
         return None;
     }
-    Some(Command::Certify { spec, certificate })
+    of(spec, Task::Certify { certificate })
 }
 
 // Those with two.
@@ -107,16 +104,13 @@ fn with_two<'a>(command: &str, spec: &'a str, file: &'a str) -> Option<Command<'
     ensures { option_map asked_of result ≡ said.with_two command.now spec.now file.now }
 {
     if command == "check" {
-        return Some(Command::Check { spec, image: file });
+        return of(spec, Task::Check { image: file });
     }
     if command == "certify" {
         return certify(spec, file);
     }
     if command == "verify" {
-        return Some(Command::Verify {
-            spec,
-            certificate: file,
-        });
+        return of(spec, Task::Verify { certificate: file });
     }
     None
 }
@@ -128,7 +122,7 @@ fn repair<'a>(spec: &'a str, image: &'a str, out: &'a str) -> Option<Command<'a>
     if out == spec {
         return None;
     }
-    Some(Command::Repair { spec, image, out })
+    of(spec, Task::Repair { image, out })
 }
 
 // The one with three.

@@ -3,6 +3,7 @@ use Rattle.std.proofs.Common.{◌≡◌, ◌<◌, ◌≤◌, ◌+◌, ◌⊎◌,
 use Rattle.std.proofs.lemmas.Bool.{cases_lt}
 use Rattle.std.proofs.lemmas.Option.{slice_get_cases}
 use Rattle.dsr_repair.specs.Violations.{IsBest, IsBestBefore, IsNextViolation}
+use Rattle.dsr_repair.specs.declared.bindings.Lowest.{Lowest}
 use Rattle.dsr_repair.specs.declared.bindings.Violation.{Violation}
 use Rattle.dsr_ir.specs.declared.declarations.Spec.{Spec}
 use Rattle.dsr_ir.specs.declared.tuples.Binding.{Binding}
@@ -26,7 +27,7 @@ one_row rows m n a b same at by =
 module _ (is_fact : Fact → Type 0) (spec : Spec) (choice : Choice) (n : ℕ) (row : Row) (here : slice_get choice.rows n ≡ Some row) where
   -- one that stands as low stays the first
   pub stays_best :
-      (found : Violation) → found.level ≤ row.level → IsBest is_fact spec choice n found
+      (found : Lowest) → found.level ≤ row.level → IsBest is_fact spec choice n found
       → IsBest is_fact spec choice (n + 1) found
   stays_best found low best = record {
     row = best.row;
@@ -46,13 +47,13 @@ module _ (is_fact : Fact → Type 0) (spec : Spec) (choice : Choice) (n : ℕ) (
   }
 
   -- so does the best one, if any stands as low
-  pub stays_low : (best : Option Violation) → IsSomeAnd best (λ found. found.level ≤ row.level)
+  pub stays_low : (best : Option Lowest) → IsSomeAnd best (λ found. found.level ≤ row.level)
       → IsBestBefore is_fact spec choice n best → IsBestBefore is_fact spec choice (n + 1) best
   stays_low None low before = absurd low
   stays_low (Some found) low best = stays_best found low best
 
   -- where this constraint has no violated binding, all stays
-  pub stays_none : NoneIsViolated is_fact spec (n ∷ []) → (best : Option Violation) → IsBestBefore is_fact spec choice n best
+  pub stays_none : NoneIsViolated is_fact spec (n ∷ []) → (best : Option Lowest) → IsBestBefore is_fact spec choice n best
       → IsBestBefore is_fact spec choice (n + 1) best
   stays_none none None before = λ w below violated. elim (below_next w.constraint n below) [
     | inl earlier ↦ before w earlier violated
@@ -76,7 +77,7 @@ module _ (is_fact : Fact → Type 0) (spec : Spec) (choice : Choice) (n : ℕ) (
   }
 
   -- the constraint stands lower than the best so far
-  abbrev pub IsLower : Option Violation → Type 0
+  abbrev pub IsLower : Option Lowest → Type 0
   IsLower None = Unit {0}
   IsLower (Some found) = row.level < found.level
 
@@ -87,7 +88,7 @@ module _ (is_fact : Fact → Type 0) (spec : Spec) (choice : Choice) (n : ℕ) (
     only zero placed = let e : Some n ≡ Some v.constraint = placed in cc
     only (suc k) placed = absurd cc
 
-  pub stands_lower : (best : Option Violation) → (IsSomeAnd best (λ found. found.level ≤ row.level) → ⊥) → IsLower best
+  pub stands_lower : (best : Option Lowest) → (IsSomeAnd best (λ found. found.level ≤ row.level) → ⊥) → IsLower best
   stands_lower None high = tt
   stands_lower (Some found) high = elim (cases_lt row.level found.level) [
     | inl less ↦ less
@@ -95,7 +96,7 @@ module _ (is_fact : Fact → Type 0) (spec : Spec) (choice : Choice) (n : ℕ) (
   ]
 
   later_is_higher :
-      (best : Option Violation) → IsLower best → IsBestBefore is_fact spec choice n best
+      (best : Option Lowest) → IsLower best → IsBestBefore is_fact spec choice n best
       → (w : BoundConstraint) (other : Row) → w.constraint < n → IsViolated is_fact spec w
       → slice_get choice.rows w.constraint ≡ Some other → row.level < other.level
   later_is_higher None low before w other earlier violated at = absurd (before w earlier violated)
@@ -103,9 +104,9 @@ module _ (is_fact : Fact → Type 0) (spec : Spec) (choice : Choice) (n : ℕ) (
       let high = best.lowest w other earlier violated at in omega (arith, low, high)
 
   pub becomes_best :
-      (best : Option Violation) (b : Binding) → IsLower best → IsBestBefore is_fact spec choice n best
+      (best : Option Lowest) (b : Binding) → IsLower best → IsBestBefore is_fact spec choice n best
       → IsFirstViolated is_fact spec (n ∷ []) (record { constraint = n; binding = b })
-      → IsBest is_fact spec choice (n + 1) (record { level = row.level; constraint = n; binding = b })
+      → IsBest is_fact spec choice (n + 1) (record { level = row.level; violation = record { constraint = n; binding = b } })
   becomes_best best b low before is = record {
     row = row;
     row_is = here;
@@ -124,12 +125,12 @@ module _ (is_fact : Fact → Type 0) (spec : Spec) (choice : Choice) (n : ℕ) (
   }
 
   pub becomes_of :
-      (best : Option Violation) (v : BoundConstraint) → IsLower best → IsBestBefore is_fact spec choice n best
+      (best : Option Lowest) (v : BoundConstraint) → IsLower best → IsBestBefore is_fact spec choice n best
       → IsFirstViolated is_fact spec (n ∷ []) v
-      → IsBest is_fact spec choice (n + 1) (record { level = row.level; constraint = v.constraint; binding = v.binding })
+      → IsBest is_fact spec choice (n + 1) (record { level = row.level; violation = record { constraint = v.constraint; binding = v.binding } })
   becomes_of best v low before is =
       let this : n ≡ v.constraint = of_this v is in
-      subst (λ m. IsBest is_fact spec choice (n + 1) (record { level = row.level; constraint = m; binding = v.binding })) this
+      subst (λ m. IsBest is_fact spec choice (n + 1) (record { level = row.level; violation = record { constraint = m; binding = v.binding } })) this
       (becomes_best best v.binding low before
       (subst (λ m. IsFirstViolated is_fact spec (n ∷ []) (record { constraint = m; binding = v.binding })) (sym this) is))
 
@@ -142,8 +143,8 @@ got_below xs n x at = elim (slice_get_cases xs n).1 [
 
 pub ended :
     (is_fact : Fact → Type 0) (spec : Spec) (choice : Choice) → length choice.rows ≡ length spec.constraints
-    → (best : Option Violation) → IsBestBefore is_fact spec choice (length choice.rows) best
-    → MatchOption best (AreSatisfied is_fact spec) (IsNextViolation is_fact spec choice)
+    → (best : Option Lowest) → IsBestBefore is_fact spec choice (length choice.rows) best
+    → MatchOption best (AreSatisfied is_fact spec) (λ found. IsNextViolation is_fact spec choice found.violation)
 ended is_fact spec choice as_many None before = λ v violated. before v (subst (λ k. v.constraint < k) (sym as_many) (got_below spec.constraints v.constraint violated.constraint violated.declared)) violated
 ended is_fact spec choice as_many (Some found) best = record {
   constraint = best.violated.constraint;

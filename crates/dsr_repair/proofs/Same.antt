@@ -1,8 +1,12 @@
 -- Where the same is a fact, the same is due and the same is chosen.
-use Rattle.std.proofs.Common.{◌≡◌, ℕ, List, Option, None, Some, IsSomeAnd, MatchOption, inl, inr}
+use Rattle.std.proofs.Common.{◌≡◌, ℕ, List, Option, None, Some, IfSome, IsSomeAnd, MatchOption, inl, inr}
 use Rattle.dsr_repair_theory.specs.Choices.{Adds, CountsNothing, IsFresh, IsFreshFrom, IsNumberFor, IsOutside, IsToGo, written_size}
 use Rattle.dsr_repair.specs.Chosen.{AreDecided}
+use Rattle.dsr_repair.specs.Cursors.{AreSatisfiedBefore, IsCursor}
 use Rattle.dsr_repair.specs.Supplies.{IsUsed}
+use Rattle.dsr_repair.specs.Violations.{bound_of}
+use Rattle.dsr_repair.specs.declared.bindings.Violation.{Violation}
+use Rattle.dsr_repair.specs.declared.cursors.Cursor.{Cursor}
 use Rattle.dsr_ir.specs.declared.constraints.Atom.{Atom}
 use Rattle.dsr_ir.specs.declared.constraints.Atom.TheVariants as atoms
 use Rattle.dsr_ir.specs.declared.constraints.Constraint.{Constraint}
@@ -37,6 +41,14 @@ module _ (P Q : Fact → Type 0) (same : AreSame P Q) where
 
   pub satisfied : (spec : Spec) → AreSatisfied P spec → AreSatisfied Q spec
   satisfied spec none v violated = none v (violated_same Q P back spec v violated)
+
+  -- the same cursor may be gone on from
+  pub cursor_same : (spec : Spec) (choice : Choice) (cursor : Cursor) → IsCursor P spec choice cursor → IsCursor Q spec choice cursor
+  cursor_same spec choice cursor is = record { ordered = is.ordered; before = before cursor.last is.before } where
+    before : (last : Option Violation) → IfSome last (λ l. AreSatisfiedBefore P spec choice (bound_of l))
+        → IfSome last (λ l. AreSatisfiedBefore Q spec choice (bound_of l))
+    before None none = tt
+    before (Some l) satisfied = λ w earlier violated. satisfied w earlier (violated_same Q P back spec w violated)
 
   due_binding :
       (spec : Spec) (choice : Choice) (v : BoundConstraint) (constraint : Constraint) (row : Row)

@@ -5,10 +5,9 @@ use Rattle.dsr_ir.specs.declared.declarations.Spec.{Spec}
 use Rattle.dsr_ir.specs.declared.layouts.Layout.{Layout}
 use Rattle.dsr_ir.specs.declared.updates.Update.{Update}
 use Rattle.dsr_ir.specs.declared.updates.Write.{Write}
-use Rattle.dsr_repair.specs.Made.{IsMade}
 use Rattle.dsr_ir.specs.declared.layouts.Cell.{Cell}
 use Rattle.dsr_meaning.specs.Cells.{cell_value}
-use Rattle.dsr_repair_theory.specs.Entries.{AreSet, changes}
+use Rattle.dsr_repair_theory.specs.Entries.{AreSet, IsEntryOf, changes}
 use Rattle.dsr_repair_theory.specs.Entries.AreSet.{done, made, skipped}
 use Rattle.dsr_repair_theory.specs.declared.entries.ByteChange.{ByteChange}
 use Rattle.dsr_repair_theory.specs.declared.entries.CellSet.{CellSet}
@@ -62,15 +61,16 @@ set_made spec layout step write cell number value index old new cell_is number_i
     (subst (λ v. AreSet spec layout step (write ∷ []) old new (record { elem = step.elem; path = write.path; index = written_index step write; old = v; new = number } ∷ [])) (sym read)
     (made write cell number cell_is number_is (λ wanted. unwanted (subst (IsWanted spec layout write number) (sym read) wanted)) put done))
 
--- what is told of the step that was made on a copy
+-- what is told of the step that was made
 pub entry_made :
-    (spec : Spec) (layout : Layout) (step : Step) (update : Update) (bytes copy between new : List ℕ)
+    (spec : Spec) (layout : Layout) (step : Step) (update : Update) (bytes claimed between new : List ℕ)
     (writes : List Write) (sets told : List CellSet) (differing : List ByteChange)
-    → copy ≡ bytes → writes ≡ update.writes
-    → MatchOption step.fresh (between ≡ copy) (λ e. ArePut (reset_puts spec.base layout e) copy between)
-    → AreSet spec layout step writes between new sets → told ≡ sets → differing ≡ changes bytes new
-    → length new ≡ length bytes
-    → IsMade spec layout step update bytes (record {
+    → claimed ≡ bytes → writes ≡ update.writes
+    → MatchOption step.fresh (between ≡ claimed) (λ e. ArePut (reset_puts spec.base layout e) claimed between)
+    → AreSet spec layout step writes between new sets → told ≡ sets
+    → (MatchOption step.fresh (between ≡ bytes) (λ e. ArePut (reset_puts spec.base layout e) bytes between)
+    → AreSet spec layout step update.writes between new sets → differing ≡ changes bytes new)
+    → IsEntryOf spec layout step update bytes new (record {
       constraint = step.constraint;
       binding = step.binding;
       conj = step.conj;
@@ -80,20 +80,18 @@ pub entry_made :
       sets = told;
       bytes = differing;
     })
-entry_made spec layout step update bytes copy between new writes sets told differing copy_is writes_are reset set told_is differ long = record {
-  new = new;
-  as_long = long;
-  entry_is = record {
-    constraint = refl;
-    binding = refl;
-    conj = refl;
-    literal = refl;
-    rule = refl;
-    fresh = refl;
-    between = between;
-    reset = subst (λ old. MatchOption step.fresh (between ≡ old) (λ e. ArePut (reset_puts spec.base layout e) old between)) copy_is reset;
-    sets = subst (λ ws. AreSet spec layout step ws between new told) writes_are
-        (subst (λ ss. AreSet spec layout step writes between new ss) (sym told_is) set);
-    bytes = differ;
-  };
-}
+entry_made spec layout step update bytes claimed between new writes sets told differing claimed_is writes_are reset set told_is differ =
+    let fresh = subst (λ old. MatchOption step.fresh (between ≡ old) (λ e. ArePut (reset_puts spec.base layout e) old between)) claimed_is reset in
+    let made = subst (λ ws. AreSet spec layout step ws between new sets) writes_are set in
+    record {
+      constraint = refl;
+      binding = refl;
+      conj = refl;
+      literal = refl;
+      rule = refl;
+      fresh = refl;
+      between = between;
+      reset = fresh;
+      sets = subst (λ ss. AreSet spec layout step update.writes between new ss) (sym told_is) made;
+      bytes = differ fresh made;
+    }

@@ -1,8 +1,10 @@
 pub mod Violations
+pub mod Orders
+pub mod Cursors
 pub mod Literals
 pub mod Chosen
 pub mod Supplies
-pub mod Changes
-pub mod Made
+pub mod Notes
+pub mod Spans
 pub mod Planned
 pub mod Stepping

@@ -1,5 +1,7 @@
 -- What a step leaves: an image with its layout and its model, and a log.
 use Rattle.std.specs.Prelude.{◌≡◌, ◌<◌, ℕ, Some, slice_get, List, [], ◌∷◌, ◌++◌}
+use Rattle.dsr_repair.specs.declared.bindings.Violation.{Violation}
+use Rattle.dsr_repair.specs.declared.cursors.Cursor.{Cursor}
 use Rattle.dsr_ir.specs.declared.declarations.Spec.{Spec}
 use Rattle.dsr_ir.specs.declared.layouts.Layout.{Layout}
 use Rattle.dsr_fixpoint.specs.Models.{IsModelOf, IsPreparedFor}
@@ -58,3 +60,14 @@ abbrev pub Brings : Spec → Choice → Layout → List ℕ → List ℕ → Tur
 Brings spec choice layout old new turns.Done = Unit {0}
 Brings spec choice layout old new (turns.Step step) = IsNearer spec choice layout old new step.constraint
 Brings spec choice layout old new (turns.Empty need) = Unit {0}
+
+-- the violated binding for which a step is made
+abbrev pub violation_of : Step → Violation
+violation_of step = record { constraint = step.constraint; binding = step.binding }
+
+-- the cursor stands at the binding for which the step was made; where none was made, it stands
+-- where it stood
+abbrev pub IsMoved : Cursor → Cursor → Turn → Type 0
+IsMoved old new turns.Done = new ≡ old
+IsMoved old new (turns.Step step) = new ≡ record old { last = Some (violation_of step) }
+IsMoved old new (turns.Empty need) = new ≡ old

@@ -10,16 +10,22 @@ use dsr_model::Model;
 use dsr_plan_theory::{Choice, Row};
 use dsr_truth::first_violated;
 
-/// The least violated binding of a constraint, with the level on which that stands.
+/// A violated binding of a constraint.
 #[derive(Clone, Copy)]
 pub struct Violation {
-    pub level: u32,
     pub constraint: u32,
     pub binding: Binding,
 }
 
+/// The least violated binding of a constraint, with the level on which that stands.
+#[derive(Clone, Copy)]
+pub struct Lowest {
+    pub level: u32,
+    pub violation: Violation,
+}
+
 // Whether the best violation so far stands on the level or on a lower one.
-fn is_as_low(best: Option<Violation>, level: u32) -> bool
+fn is_as_low(best: Option<Lowest>, level: u32) -> bool
     ensures { Decides result (IsSomeAnd best (λ found. found.level ≤ level)) }
 {
     match best {
@@ -34,8 +40,8 @@ fn better(
     spec: &Spec,
     number: u32,
     row: &Row,
-    best: Option<Violation>,
-) -> Option<Violation>
+    best: Option<Lowest>,
+) -> Option<Lowest>
     requires ordered { model.now.ordered ≡ true }
     ensures { (choice : ChoiceOf) → slice_get choice.rows number ≡ Some row.now
         → IsBestBefore (IsInModel model.now) spec.now choice number best
@@ -45,10 +51,12 @@ fn better(
         return best;
     }
     match first_violated(model, spec, &[number]) {
-        Some((constraint, binding)) => Some(Violation {
+        Some((constraint, binding)) => Some(Lowest {
             level: row.level,
-            constraint,
-            binding,
+            violation: Violation {
+                constraint,
+                binding,
+            },
         }),
         None => best,
     }
@@ -66,5 +74,8 @@ pub fn next_violation(model: &Model, spec: &Spec, choice: &Choice) -> Option<Vio
     for (number, row) in choice.rows.items().iter().enumerate() {
         best = better(model, spec, number as u32, row, best);
     }
-    best
+    match best {
+        Some(found) => Some(found.violation),
+        None => None,
+    }
 }

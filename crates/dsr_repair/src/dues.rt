@@ -1,10 +1,11 @@
 // The step that is due.
 ghost use Rattle.std.specs.Prelude.{◌≡◌, MatchOption, None, Some, slice_get, true};
 ghost use Rattle.dsr_repair.specs.Chosen.{AreDecided, IsChosenFor, IsDueOf, IsStepFor};
+ghost use Rattle.dsr_repair.specs.Cursors.{IsCursorOn};
 ghost use Rattle.dsr_repair.specs.Violations.{IsNextViolation};
 ghost use Rattle.dsr_repair_laws.specs.Chosen.{IsComplete};
 ghost use Rattle.dsr_fixpoint.specs.Models.{IsModelOf, IsPreparedFor};
-ghost use Rattle.dsr_meaning.specs.Consistency.{IsConsistent};
+ghost use Rattle.dsr_meaning.specs.Consistency.{AreSatisfied, IsConsistent};
 ghost use Rattle.dsr_meaning.specs.Models.{IsFact};
 ghost use Rattle.dsr_meaning.specs.Typed.{IsTyped};
 ghost use Rattle.dsr_model.specs.Facts.{IsInModel};
@@ -16,6 +17,7 @@ use crate::bindings::{Violation, next_violation};
 use crate::choosing::{
     adds, entry_at, fact_to_go, first_update, record_at, update_by, written_number,
 };
+use crate::cursors::{Cursor, next_from};
 use crate::fresh::fresh_for;
 use crate::literals::{ToRepair, first_false, first_passing};
 use dsr_fixpoint::deriver;
@@ -98,16 +100,19 @@ fn next_due<'a, I: ImageBytes>(
     _layout: &Layout,
     _image: &I,
     model: &Model,
+    next: Option<Violation>,
 ) -> Option<DueLiteral<'a>>
     requires plan { IsPlan spec.now choice.now }
     requires image { IsImageOf spec.now _layout.now (I.ImageBytes.bytes _image.now) }
     requires prepared { IsPreparedFor spec.now _layout.now model.now }
     requires model { IsModelOf spec.now _layout.now (I.ImageBytes.bytes _image.now) model.now }
+    requires next { MatchOption next (AreSatisfied (IsInModel model.now) spec.now)
+        (IsNextViolation (IsInModel model.now) spec.now choice.now) }
     ensures { MatchOption result
         (IsConsistent spec.now _layout.now (I.ImageBytes.bytes _image.now))
         (IsDueOf (IsFact spec.now _layout.now (I.ImageBytes.bytes _image.now)) spec.now choice.now) }
 {
-    match next_violation(model, spec, choice) {
+    match next {
         Some(violation) => Some(due_at(spec, choice, model, violation)),
         None => None,
     }
@@ -208,8 +213,35 @@ fn step_of(
     }
 }
 
-// What is due by a choice that is a plan.
+// What is due by a choice that is a plan, where this is the violation that is to be repaired next.
 fn due_by<I: ImageBytes>(
+    spec: &Spec,
+    choice: &Choice,
+    layout: &Layout,
+    image: &I,
+    model: &Model,
+    next: Option<Violation>,
+) -> Turn
+    requires plan { IsPlan spec.now choice.now }
+    requires image { IsImageOf spec.now layout.now (I.ImageBytes.bytes image.now) }
+    requires prepared { IsPreparedFor spec.now layout.now model.now }
+    requires model { IsModelOf spec.now layout.now (I.ImageBytes.bytes image.now) model.now }
+    requires next { MatchOption next (AreSatisfied (IsInModel model.now) spec.now)
+        (IsNextViolation (IsInModel model.now) spec.now choice.now) }
+    ensures { IsTurn spec.now choice.now layout.now (I.ImageBytes.bytes image.now) result }
+{
+    let Some(due) = next_due(spec, choice, layout, image, model, next) else {
+        return Turn::Done;
+    };
+    let chosen = chosen_for(spec, choice, layout, image, model, &due);
+    match fresh_for(model, spec, layout, chosen.update) {
+        Ok(fresh) => Turn::Step(step_of(spec, model, &due, &chosen, fresh)),
+        Err(pool) => Turn::Empty(need_of(&due, pool)),
+    }
+}
+
+// What is due by a choice that is a plan, found from the first binding on.
+fn due_at_first<I: ImageBytes>(
     spec: &Spec,
     choice: &Choice,
     layout: &Layout,
@@ -222,14 +254,28 @@ fn due_by<I: ImageBytes>(
     requires model { IsModelOf spec.now layout.now (I.ImageBytes.bytes image.now) model.now }
     ensures { IsTurn spec.now choice.now layout.now (I.ImageBytes.bytes image.now) result }
 {
-    let Some(due) = next_due(spec, choice, layout, image, model) else {
-        return Turn::Done;
-    };
-    let chosen = chosen_for(spec, choice, layout, image, model, &due);
-    match fresh_for(model, spec, layout, chosen.update) {
-        Ok(fresh) => Turn::Step(step_of(spec, model, &due, &chosen, fresh)),
-        Err(pool) => Turn::Empty(need_of(&due, pool)),
-    }
+    let next = next_violation(model, spec, choice);
+    due_by(spec, choice, layout, image, model, next)
+}
+
+// What is due by a choice that is a plan, found from a cursor on.
+fn due_at_cursor<I: ImageBytes>(
+    spec: &Spec,
+    choice: &Choice,
+    layout: &Layout,
+    image: &I,
+    model: &Model,
+    cursor: &Cursor,
+) -> Turn
+    requires plan { IsPlan spec.now choice.now }
+    requires image { IsImageOf spec.now layout.now (I.ImageBytes.bytes image.now) }
+    requires prepared { IsPreparedFor spec.now layout.now model.now }
+    requires model { IsModelOf spec.now layout.now (I.ImageBytes.bytes image.now) model.now }
+    requires cursor { IsCursorOn spec.now choice.now layout.now (I.ImageBytes.bytes image.now) cursor.now }
+    ensures { IsTurn spec.now choice.now layout.now (I.ImageBytes.bytes image.now) result }
+{
+    let next = next_from(model, spec, choice, cursor);
+    due_by(spec, choice, layout, image, model, next)
 }
 
 /// What is due on an image by a plan, once the model is that of the image. Takes no memory.
@@ -239,5 +285,23 @@ pub fn due<I: ImageBytes>(plan: &Plan, layout: &Layout, image: &I, model: &Model
     requires model { IsModelOf plan.now.0 layout.now (I.ImageBytes.bytes image.now) model.now }
     ensures { IsTurn plan.now.0 plan.now.1 layout.now (I.ImageBytes.bytes image.now) result }
 {
-    due_by(plan.spec(), plan.choice(), layout, image, model)
+    due_at_first(plan.spec(), plan.choice(), layout, image, model)
+}
+
+/// As `due`, where nothing is violated before the place at which the cursor stands: the search
+/// begins there.
+pub fn due_from<I: ImageBytes>(
+    plan: &Plan,
+    layout: &Layout,
+    image: &I,
+    model: &Model,
+    cursor: &Cursor,
+) -> Turn
+    requires image { IsImageOf plan.now.0 layout.now (I.ImageBytes.bytes image.now) }
+    requires prepared { IsPreparedFor plan.now.0 layout.now model.now }
+    requires model { IsModelOf plan.now.0 layout.now (I.ImageBytes.bytes image.now) model.now }
+    requires cursor { IsCursorOn plan.now.0 plan.now.1 layout.now (I.ImageBytes.bytes image.now) cursor.now }
+    ensures { IsTurn plan.now.0 plan.now.1 layout.now (I.ImageBytes.bytes image.now) result }
+{
+    due_at_cursor(plan.spec(), plan.choice(), layout, image, model, cursor)
 }

@@ -5,19 +5,23 @@
 #![tactic(auto)]
 
 mod bindings;
-mod changes;
 mod choosing;
+mod cursors;
 mod dues;
 mod entries;
 mod fresh;
 mod literals;
 mod making;
+mod notes;
+mod orders;
 mod repairs;
+mod spans;
 mod steps;
+mod touched;
 
-pub use changes::{claim_changes, make_changes};
-pub use dues::due;
-pub use entries::entry_of;
+pub use bindings::Violation;
+pub use cursors::Cursor;
+pub use dues::{due, due_from};
 pub use making::make;
 pub use repairs::repair;
 pub use steps::step;

@@ -5,10 +5,11 @@ ghost use Rattle.dsr_repair_theory.specs.Entries.{IsEntryOf};
 ghost use Rattle.dsr_step_theory.specs.Images.{IsFree};
 ghost use Rattle.dsr_step_theory.specs.Steps.{CanStep};
 
-use crate::changes::{claim_changes, make_changes};
-use crate::entries::entry_of;
+use crate::entries::{reset_fresh, set_all};
+use crate::notes::{claim_spans, keep_changed, noted};
+use crate::touched::touched;
 use dsr_image::ImageBytes;
-use dsr_ir::{Layout, NoMemory, Spec, Update};
+use dsr_ir::{Layout, NoMemory, Seq, Spec, Update};
 use dsr_repair_theory::Entry;
 use dsr_step_theory::Step;
 use std::alloc::Global;
@@ -33,8 +34,23 @@ pub fn make<I: ImageBytes>(
     ensures same { OnErr result (I.ImageBytes.bytes image.new ≡ I.ImageBytes.bytes image.old) }
     ensures kept { StayClaimed (I.ImageBytes.claimed image.old) (I.ImageBytes.claimed image.new) }
 {
-    let entry = entry_of(alloc, spec, layout, step, update, image)?;
-    claim_changes(entry.bytes.items(), image)?;
-    make_changes(entry.bytes.items(), image);
-    Ok(entry)
+    // All memory is taken and all is claimed before a byte is written.
+    let writes = update.writes.items();
+    let mut sets = Vec::with_capacity(alloc, writes.len())?;
+    let spans = touched(alloc, layout, step, writes)?;
+    let mut bytes = noted(alloc, &spans, image)?;
+    claim_spans(&spans, image)?;
+    reset_fresh(spec, layout, step, image);
+    set_all(spec, layout, step, writes, image, &mut sets);
+    keep_changed(image, &mut bytes);
+    Ok(Entry {
+        constraint: step.constraint,
+        binding: step.binding,
+        conj: step.conj,
+        literal: step.literal,
+        rule: step.rule,
+        reset: step.fresh,
+        sets: Seq::new(sets),
+        bytes: Seq::new(bytes),
+    })
 }

@@ -6,6 +6,7 @@ ghost use Rattle.dsr_repair_theory.specs.Runs.{IsPartRun};
 ghost use Rattle.dsr_repair_theory.specs.Turns.{IsOutcome};
 ghost use Rattle.dsr_step_theory.specs.Images.{FixedFieldsStay, IsImageOf};
 
+use crate::cursors::Cursor;
 use crate::steps::step;
 use dsr_fixpoint::rebuild;
 use dsr_image::ImageBytes;
@@ -32,10 +33,11 @@ fn make_steps<I: ImageBytes>(
         log.new.entries (I.ImageBytes.bytes image.new) }
     ensures ends { IfOk result (IsOutcome plan.now.0 plan.now.1 layout.now (I.ImageBytes.bytes image.new)) }
 {
+    let mut cursor = Cursor::new(alloc, plan.choice())?;
     let mut model = Model::prepare(alloc, spec, layout)?;
     rebuild(&mut model, spec, layout, image);
     'steps: loop {
-        match step(alloc, plan, layout, image, &mut model, log)? {
+        match step(alloc, plan, layout, image, &mut model, &mut cursor, log)? {
             Turn::Done => return Ok(Outcome::Consistent),
             Turn::Empty(need) => return Ok(Outcome::Empty(need)),
             Turn::Step(_) => {}

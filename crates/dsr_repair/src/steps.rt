@@ -1,11 +1,14 @@
 // One step.
 ghost use Rattle.std.specs.Prelude.{◌≡◌, IfOk, OnErr, option_map};
+ghost use Rattle.dsr_repair.specs.Cursors.{IsCursorOn};
 ghost use Rattle.dsr_repair.specs.Planned.{chosen_update};
-ghost use Rattle.dsr_repair.specs.Stepping.{Brings, IsModelled, TakesTurn, state};
+ghost use Rattle.dsr_repair.specs.Stepping.{Brings, IsModelled, IsMoved, TakesTurn, state};
 ghost use Rattle.dsr_repair_theory.specs.Turns.{IsTurn};
 ghost use Rattle.dsr_step_theory.specs.Images.{FixedFieldsStay};
 
-use crate::dues::due;
+use crate::bindings::Violation;
+use crate::cursors::Cursor;
+use crate::dues::due_from;
 use crate::making::make;
 use dsr_fixpoint::rebuild;
 use dsr_image::ImageBytes;
@@ -28,18 +31,21 @@ fn update_of<'a>(plan: &'a Plan, step: &Step) -> Option<&'a Update>
     }
 }
 
-/// Makes the step that is due, pushes its entry, and builds the model anew. Where nothing is due,
-/// or a supply is empty, all stays as it is; so it does where memory is wanting, but that more
-/// bytes may be claimed. Nothing can fail once a byte is written.
+/// Makes the step that is due, pushes its entry, builds the model anew, and moves the cursor to the
+/// binding for which the step was made: nothing before that is violated now either. Where nothing
+/// is due, or a supply is empty, all stays as it is; so it does where memory is wanting, but that
+/// more bytes may be claimed. Nothing can fail once a byte is written.
 pub fn step<I: ImageBytes>(
     alloc: Global,
     plan: &Plan,
     layout: &Layout,
     image: &mut I,
     model: &mut Model,
+    cursor: &mut Cursor,
     log: &mut Log,
 ) -> Result<Turn, NoMemory>
     requires modelled { IsModelled plan.now.0 layout.now (I.ImageBytes.bytes image.old) model.old }
+    requires cursor { IsCursorOn plan.now.0 plan.now.1 layout.now (I.ImageBytes.bytes image.old) cursor.old }
     ensures turn { IfOk result (IsTurn plan.now.0 plan.now.1 layout.now (I.ImageBytes.bytes image.old)) }
     ensures taken { IfOk result (TakesTurn plan.now.0 plan.now.1 layout.now
         (state (I.ImageBytes.bytes image.old) log.old.entries model.old)
@@ -51,8 +57,11 @@ pub fn step<I: ImageBytes>(
     ensures fixed { FixedFieldsStay plan.now.0.base (I.ImageBytes.bytes image.old)
         (I.ImageBytes.bytes image.new) }
     ensures modelled { IsModelled plan.now.0 layout.now (I.ImageBytes.bytes image.new) model.new }
+    ensures cursor { IsCursorOn plan.now.0 plan.now.1 layout.now (I.ImageBytes.bytes image.new) cursor.new }
+    ensures moved { IfOk result (IsMoved cursor.old cursor.new) }
+    ensures rests { OnErr result (cursor.new ≡ cursor.old) }
 {
-    let turn = due(plan, layout, image, model);
+    let turn = due_from(plan, layout, image, model, cursor);
     let Turn::Step(step) = turn else {
         return Ok(turn);
     };
@@ -63,5 +72,9 @@ pub fn step<I: ImageBytes>(
     let entry = make(alloc, plan.spec(), layout, &step, update, image)?;
     log.push(entry);
     rebuild(model, plan.spec(), layout, image);
+    cursor.last = Some(Violation {
+        constraint: step.constraint,
+        binding: step.binding,
+    });
     Ok(turn)
 }

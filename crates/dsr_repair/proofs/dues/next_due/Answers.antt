@@ -1,8 +1,12 @@
 -- The literal that is due on an image, by its model.
+use Rattle.std.proofs.Common.{Option, MatchOption, subst}
 use Rattle.dsr_model_laws.proofs.Models.{facts_listed}
 use Rattle.dsr_model_laws.proofs.Truths.{literal_decided}
 use Rattle.dsr_repair.proofs.Same.{decided_same, due_same, satisfied}
 use Rattle.dsr_repair.specs.Chosen.{bound_of}
+use Rattle.dsr_repair.specs.Violations.{IsNextViolation}
+use Rattle.dsr_repair.specs.declared.bindings.Violation.{Violation}
+use Rattle.dsr_meaning.specs.Consistency.{AreSatisfied}
 use Rattle.dsr_meaning.specs.Models.{IsFact}
 use Rattle.dsr_model.specs.Facts.{IsInModel}
 use Rattle.dsr_fixpoint.proofs.Bridged.{same_facts}
@@ -26,4 +30,6 @@ pub returns-in-None : goal.returns-in-None
 returns-in-None g c =
     satisfied (IsInModel c.args.model.now) (IsFact c.args.spec.now c.args._layout.now (g.I.ImageBytes.bytes c.args._image.now))
     (same_facts c.args.spec.now c.args._layout.now (g.I.ImageBytes.bytes c.args._image.now) c.args.model.now c.requires.model c.requires.prepared)
-    c.args.spec.now c.in-None.ensures
+    c.args.spec.now
+    (subst (λ (next : Option Violation). MatchOption next (AreSatisfied (IsInModel c.args.model.now) c.args.spec.now)
+    (IsNextViolation (IsInModel c.args.model.now) c.args.spec.now c.args.choice.now)) c.in-None.is c.requires.next)

@@ -1,7 +1,10 @@
 -- The steps of a repair.
-use Rattle.std.proofs.Common.{[], length, refl, sym, ap, subst, arith}
+use Rattle.std.proofs.Common.{◌≤◌, [], length, refl, sym, ap, subst, arith}
 use Rattle.dsr_fixpoint.specs.Models.{IsLaidOut, IsModelOf, IsPreparedFor}
 use Rattle.dsr_meaning.specs.Consistency.{IsConsistent}
+use Rattle.dsr_repair.specs.Orders.{IsRepairOrder}
+use Rattle.dsr_plan_theory.specs.declared.choices.Choice.{Choice}
+use Rattle.dsr_repair.proofs.Moved.{cursor_begins, few_rows}
 use Rattle.dsr_repair.proofs.RunOn.{less_left, run_on, run_same}
 use Rattle.dsr_repair.proofs.StepMade.{laid_out}
 use Rattle.dsr_repair.specs.Stepping.{TakesTurn, State, state}
@@ -9,6 +12,18 @@ use Rattle.dsr_repair_theory.specs.Runs.IsPartRun.{begins}
 use Rattle.dsr_repair_theory.specs.Turns.{IsTurn}
 use Rattle.dsr_resolve.proofs.AcceptedLayouts.{legal_of}
 use Rattle.dsr_repair.proofs.repairs.make_steps.Goals as goal
+
+pub new-requires : goal.new-requires
+new-requires g c = record {
+  few = subst (λ (choice : Choice). length choice.rows ≤ 128) (sym c.choice.ensures.is)
+      (few_rows c.args.plan.now.0 c.args.plan.now.1 c.requires.image.typed c.requires.planned);
+}
+
+pub returns-in_err-cursor-clause-steps : goal.returns-in_err-cursor-clause-steps
+returns-in_err-cursor-clause-steps g c =
+    let old = g.I.ImageBytes.bytes c.args.image.now in
+    run_same c.args.plan.now.0 c.args.plan.now.1 c.args.layout.now old old old [] c.args.log.now.entries begins refl
+    c.requires.empty
 
 pub prepare-requires-clause-legal : goal.prepare-requires-clause-legal
 prepare-requires-clause-legal g c =
@@ -37,6 +52,9 @@ steps-init g c =
         prepared = subst (λ s. IsPreparedFor s c.args.layout.now c.rebuild.new.model) c.requires.spec c.rebuild.ensures.prepared;
         model = subst (λ s. IsModelOf s c.args.layout.now old c.rebuild.new.model) c.requires.spec c.rebuild.ensures.model;
       };
+      cursor = cursor_begins c.args.plan.now.0 c.args.plan.now.1 c.args.layout.now old c.in_ok-cursor.cursor
+          (subst (λ choice. IsRepairOrder choice c.in_ok-cursor.cursor.order.items) c.choice.ensures.is c.in_ok-cursor.ensures.ordered)
+          c.in_ok-cursor.ensures.begins;
     }
 
 pub returns-in-Done-clause-ends : goal.returns-in-Done-clause-ends
@@ -58,6 +76,7 @@ steps-preserved g c =
       steps = run_on c.args.plan.now.0 c.args.plan.now.1 c.args.layout.now (g.I.ImageBytes.bytes c.args.image.now) old new
           c.steps.log.entries c.step.new.log.entries taken.entry c.steps.invariant.steps taken.made taken.pushed;
       modelled = c.step.ensures.modelled;
+      cursor = c.step.ensures.cursor;
     }
 
 pub steps-smaller : goal.steps-smaller

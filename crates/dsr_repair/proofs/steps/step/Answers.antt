@@ -3,6 +3,7 @@ use Rattle.std.proofs.Common.{◌∙◌, ◌∷◌, ◌++◌, [], All, refl, sym
 use Rattle.dsr_repair_laws.proofs.MakingSteps.{writes_free}
 use Rattle.dsr_fixpoint.specs.Models.{IsLaidOut, IsModelOf, IsPreparedFor}
 use Rattle.dsr_plan_theory.specs.Plans.{IsPlan}
+use Rattle.dsr_repair.proofs.Moved.{cursor_moves, cursor_stays}
 use Rattle.dsr_repair.proofs.StepMade.{can_be_made, due_by_it, fixed_as_before, fixed_stay, image_stays, laid_out, nearer, never_none, on_err, same_state}
 use Rattle.dsr_repair_theory.specs.Entries.{IsEntryOf}
 use Rattle.dsr_step_theory.specs.Images.{FixedFieldsStay, IsFree}
@@ -115,3 +116,31 @@ returns-clause-brings g c =
     (image_stays c.args.plan.now.0 c.args.plan.now.1 c.args.layout.now old c.in-Step.step c.in-Some.update.now
     c.requires.modelled.image plan due new c.in_ok-entry.entry told)
     due told
+
+pub returns-in_err-entry-clause-cursor : goal.returns-in_err-entry-clause-cursor
+returns-in_err-entry-clause-cursor g c =
+    cursor_stays c.args.plan.now.0 c.args.plan.now.1 c.args.layout.now (g.I.ImageBytes.bytes c.args.image.now)
+    (g.I.ImageBytes.bytes c.make.new.image) c.args.cursor.now c.requires.cursor c.in_err-entry.ensures.same
+
+pub returns-clause-cursor : goal.returns-clause-cursor
+returns-clause-cursor g c =
+    let old = g.I.ImageBytes.bytes c.args.image.now in
+    let new = g.I.ImageBytes.bytes c.make.new.image in
+    let due = due_by_it c.args.plan.now.0 c.args.plan.now.1 c.args.layout.now old c.in-Step.step c.in-Step.ensures.0
+    c.in-Some.update.now c.in-Step.ensures.1 c.in-Some.ensures in
+    let plan = subst (λ s. IsPlan s c.args.plan.now.1) c.spec.ensures.is c.spec.ensures.plan in
+    let told = subst (λ s. IsEntryOf s c.args.layout.now c.in-Step.step c.in-Some.update.now old new c.in_ok-entry.entry)
+    c.spec.ensures.is c.in_ok-entry.ensures.made in
+    cursor_moves c.args.plan.now.0 c.args.plan.now.1 c.args.layout.now old new c.args.cursor.now c.requires.cursor c.in-Step.step
+    c.in-Some.update.now due
+    (nearer c.args.plan.now.0 c.args.plan.now.1 c.args.layout.now old new c.in-Step.step c.in-Some.update.now c.in_ok-entry.entry
+    plan c.requires.modelled.image
+    (image_stays c.args.plan.now.0 c.args.plan.now.1 c.args.layout.now old c.in-Step.step c.in-Some.update.now
+    c.requires.modelled.image plan due new c.in_ok-entry.entry told)
+    due told)
+
+pub returns-in_err-reserve-clause-rests : goal.returns-in_err-reserve-clause-rests
+returns-in_err-reserve-clause-rests g c = on_err c.from_residual.result refl
+
+pub returns-in_err-entry-clause-rests : goal.returns-in_err-entry-clause-rests
+returns-in_err-entry-clause-rests g c = on_err c.from_residual-in_err-entry.result refl

@@ -37,7 +37,7 @@ fn is_formed(cell: &Cell) -> bool
 }
 
 // Whether an image of so many bytes has the cell.
-fn is_cell(length: u64, cell: &Cell) -> bool
+pub fn is_cell(length: u64, cell: &Cell) -> bool
     ensures { OnTrue result (IsFieldCell cell.now × cell.now.bit + cell.now.width ≤ 8 * length) }
 {
     let whole = length.saturating_mul(8);
@@ -45,7 +45,7 @@ fn is_cell(length: u64, cell: &Cell) -> bool
 }
 
 // Whether a number fits so many bits.
-fn fits(number: u64, width: u8) -> bool
+pub fn fits(number: u64, width: u8) -> bool
     ensures { OnTrue result (number < 2 ^ width) }
 {
     width == 64 || width < 64 && number >> width == 0

@@ -23,6 +23,8 @@ mod numbers;
 #[cfg(test)]
 mod orders;
 #[cfg(test)]
+mod overlays;
+#[cfg(test)]
 mod pairs;
 #[cfg(test)]
 mod relations;

@@ -1,6 +1,8 @@
 // One test without `?`, since a test costs more to prove than what it calls. A failure tells which
 // call it was.
-use crate::{cells, copies, functional, layouts, marks, numbers, orders, pairs, relations};
+use crate::{
+    cells, copies, functional, layouts, marks, numbers, orders, overlays, pairs, relations,
+};
 
 #[test]
 fn lowest_crates_answer(rt: HostRuntime) {
@@ -11,6 +13,7 @@ fn lowest_crates_answer(rt: HostRuntime) {
     assert!(rt; orders::inclusions_give());
     assert!(rt; cells::hold_what_is_put(alloc));
     assert!(rt; cells::bytes_stay(alloc).unwrap_or(false));
+    assert!(rt; overlays::hold_as_whole_images(alloc).unwrap_or(false));
     assert!(rt; marks::all_answer(alloc));
     assert!(rt; numbers::places_have_numbers(alloc));
     assert!(rt; numbers::targets_have_sources(alloc));

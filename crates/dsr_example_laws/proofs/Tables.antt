@@ -3,7 +3,7 @@ use Rattle.std.proofs.Common.{◌≡◌, ◌∙◌, ◌⊎◌, ℕ, false, List,
 use Rattle.std.proofs.lemmas.Bool.{false≢true}
 use Rattle.std.proofs.lemmas.Option.{same_Some, none-some}
 use Rattle.dsr_step_laws.proofs.Tried.{plain, updating}
-use Rattle.dsr_graph_examples.proofs.Given.{base, entry_path, leading, marking, pairing, rules, sharing, valuing}
+use Rattle.dsr_example_laws.proofs.Given.{base, entry_path, leading, marking, pairing, rules, sharing, valuing}
 use Rattle.dsr_ir.specs.Rules.{symbol_of}
 use Rattle.dsr_ir.specs.declared.constraints.Quant.{Quant}
 use Rattle.dsr_ir.specs.declared.constraints.Quant.TheVariants.{Each}

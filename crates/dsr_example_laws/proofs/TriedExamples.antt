@@ -21,8 +21,8 @@ use Rattle.dsr_update_theory.specs.KnownSets.{IsKnown}
 use Rattle.dsr_update_theory.specs.Together.{MayStandTogether}
 use Rattle.dsr_update_theory.specs.declared.effects.Direction.{Direction}
 use Rattle.dsr_update_theory.specs.declared.effects.Direction.TheVariants.{Gain, Loss}
-use Rattle.dsr_template_examples.specs.Examples.{HasTriedExample, application_of}
-use Rattle.dsr_template_examples.proofs.KeptSymbols.{a_stays, clear_keeps, cut_keeps, unmark_keeps}
+use Rattle.dsr_example_laws.specs.Examples.{HasTriedExample, application_of}
+use Rattle.dsr_example_laws.proofs.KeptSymbols.{a_stays, clear_keeps, cut_keeps, unmark_keeps}
 
 -- one write stands beside none
 one_together : (base : Structures) (w : Write) → MayStandTogether base (w ∷ [])

@@ -2,7 +2,7 @@
 use Rattle.std.proofs.Common.{◌≡◌, ◌≤◌, ◌<◌, ◌^◌, ◌∙◌, ℕ, suc, Bool, true, false, IsTrue, List, [], ◌∷◌, length, codes, All, None, Some, IsSomeAnd, map, slice_get, inl, inr, refl, sym, ap, subst, arith}
 use Rattle.dsr_step_laws.proofs.Given.{constraint_of, path_to, scalar}
 use Rattle.dsr_step_laws.proofs.Items.{all_such, are_different, differ, each_is}
-use Rattle.dsr_graph_examples.proofs.Given.{base, constraints, entry_path, head_structure, leading, marking, marks, marks_place, node_structure, nodes, numbered, pairing, rules, set_of_nodes, sharing, valuing}
+use Rattle.dsr_example_laws.proofs.Given.{base, constraints, entry_path, head_structure, leading, marking, marks, marks_place, node_structure, nodes, numbered, pairing, rules, set_of_nodes, sharing, valuing}
 use Rattle.dsr_ir.specs.Rules.{target_of}
 use Rattle.dsr_ir.specs.declared.constraints.Atom.{Atom}
 use Rattle.dsr_ir.specs.declared.constraints.Atom.TheVariants as atoms

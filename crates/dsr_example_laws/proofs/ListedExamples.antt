@@ -18,8 +18,8 @@ use Rattle.dsr_graph_theory.specs.Owners.{Owner, change_of, goal_at}
 use Rattle.dsr_graph_theory.specs.Sides.{IsKept, MayBeMade, MayServe}
 use Rattle.dsr_template_laws.specs.Judging.{IsListed, owner_of}
 use Rattle.dsr_update_theory.specs.Templates.{AreRawOf}
-use Rattle.dsr_template_examples.specs.Examples.{HasListedExample, application_of}
-use Rattle.dsr_template_examples.proofs.TriedExamples.{may_0, may_1, may_2, may_3, may_5, may_8, serves_0, serves_1, serves_2, serves_3, serves_5, serves_8}
+use Rattle.dsr_example_laws.specs.Examples.{HasListedExample, application_of}
+use Rattle.dsr_example_laws.proofs.TriedExamples.{may_0, may_1, may_2, may_3, may_5, may_8, serves_0, serves_1, serves_2, serves_3, serves_5, serves_8}
 
 -- a template of one update is kept, where that serves
 kept_alone : (owner : Owner) (atom : Atom) (goal : Goal) (update : Update) → MayBeMade (change_of owner (goal_at goal 0) update) × MayServe goal atom 0 (change_of owner (goal_at goal 0) update) → IsKept owner atom (template_of goal (update ∷ []))

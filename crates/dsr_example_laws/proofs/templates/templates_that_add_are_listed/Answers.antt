@@ -1,5 +1,5 @@
-use Rattle.dsr_template_examples.proofs.ListedExamples.{added_member, added_pair, supplied_pair}
-use Rattle.dsr_template_examples.proofs.templates_that_add_are_listed.Goals as goal
+use Rattle.dsr_example_laws.proofs.ListedExamples.{added_member, added_pair, supplied_pair}
+use Rattle.dsr_example_laws.proofs.templates.templates_that_add_are_listed.Goals as goal
 
 pub returns-clause-member : goal.returns-clause-member
 returns-clause-member c = added_member

@@ -3,8 +3,8 @@ use Rattle.std.proofs.Common.{◌≡◌, refl, arith}
 use Rattle.std.specs.Prelude.{[], Some}
 use Rattle.dsr_step_laws.proofs.Given.{image}
 use Rattle.dsr_step_laws.proofs.Putting.{bytes_of_image}
-use Rattle.dsr_graph_examples.proofs.Given.{base, layout, sharing}
-use Rattle.dsr_graph_examples.proofs.Typed.{typed}
+use Rattle.dsr_example_laws.proofs.Given.{base, layout, sharing}
+use Rattle.dsr_example_laws.proofs.Typed.{typed}
 use Rattle.dsr_meaning.specs.Layouts.{layout_of}
 use Rattle.dsr_meaning.specs.Legal.{IsLegalLayout}
 use Rattle.dsr_meaning.specs.Refusals.{IsLayoutOf, refusals}

@@ -10,12 +10,12 @@ use Rattle.dsr_graph_theory.specs.Excuses.{AreDifferentRecords, AreSecondsApart,
 use Rattle.dsr_graph_theory.specs.declared.causes.Cause.{Cause}
 use Rattle.dsr_graph_theory.specs.declared.causes.Reason.{Reason}
 use Rattle.dsr_graph_theory.specs.declared.causes.Reason.TheVariants.{Gain}
-use Rattle.dsr_graph_examples.proofs.Applied.{assignment_each, assignment_here, assignment_left, marking, marking_tried, tried_each, tried_here, tried_left}
-use Rattle.dsr_graph_examples.proofs.Facts.{IsTrueNow, in_b, in_q, second_in_c, second_mark, second_value}
-use Rattle.dsr_graph_examples.proofs.Given.{numbered, sharing}
-use Rattle.dsr_graph_examples.proofs.Holding.{holds_where, this_number}
-use Rattle.dsr_graph_examples.proofs.Tables.{gains_mark, gains_value, only_marks, only_values}
-use Rattle.dsr_graph_examples.specs.ExcusedCases.{ExcusedCase, Kind, different_records, other_entry, own_binding, targets_apart}
+use Rattle.dsr_example_laws.proofs.Applied.{assignment_each, assignment_here, assignment_left, marking, marking_tried, tried_each, tried_here, tried_left}
+use Rattle.dsr_example_laws.proofs.Facts.{IsTrueNow, in_b, in_q, second_in_c, second_mark, second_value}
+use Rattle.dsr_example_laws.proofs.Given.{numbered, sharing}
+use Rattle.dsr_example_laws.proofs.Holding.{holds_where, this_number}
+use Rattle.dsr_example_laws.proofs.Tables.{gains_mark, gains_value, only_marks, only_values}
+use Rattle.dsr_example_laws.specs.ExcusedCases.{ExcusedCase, Kind, different_records, other_entry, own_binding, targets_apart}
 use Rattle.dsr_graph_laws.proofs.Breaking.{was_violated}
 use Rattle.dsr_graph_laws.proofs.Firsts.{none_first}
 use Rattle.dsr_ir.specs.declared.constraints.Atom.TheVariants as atoms

@@ -1,10 +1,7 @@
-//! That the laws on templates speak of something. Each law is the contract of a function that does
-//! nothing when it runs.
-#![tactic(auto)]
-
+// That the laws on templates speak of something: an example for each goal.
 ghost use Rattle.dsr_ir.specs.declared.updates.Goal.{Goal};
 ghost use Rattle.dsr_ir.specs.declared.updates.Goal.TheVariants.{AddSet, AddTuple, RemoveSet, RemoveTuple, SetValue, Supply};
-ghost use Rattle.dsr_template_examples.specs.Examples.{HasListedExample, HasTriedExample};
+ghost use Rattle.dsr_example_laws.specs.Examples.{HasListedExample, HasTriedExample};
 
 /// For each goal there is an application of which all holds that the laws on updates that are tried
 /// ask for. Something that it changes lies in its table, and it helps its literal.

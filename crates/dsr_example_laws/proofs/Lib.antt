@@ -1,3 +1,6 @@
+pub mod KeptSymbols
+pub mod TriedExamples
+pub mod ListedExamples
 pub mod Given
 pub mod Typed
 pub mod Placed

@@ -7,9 +7,9 @@ use Rattle.dsr_step_laws.proofs.Given.{constraint_of, image}
 use Rattle.dsr_step_laws.proofs.Violated.{literal_of}
 use Rattle.dsr_repair_theory.specs.Applications.{FactsHold}
 use Rattle.dsr_model_laws.proofs.Functional.{one_target}
-use Rattle.dsr_graph_examples.proofs.Facts.{IsTrueNow, apart, exclusive}
-use Rattle.dsr_graph_examples.proofs.Given.{constraints, layout, sharing}
-use Rattle.dsr_graph_examples.proofs.Placed.{legal}
+use Rattle.dsr_example_laws.proofs.Facts.{IsTrueNow, apart, exclusive}
+use Rattle.dsr_example_laws.proofs.Given.{constraints, layout, sharing}
+use Rattle.dsr_example_laws.proofs.Placed.{legal}
 use Rattle.dsr_ir.specs.declared.constraints.Atom.{Atom}
 use Rattle.dsr_ir.specs.declared.constraints.Atom.TheVariants as atoms
 use Rattle.dsr_ir.specs.declared.constraints.Bound.TheVariants as bounds

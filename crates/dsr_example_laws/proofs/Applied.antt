@@ -9,11 +9,11 @@ use Rattle.dsr_step_laws.proofs.Violated.{literal_of}
 use Rattle.dsr_repair_theory.specs.Applications.{FactsHold}
 use Rattle.dsr_repair_theory.specs.Choices.{IsChosen}
 use Rattle.dsr_repair_theory.specs.Choices.IsUpdateAt.{adds}
-use Rattle.dsr_graph_examples.proofs.Facts.{IsTrueNow, first_in_c, first_mark, first_value, in_a, in_p}
-use Rattle.dsr_graph_examples.proofs.Given.{constraints, layout, numbered, sharing}
-use Rattle.dsr_graph_examples.proofs.Holding.{other_number, uses_apart, uses_both_at_5, uses_both_at_7, uses_nothing, violated_where}
-use Rattle.dsr_graph_examples.proofs.Placed.{image_is}
-use Rattle.dsr_graph_examples.proofs.Tables.{assign, mark, mark_write, one_zero}
+use Rattle.dsr_example_laws.proofs.Facts.{IsTrueNow, first_in_c, first_mark, first_value, in_a, in_p}
+use Rattle.dsr_example_laws.proofs.Given.{constraints, layout, numbered, sharing}
+use Rattle.dsr_example_laws.proofs.Holding.{other_number, uses_apart, uses_both_at_5, uses_both_at_7, uses_nothing, violated_where}
+use Rattle.dsr_example_laws.proofs.Placed.{image_is}
+use Rattle.dsr_example_laws.proofs.Tables.{assign, mark, mark_write, one_zero}
 use Rattle.dsr_ir.specs.declared.constraints.Atom.TheVariants as atoms
 use Rattle.dsr_ir.specs.declared.constraints.Bound.TheVariants as bounds
 use Rattle.dsr_ir.specs.declared.constraints.Quant.{Quant}

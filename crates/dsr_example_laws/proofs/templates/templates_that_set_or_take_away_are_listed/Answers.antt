@@ -1,5 +1,5 @@
-use Rattle.dsr_template_examples.proofs.ListedExamples.{removed_member, removed_pair, value_set}
-use Rattle.dsr_template_examples.proofs.templates_that_set_or_take_away_are_listed.Goals as goal
+use Rattle.dsr_example_laws.proofs.ListedExamples.{removed_member, removed_pair, value_set}
+use Rattle.dsr_example_laws.proofs.templates.templates_that_set_or_take_away_are_listed.Goals as goal
 
 pub returns-clause-value : goal.returns-clause-value
 returns-clause-value c = value_set

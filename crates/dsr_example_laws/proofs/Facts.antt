@@ -9,9 +9,9 @@ use Rattle.dsr_step_laws.proofs.Model.{slots_differ}
 use Rattle.dsr_model_laws.proofs.Functional.{one_target}
 use Rattle.dsr_step_laws.proofs.GivenSymbols.{giver_of}
 use Rattle.dsr_repair_laws.proofs.FormItems.{giver_in}
-use Rattle.dsr_graph_examples.proofs.Given.{base, entry_path, layout, leading, marking, numbers, pairing, rules, sharing, valuing}
-use Rattle.dsr_graph_examples.proofs.Placed.{legal, placed}
-use Rattle.dsr_graph_examples.proofs.Typed.{typed}
+use Rattle.dsr_example_laws.proofs.Given.{base, entry_path, layout, leading, marking, numbers, pairing, rules, sharing, valuing}
+use Rattle.dsr_example_laws.proofs.Placed.{legal, placed}
+use Rattle.dsr_example_laws.proofs.Typed.{typed}
 use Rattle.dsr_ir.specs.declared.declarations.Rel.{Rel as RelOf}
 use Rattle.dsr_ir.specs.declared.rules.Rule.{Rule}
 use Rattle.dsr_ir.specs.declared.tuples.Element.{Element}

@@ -1,3 +1,0 @@
-pub mod KeptSymbols
-pub mod TriedExamples
-pub mod ListedExamples

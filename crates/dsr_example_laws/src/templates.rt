@@ -16,7 +16,7 @@ pub fn templates_that_add_are_listed()
     ensures fresh { HasListedExample Supply }
 {}
 
-/// So are such that set a value, and that take a member or a pair away.
+/// Updates of listed templates are applied that set a value, and that take a member or a pair away.
 pub fn templates_that_set_or_take_away_are_listed()
     ensures value { HasListedExample SetValue }
     ensures member { HasListedExample RemoveSet }

@@ -1,8 +1,9 @@
 -- Items of lists: where they stand, and among those of lists that are made of others.
-use Rattle.std.proofs.Common.{◌≡◌, ◌+◌, ◌⊎◌, ◌∙◌, ℕ, zero, suc, Bool, true, false, List, [], ◌∷◌, ◌++◌, map, take, All, Option, None, Some, inl, inr, refl, sym, ap, subst, arith}
-use Rattle.std.specs.Prelude.{slice_get, if◌then◌else◌}
+use Rattle.std.proofs.Common.{◌≡◌, ◌+◌, ◌⊎◌, ◌∙◌, ℕ, zero, suc, Bool, true, false, nat_eq, List, [], ◌∷◌, ◌++◌, length, map, take, All, Option, None, Some, inl, inr, refl, sym, ap, subst, arith, ◌<◌}
+use Rattle.std.specs.Prelude.{slice_get, if◌then◌else◌, ◌||◌}
 use Rattle.std.specs.List.{cons_option, filter_map, flat_map}
 use Rattle.std.proofs.lemmas.Bool.{or_parts}
+use Rattle.std.proofs.lemmas.Bool.Decides.{nat_tests}
 use Rattle.std.proofs.lemmas.List.Elements.{All-cons, All-head, All-nil, All-tail}
 use Rattle.std.proofs.lemmas.Option.{same_Some}
 use Rattle.dsr_meaning.specs.Counting.{IsIn}
@@ -34,6 +35,12 @@ pub place_of : {A : Type 0} (xs : List A) (x : A) → IsIn x xs → (i : ℕ) ×
 place_of [] x is_in = absurd is_in
 place_of (y ∷ ys) x (inl same) = (zero, ap Some (sym same))
 place_of (y ∷ ys) x (inr later) = let at = place_of ys x later in (suc at.0, at.1)
+
+-- below its length a list has an item
+pub item_there : {A : Type 0} (xs : List A) (i : ℕ) → i < length xs → (x : A) × (slice_get xs i ≡ Some x)
+item_there [] i less = absurd (omega (arith, less))
+item_there (x ∷ xs) zero less = (x, refl)
+item_there (x ∷ xs) (suc i) less = item_there xs i (omega (arith, less))
 
 -- and what stands at a place is an item
 pub item_at : {A : Type 0} (xs : List A) (i : ℕ) (x : A) → slice_get xs i ≡ Some x → IsIn x xs
@@ -153,7 +160,7 @@ pub record IsMade {A B : Type 0} (f : A → Option B) (xs : List A) (y : B) : Ty
   pub among : IsIn from xs
   pub is : f from ≡ Some y
 
-in_option : {B : Type 0} (o : Option B) (ys : List B) (y : B) → IsIn y (cons_option o ys) → (o ≡ Some y) ⊎ IsIn y ys
+pub in_option : {B : Type 0} (o : Option B) (ys : List B) (y : B) → IsIn y (cons_option o ys) → (o ≡ Some y) ⊎ IsIn y ys
 in_option None ys y is_in = inr is_in
 in_option (Some z) ys y (inl same) = inl (ap Some (sym same))
 in_option (Some z) ys y (inr later) = inr later
@@ -167,10 +174,10 @@ in_filter f (x ∷ xs) y is_in = elim (in_option (f x) (filter_map f xs) y is_in
       record { from = rest.from; among = inr rest.among; is = rest.is }
 ]
 
-option_in : {B : Type 0} (o : Option B) (ys : List B) (y : B) → o ≡ Some y → IsIn y (cons_option o ys)
+pub option_in : {B : Type 0} (o : Option B) (ys : List B) (y : B) → o ≡ Some y → IsIn y (cons_option o ys)
 option_in o ys y is = subst (λ p. IsIn y (cons_option p ys)) (sym is) (inl refl)
 
-behind_option : {B : Type 0} (o : Option B) (ys : List B) (y : B) → IsIn y ys → IsIn y (cons_option o ys)
+pub behind_option : {B : Type 0} (o : Option B) (ys : List B) (y : B) → IsIn y ys → IsIn y (cons_option o ys)
 behind_option None ys y is_in = is_in
 behind_option (Some z) ys y is_in = inr is_in
 
@@ -178,3 +185,15 @@ pub filter_in : {A B : Type 0} (f : A → Option B) (xs : List A) (x : A) (y : B
 filter_in f [] x y is_in is = absurd is_in
 filter_in f (z ∷ xs) x y (inl same) is = option_in (f z) (filter_map f xs) y (ap f (sym same) ∙ is)
 filter_in f (z ∷ xs) x y (inr later) is = behind_option (f z) (filter_map f xs) y (filter_in f xs x y later is)
+
+-- a number that is in a list is found there
+pub number_found : (n : ℕ) (ns : List ℕ) → IsIn n ns → any_of (nat_eq n) ns ≡ true
+number_found n [] is_in = absurd is_in
+number_found n (m ∷ ms) (inl same) =
+    let is : nat_eq n m ≡ true = grind (arith, nat_tests, same) in
+    ap (λ b. b || any_of (nat_eq n) ms) is
+number_found n (m ∷ ms) (inr later) =
+    elim (nat_eq n m) as (λ b. (b || any_of (nat_eq n) ms) ≡ true) [
+      | true ↦ refl
+      | false ↦ number_found n ms later
+    ]

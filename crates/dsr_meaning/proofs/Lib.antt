@@ -1,3 +1,4 @@
+pub mod Ancestors
 pub mod Bits
 pub mod Counts
 pub mod Derived
@@ -5,6 +6,7 @@ pub mod Empty
 pub mod Firing
 pub mod Items
 pub mod Lists
+pub mod Numbers
 pub mod Options
 pub mod Ordered
 pub mod Placing

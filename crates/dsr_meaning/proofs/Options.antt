@@ -1,8 +1,12 @@
 -- What is there in an option that is made of another one.
-use Rattle.std.proofs.Common.{◌≡◌, Bool, true, false, Option, None, Some, IsSomeAnd, refl, sym, subst}
+use Rattle.std.proofs.Common.{◌≡◌, Bool, true, false, Option, None, Some, IsSome, IsSomeAnd, refl, sym, subst}
 use Rattle.std.specs.Option.{option_and_then}
 use Rattle.std.specs.Prelude.{if◌then◌else◌, option_map}
 use Rattle.std.proofs.lemmas.Option.{same_Some}
+
+pub some_of : {A : Type 0} (o : Option A) → IsSome o → (x : A) × (o ≡ Some x)
+some_of None is = absurd cc
+some_of (Some x) is = (x, refl)
 
 pub mapped_from : {A B : Type 0} (f : A → B) (o : Option A) (y : B) → option_map f o ≡ Some y → (x : A) × ((o ≡ Some x) × (y ≡ f x))
 mapped_from f None y e = absurd cc

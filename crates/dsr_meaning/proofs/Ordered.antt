@@ -1,4 +1,4 @@
--- The violated bindings have one list.
+-- Elements and bindings stand in one order, so the violated bindings have one list.
 use Rattle.std.proofs.Common.{◌≡◌, ◌⊎◌, ℕ, List, [], ◌∷◌, Some, inl, inr, refl, sym, ap, subst, ◌∙◌, arith}
 use Rattle.std.proofs.lemmas.Bool.{cases_lt}
 use Rattle.std.specs.Prelude.{slice_get}
@@ -12,11 +12,25 @@ use Rattle.dsr_meaning.specs.Orders.{BindingPrecedes, Precedes}
 use Rattle.dsr_meaning.specs.Counting.{IsIn}
 
 -- no element comes before one that comes before it
-one_way : (a b : Element) → Precedes a b → Precedes b a → ⊥
+pub one_way : (a b : Element) → Precedes a b → Precedes b a → ⊥
 one_way a b (inl p) (inl q) = omega arith
 one_way a b (inl p) (inr (e, q)) = omega (arith, e)
 one_way a b (inr (e, p)) (inl q) = omega (arith, e)
 one_way a b (inr (e, p)) (inr (f, q)) = omega arith
+
+-- nor before itself
+pub none_precedes_itself : (e : Element) → Precedes e e → ⊥
+none_precedes_itself e before = one_way e e before before
+
+-- what comes before comes before what comes later
+pub elements_follow : (a b c : Element) → Precedes a b → Precedes b c → Precedes a c
+elements_follow a b c (inl p) (inl q) = inl (omega (arith, p, q))
+elements_follow a b c (inl p) (inr (e, q)) = inl (omega (arith, p, e))
+elements_follow a b c (inr (e, p)) (inl q) = inl (omega (arith, e, q))
+elements_follow a b c (inr (e, p)) (inr (f, q)) = inr (e ∙ f, omega (arith, p, q))
+
+pub same_element : (e f : Element) → e.pool ≡ f.pool → e.slot ≡ f.slot → e ≡ f
+same_element e f p q = λ k. record { pool = p k; slot = q k }
 
 pairs_one_way : (a a' b b' : Element) → BindingPrecedes (Pair a a') (Pair b b') → BindingPrecedes (Pair b b') (Pair a a') → ⊥
 pairs_one_way a a' b b' (inl p) (inl q) = one_way a b p q

@@ -25,7 +25,7 @@ place : (bytes : List ℕ) (q i : ℕ) → (8 * q + i) / 8 ≡ q → (8 * q + i)
 place bytes q i byte bit = rw (byte, bit) refl
 
 -- such a width is one of whole bytes
-whole_width : (width : ℕ) → IsByteWidth width → 8 * (width / 8) ≡ width
+pub whole_width : (width : ℕ) → IsByteWidth width → 8 * (width / 8) ≡ width
 whole_width width (inl e) = omega (arith, e)
 whole_width width (inr (inl e)) = omega (arith, e)
 whole_width width (inr (inr (inl e))) = omega (arith, e)

@@ -1,4 +1,5 @@
-use Rattle.dsr_normal.proofs.AtomLists.{found, each_once}
+use Rattle.dsr_language_theory.proofs.SameAtoms.{found}
+use Rattle.dsr_normal.proofs.AtomLists.{each_once}
 use Rattle.dsr_normal.proofs.laws.different_atoms_are_all.Goals as goal
 
 pub returns : goal.returns

@@ -55,3 +55,10 @@ module _ {S : Type 0} (f : ℕ → S → List Fault) where
   pub finds_next_of : {a b c : Option Fault} (xs : List S) (i : ℕ) (x : S) → i < length xs → x ≡ get_or xs i x → Finds (each_at f 0 (take i xs)) a b → Finds (f i x) b c → Finds (each_at f 0 (take (i + 1) xs)) a c
   finds_next_of {a} {b} {c} xs i x lt is p q =
       subst (λ ys. Finds (each_at f 0 ys) a c) (map-id (take (i + 1) xs)) (finds_next (λ y. y) xs i x lt is (subst (λ ys. Finds (each_at f 0 ys) a b) (sym (map-id (take i xs))) p) q)
+
+-- what was found in the items up to one, and then in that one, where they are counted from any number
+pub finds_next_from : {S : Type 0} (f : ℕ → S → List Fault) (n : ℕ) {a b c : Option Fault} (xs : List S) (i : ℕ) (x : S) → i < length xs → x ≡ get_or xs i x → Finds (each_at f n (take i xs)) a b → Finds (f (n + i) x) b c → Finds (each_at f n (take (i + 1) xs)) a c
+finds_next_from f n xs i x lt is p q =
+    let next : each_at f n (take (i + 1) xs) ≡ each_at f n (take i xs) ++ f (n + i) x =
+    sym (ap (each_at f n) (map-id (take (i + 1) xs))) ∙ each_next f (λ y. y) n xs i x lt is ∙ ap (λ ys. each_at f n ys ++ f (n + i) x) (map-id (take i xs)) in
+    finds_same (sym next) (finds_then p q)

@@ -18,6 +18,9 @@ earlier_self p k = grind (arith, common_steps)
 earlier_once : (p k q l : ℕ) → earlier p k q l ≡ true → earlier q l p k ≡ false
 earlier_once p k q l e = grind (arith, common_steps)
 
+earlier_both : (p k q l r m : ℕ) → earlier q l p k ≡ true → earlier r m q l ≡ true → earlier r m p k ≡ true
+earlier_both p k q l r m e f = grind (arith, common_steps)
+
 earlier_never : (p k q l r m : ℕ) → earlier q l p k ≡ false → earlier r m q l ≡ false → earlier r m p k ≡ false
 earlier_never p k q l r m e f = grind (arith, common_steps)
 
@@ -29,8 +32,12 @@ not_self f = earlier_self f.place (kind_number f.condition)
 once : (f g : Fault) → is_before f g ≡ true → is_before g f ≡ false
 once f g = earlier_once f.place (kind_number f.condition) g.place (kind_number g.condition)
 
+-- where g is before f, and h before g, h is before f
+pub both : (f g h : Fault) → is_before g f ≡ true → is_before h g ≡ true → is_before h f ≡ true
+both f g h = earlier_both f.place (kind_number f.condition) g.place (kind_number g.condition) h.place (kind_number h.condition)
+
 -- where g isn't before f, nor h before g, h isn't before f
-never : (f g h : Fault) → is_before g f ≡ false → is_before h g ≡ false → is_before h f ≡ false
+pub never : (f g h : Fault) → is_before g f ≡ false → is_before h g ≡ false → is_before h f ≡ false
 never f g h = earlier_never f.place (kind_number f.condition) g.place (kind_number g.condition) h.place (kind_number h.condition)
 
 -- none of a list is before a fault where two and the others aren't

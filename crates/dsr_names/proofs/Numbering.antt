@@ -1,7 +1,8 @@
 -- Numbers of the items that pass a test, in a list that grows at its end.
-use Rattle.std.proofs.Common.{◌≡◌, ◌<◌, ◌+◌, ℕ, Bool, true, false, cond, not, ◌&&◌, List, [], ◌∷◌, ◌++◌, take, length, get_or, Option, None, Some, is_some, if◌then◌else◌, refl, sym, ap, ◌∙◌, add-one, arith}
+use Rattle.std.proofs.Common.{◌≡◌, ◌<◌, ◌+◌, ℕ, Bool, true, false, cond, not, ◌&&◌, List, [], ◌∷◌, ◌++◌, map, take, length, get_or, Option, None, Some, IfSome, is_some, if◌then◌else◌, refl, sym, ap, ◌∙◌, add-one, arith}
 use Rattle.std.proofs.Math.Seq.{take-suc}
 use Rattle.std.proofs.lemmas.List.{length-take}
+use Rattle.std.proofs.lemmas.Option.{IfSome_then}
 use Rattle.std.proofs.lemmas.Slice.Eq.{bytes_eq-Decides}
 use Rattle.std.specs.List.{position_from}
 use Rattle.std.specs.Str.{bytes_eq}
@@ -12,6 +13,20 @@ use Rattle.dsr_names.specs.Tables.{is_named, entered, field_name}
 -- a number that is known, or else this one where the test passes
 abbrev pub known_or : Option ℕ → ℕ → Bool → Option ℕ
 known_or known n passes = if is_some known then known else (if passes then Some n else None)
+
+-- the first item of a mapped list that passes
+pub position_map : {X K : Type 0} (t : K → Bool) (g : X → K) (n : ℕ) (xs : List X) → position_from t n (map g xs) ≡ position_from (λ x. t (g x)) n xs
+position_map t g n [] = refl
+position_map t g n (x ∷ xs) = ap (cond (t (g x)) (Some n)) (position_map t g (n + 1) xs)
+
+-- the number of an item that is found is one of the list's
+pub position_below : {X : Type 0} (t : X → Bool) (n : ℕ) (xs : List X) → IfSome (position_from t n xs) (λ k. k < n + length xs)
+position_below t n [] = tt
+position_below t n (x ∷ xs) =
+    elim (t x) as (λ b. IfSome (cond b (Some n) (position_from t (n + 1) xs)) (λ k. k < n + length (x ∷ xs))) [
+      | true ↦ omega arith
+      | false ↦ IfSome_then (position_from t (n + 1) xs) (position_below t (n + 1) xs) (λ k lt. omega (arith, lt))
+    ]
 
 module _ {X : Type 0} (t : X → Bool) where
   -- the first item that passes, where one more stands behind

@@ -3,9 +3,20 @@ ghost use Rattle.std.specs.Prelude.{◌≡◌, ◌^◌, nat_le, option_map};
 ghost use Rattle.dsr_meaning.specs.Cells.{width_bits};
 ghost use Rattle.dsr_language_theory.specs.Declarations.{disagree};
 ghost use Rattle.dsr_language_theory.specs.Known.{differ};
+ghost use Rattle.dsr_language_theory.specs.Names.{is_at};
 ghost use Rattle.dsr_language_theory.specs.RuleFaults.{is_other_target};
 
 use dsr_ir::{Expr, Width};
+
+/// Whether a number was found, and is this one.
+pub fn is_at(number: usize, found: Option<u32>) -> bool
+    ensures { result ≡ is_at number found }
+{
+    match found {
+        Some(found) => found as usize == number,
+        None => false,
+    }
+}
 
 /// Whether two numbers are known and differ.
 pub fn disagree(left: Option<u32>, right: Option<u32>) -> bool

@@ -15,7 +15,7 @@ mod tables;
 mod telling;
 mod words;
 
-pub use comparing::{differ, disagree, is_other_target, is_too_wide, width_bits};
+pub use comparing::{differ, disagree, is_at, is_other_target, is_too_wide, width_bits};
 pub use known::Known;
 pub use notes::{note_found, note_name};
 pub use numbers::{Named, is_this, numbers_from};

@@ -1,6 +1,6 @@
 use Rattle.dsr_language_theory.specs.RuleFaults.{guard_faults}
 use Rattle.dsr_rules.specs.Scopes.{scope_told}
-use Rattle.dsr_rules.proofs.Counted.{finds_next_from}
+use Rattle.dsr_names.proofs.Finding.{finds_next_from}
 use Rattle.dsr_rules.proofs.scopes.Scope.check_more_guards.Goals as goal
 
 pub loop-guard-preserved : goal.loop-guard-preserved

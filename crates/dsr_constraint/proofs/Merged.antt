@@ -1,31 +1,12 @@
 -- The fault that is told of a part stands for all that were found in it.
-use Rattle.std.proofs.Common.{◌≡◌, ℕ, Bool, true, false, ◌&&◌, ◌||◌, nat_eq, nat_lt, List, [], ◌∷◌, Option, None, Some, is_some, not, if◌then◌else◌, refl, sym, ap, ◌∙◌, arith}
+use Rattle.std.proofs.Common.{◌≡◌, Bool, true, false, List, [], ◌∷◌, Option, None, Some, is_some, not, if◌then◌else◌, refl, sym, ap, ◌∙◌}
 use Rattle.std.proofs.Math.Bool.{not-not}
-use Rattle.std.proofs.lemmas.Grind.{common_steps}
-use Rattle.dsr_tree.specs.Faults.{kind_number, is_before}
+use Rattle.dsr_tree.specs.Faults.{is_before}
 use Rattle.dsr_tree.specs.declared.faults.Fault.{Fault}
 use Rattle.dsr_language_theory.specs.Faults.{when}
 use Rattle.dsr_language_theory.specs.Known.{is_nil}
 use Rattle.dsr_names.specs.Telling.{told_of, told_after, Finds}
-use Rattle.dsr_names.proofs.Least.{none_told}
-
--- by place, then by kind
-abbrev earlier : ℕ → ℕ → ℕ → ℕ → Bool
-earlier p k q l = nat_lt p q || (nat_eq p q && nat_lt k l)
-
-earlier_both : (p k q l r m : ℕ) → earlier q l p k ≡ true → earlier r m q l ≡ true → earlier r m p k ≡ true
-earlier_both p k q l r m e f = grind (arith, common_steps)
-
-earlier_never : (p k q l r m : ℕ) → earlier q l p k ≡ false → earlier r m q l ≡ false → earlier r m p k ≡ false
-earlier_never p k q l r m e f = grind (arith, common_steps)
-
--- where g is before f, and h before g, h is before f
-both : (f g h : Fault) → is_before g f ≡ true → is_before h g ≡ true → is_before h f ≡ true
-both f g h = earlier_both f.place (kind_number f.condition) g.place (kind_number g.condition) h.place (kind_number h.condition)
-
--- where g isn't before f, nor h before g, h isn't before f
-never : (f g h : Fault) → is_before g f ≡ false → is_before h g ≡ false → is_before h f ≡ false
-never f g h = earlier_never f.place (kind_number f.condition) g.place (kind_number g.condition) h.place (kind_number h.condition)
+use Rattle.dsr_names.proofs.Least.{both, never, none_told}
 
 -- the one that is told of a fault and of one that may be there
 abbrev told_with : Option Fault → Option Fault → Option Fault

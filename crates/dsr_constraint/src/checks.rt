@@ -6,7 +6,6 @@ ghost use Rattle.dsr_names.specs.Telling.{Finds};
 ghost use Rattle.dsr_meaning.specs.Typed.{constraint_limit};
 ghost use Rattle.dsr_names.specs.Tables.{known_of};
 ghost use Rattle.dsr_normal.specs.Telling.{refusal_told};
-ghost use Rattle.dsr_language_theory.specs.Names.{is_at};
 ghost use Rattle.dsr_tree.specs.Trees.{constraint_shape};
 ghost use Rattle.dsr_language_theory.specs.Constraints.{gives_numbers, binder_faults, symbol_faults, quantifier_faults, constraint_number, refusal_faults};
 ghost use Rattle.dsr_constraint.specs.Scoped.{Narrow, own_faults_of};
@@ -16,7 +15,7 @@ use crate::negations::check_negations;
 use crate::scopes::scope_of;
 use crate::widths::Constants;
 use dsr_ir::{Name, NoMemory};
-use dsr_names::{Known, Told, note_found, numbers_from};
+use dsr_names::{Known, Told, first_numbers, is_at, note_found};
 use dsr_normal::NormalFault;
 use dsr_tree::{Binder, Condition, Constraint, PlacedName, Quantifier};
 use indexmap::IndexMap;
@@ -38,20 +37,7 @@ pub fn constraint_numbers(
 ) -> Result<IndexMap<Name, u32>, NoMemory>
     ensures { IfOk result (λ m. get bytes_eq m ≡ constraint_number (map constraint_shape constraints.now)) }
 {
-    if constraints.len() > u32::MAX as usize {
-        return Err(NoMemory);
-    }
-    numbers_from(alloc, 0, constraints)
-}
-
-// Whether a number was found, and is this one.
-fn is_at(number: usize, found: Option<u32>) -> bool
-    ensures { result ≡ is_at number found }
-{
-    match found {
-        Some(found) => found as usize == number,
-        None => false,
-    }
+    first_numbers(alloc, constraints)
 }
 
 /// How many constraints there may be.

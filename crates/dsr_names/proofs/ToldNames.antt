@@ -11,11 +11,11 @@ use Rattle.dsr_meaning.specs.Typed.{AreTyped}
 use Rattle.dsr_language_theory.specs.Known.{has_field_name, known_in, record_field}
 use Rattle.dsr_language_theory.specs.Known.{own_field as own_field_of, first_field as first_field_of}
 use Rattle.dsr_names.specs.Tables.{told_by, own_field, first_field, line_of}
-use Rattle.dsr_names.specs.declared.tables.NameTables.{NameTables}
+use Rattle.dsr_names.specs.declared.tables.TableNames.{TableNames}
 use Rattle.dsr_names.proofs.Ancestors.{lines, line_at}
 
 -- each table as the contract of the function that makes it has it
-pub record AreRight (base : Structures) (tables : NameTables) : Type 0 where
+pub record AreRight (base : Structures) (tables : TableNames) : Type 0 where
   pub pools : (q : List ℕ) → get bytes_eq tables.pools q ≡ position_from (λ p. bytes_eq p.name q) 1 base.pools
   pub sets : (q : List ℕ) → get bytes_eq tables.sets q ≡ position_from (λ s. bytes_eq s.name q) 0 base.sets
   pub relations : (q : List ℕ) → get bytes_eq tables.relations q ≡ position_from (λ r. bytes_eq r.name q) 0 base.rels
@@ -27,7 +27,7 @@ and_then_part : {A B C : Type 0} (f : A → B) (h : B → Option C) (o : Option 
 and_then_part f h None = refl
 and_then_part f h (Some x) = refl
 
-module _ (base : Structures) (tables : NameTables) (right : AreRight base tables) where
+module _ (base : Structures) (tables : TableNames) (right : AreRight base tables) where
   -- the fields that a structure itself declares
   own_is : (q : List ℕ) (i : ℕ) → own_field tables q i ≡ own_field_of base q i
   own_is q i =

@@ -1,3 +1,4 @@
+pub mod FieldNames
 pub mod FaultsTold
 pub mod Telling
 pub mod Tables

@@ -9,7 +9,7 @@ use Rattle.dsr_meaning.specs.Typed.{ancestors}
 use Rattle.dsr_meaning.specs.Lists.{each_at}
 use Rattle.dsr_language_theory.specs.Known.{Known as KnownNames, is_gap}
 use Rattle.dsr_names.specs.declared.known.Known.{Known}
-use Rattle.dsr_names.specs.declared.tables.NameTables.{NameTables}
+use Rattle.dsr_names.specs.declared.tables.TableNames.{TableNames}
 
 -- whether an item has a name, and this one
 abbrev pub is_named : Option (List ℕ) → List ℕ → Bool
@@ -30,22 +30,22 @@ abbrev pub all_ancestors : Structures → List (List ℕ)
 all_ancestors base = each_at (λ i _. ancestors base.structures i ∷ []) 0 base.structures
 
 -- the field that a structure itself declares under a name
-abbrev pub own_field : NameTables → List ℕ → ℕ → Option FieldRef
+abbrev pub own_field : TableNames → List ℕ → ℕ → Option FieldRef
 own_field tables q i =
     option_and_then (λ t. option_map (λ k. record { structure = i; field = k }) (get bytes_eq t q))
     (slice_get tables.fields.items i)
 
 -- the first of several structures to declare a field of this name
-abbrev pub first_field : NameTables → List ℕ → List ℕ → Option FieldRef
+abbrev pub first_field : TableNames → List ℕ → List ℕ → Option FieldRef
 first_field tables q [] = None
 first_field tables q (i ∷ is) =
     if is_some (own_field tables q i) then own_field tables q i else first_field tables q is
 
-abbrev pub line_of : NameTables → ℕ → List ℕ
+abbrev pub line_of : TableNames → ℕ → List ℕ
 line_of tables i = slice_index_or (map (λ v. v.items) tables.ancestors.items) i []
 
 -- what the tables tell of names
-abbrev pub told_by : Structures → NameTables → KnownNames
+abbrev pub told_by : Structures → TableNames → KnownNames
 told_by base tables = record {
   base = base;
   pool = get bytes_eq tables.pools;

@@ -4,14 +4,14 @@ ghost use Rattle.dsr_meaning.specs.Instances.{declared_field};
 ghost use Rattle.dsr_language_theory.specs.Known.{pool_named, set_named, relation_named, plain_number, plain_set, plain_named, field_length};
 ghost use Rattle.dsr_names.specs.Tables.{own_field, first_field, line_of, known_of};
 
-use crate::tables::NameTables;
+use crate::tables::TableNames;
 use dsr_ir::{Expr, Field, FieldRef, Name, Pool, Rel, SetDecl, Structures};
 
 /// Declared tables, and what names stand for there.
 #[derive(Clone, Copy)]
 pub struct Known<'a> {
     pub base: &'a Structures,
-    pub tables: &'a NameTables,
+    pub tables: &'a TableNames,
 }
 
 impl<'a> Known<'a> {

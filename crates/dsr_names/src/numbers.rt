@@ -6,74 +6,10 @@ ghost use Rattle.indexmap.specs.IndexMap.{get};
 ghost use Rattle.dsr_language_theory.specs.Known.{is_this};
 ghost use Rattle.dsr_names.specs.Tables.{is_named, entered};
 
-use dsr_ir::{Field, Kind, Name, NoMemory, Pool, Rel, SetDecl, TryClone};
-use dsr_tree::Constraint;
+use crate::named::Named;
+use dsr_ir::{Name, NoMemory, TryClone};
 use indexmap::IndexMap;
 use std::alloc::Global;
-
-/// An item that may have a name.
-pub trait Named {
-    ghost use Rattle.std.specs.Prelude.{◌≡◌, Option, List, ℕ, option_map};
-
-    ghost own_name: { Self → Option (List ℕ) };
-
-    /// The name under which the item is entered.
-    fn own_name(&self) -> Option<&Name>
-        ensures { option_map (λ n. n.now) result ≡ own_name self.now };
-}
-
-impl Named for Field {
-    ghost use Rattle.dsr_names.specs.Tables.{field_name};
-
-    ghost own_name = { field_name };
-
-    fn own_name(&self) -> Option<&Name> {
-        match self.kind {
-            Kind::Gap => None,
-            _ => Some(&self.name),
-        }
-    }
-}
-
-impl Named for Pool {
-    ghost use Rattle.std.specs.Prelude.{Some};
-
-    ghost own_name = { λ p. Some p.name };
-
-    fn own_name(&self) -> Option<&Name> {
-        Some(&self.name)
-    }
-}
-
-impl Named for SetDecl {
-    ghost use Rattle.std.specs.Prelude.{Some};
-
-    ghost own_name = { λ s. Some s.name };
-
-    fn own_name(&self) -> Option<&Name> {
-        Some(&self.name)
-    }
-}
-
-impl Named for Rel {
-    ghost use Rattle.std.specs.Prelude.{Some};
-
-    ghost own_name = { λ r. Some r.name };
-
-    fn own_name(&self) -> Option<&Name> {
-        Some(&self.name)
-    }
-}
-
-impl Named for Constraint {
-    ghost use Rattle.std.specs.Prelude.{Some};
-
-    ghost own_name = { λ c. Some c.name.name };
-
-    fn own_name(&self) -> Option<&Name> {
-        Some(&self.name.name)
-    }
-}
 
 /// Whether a name is known, and is this one.
 pub fn is_this(known: Option<&Name>, name: &Name) -> bool
@@ -85,8 +21,8 @@ pub fn is_this(known: Option<&Name>, name: &Name) -> bool
     }
 }
 
-// Enters a name under a number, where it isn't entered yet.
-fn enter(
+/// Enters a name under a number, where it isn't entered yet.
+pub fn enter(
     alloc: Global,
     table: &mut IndexMap<Name, u32>,
     name: &Name,
@@ -121,4 +57,16 @@ pub fn numbers_from<T: Named>(
         }
     }
     Ok(table)
+}
+
+/// For each name the number of the first item that has it, counted from 0. 2^32 items or more find
+/// no memory.
+pub fn first_numbers<T: Named>(alloc: Global, items: &[T]) -> Result<IndexMap<Name, u32>, NoMemory>
+    ensures { IfOk result (λ m. (q : List ℕ) → get bytes_eq m q
+        ≡ position_from (λ x. is_named (T.own_name x) q) 0 items.now) }
+{
+    if items.len() > u32::MAX as usize {
+        return Err(NoMemory);
+    }
+    numbers_from(alloc, 0, items)
 }

@@ -15,7 +15,7 @@ use indexmap::IndexMap;
 use std::alloc::Global;
 
 /// What the names of declared tables stand for, by the numbers of their entries.
-pub struct NameTables {
+pub struct TableNames {
     /// The pools, counted from 1.
     pub pools: IndexMap<Name, u32>,
     pub sets: IndexMap<Name, u32>,
@@ -28,9 +28,9 @@ pub struct NameTables {
 
 // Dropped by a call of its own, so that each caller has one step for it, and not one for each
 // table.
-impl Drop for NameTables {
+impl Drop for TableNames {
     fn drop(self) {
-        let NameTables {
+        let TableNames {
             pools: _,
             sets: _,
             relations: _,
@@ -53,8 +53,12 @@ fn own_fields(alloc: Global, structures: &[Structure]) -> Result<Vec<IndexMap<Na
     Ok(tables)
 }
 
-// A structure's parent and the parent's ancestors.
-fn line_of(alloc: Global, earlier: &[Vec<u32>], parent: Option<u32>) -> Result<Vec<u32>, NoMemory>
+/// A structure's parent and the parent's ancestors, by the lines of the structures before it.
+pub fn line_of(
+    alloc: Global,
+    earlier: &[Vec<u32>],
+    parent: Option<u32>,
+) -> Result<Vec<u32>, NoMemory>
     ensures { IfOk result (λ line. line.items
         ≡ option_map_or (λ p. p ∷ slice_index_or (map (λ v. v.items) earlier.now) p []) parent []) }
 {
@@ -151,13 +155,13 @@ fn number_tables(alloc: Global, base: &Structures) -> Result<NumberTables, NoMem
 }
 
 /// What the names of declared tables stand for.
-pub fn name_tables(alloc: Global, base: &Structures) -> Result<NameTables, NoMemory>
+pub fn name_tables(alloc: Global, base: &Structures) -> Result<TableNames, NoMemory>
     requires typed { AreTyped base.now }
     ensures { IfOk result (λ tables. told_by base.now tables ≡ known_in base.now) }
 {
     let rows = structure_rows(alloc, base.structures.items())?;
     let numbers = number_tables(alloc, base)?;
-    Ok(NameTables {
+    Ok(TableNames {
         pools: numbers.pools,
         sets: numbers.symbols.sets,
         relations: numbers.symbols.relations,

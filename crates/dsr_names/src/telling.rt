@@ -26,7 +26,7 @@ impl Told {
     }
 
     /// Takes note of a name that stands for nothing.
-    pub fn note_unknown(&mut self, number: Option<usize>, name: &PlacedName)
+    pub fn note_unknown(&mut self, number: Option<u32>, name: &PlacedName)
         ensures { Finds (when (is_none number) conditions.UnknownName name.now.place) self.old.fault
             self.new.fault }
     {

@@ -1,47 +1,20 @@
 -- The ancestors of structures, where one more structure is declared behind them.
-use Rattle.std.proofs.Common.{◌≡◌, ◌<◌, ◌+◌, ℕ, zero, suc, true, false, nat_eq, nat_lt, List, [], ◌∷◌, ◌++◌, map, take, length, reverse, get_or, Option, None, Some, if◌then◌else◌, refl, sym, ap, ◌∙◌, add-one, arith}
+use Rattle.std.proofs.Common.{◌≡◌, ◌<◌, ◌+◌, ℕ, true, false, nat_eq, nat_lt, List, [], ◌∷◌, ◌++◌, map, take, length, reverse, get_or, Option, None, Some, if◌then◌else◌, refl, sym, ap, ◌∙◌, add-one, zero-add, arith}
 use Rattle.std.proofs.Math.Seq.{take-suc}
 use Rattle.std.proofs.lemmas.Bool.{cond-true, cond-false}
 use Rattle.std.proofs.lemmas.Grind.{common_steps}
 use Rattle.std.proofs.lemmas.List.{length-reverse, map-append, reverse-append}
+use Rattle.std.specs.Option.{option_map_or}
 use Rattle.dsr_tree.specs.Trees.{StructureTree, structure_shape}
 use Rattle.dsr_tree.specs.declared.tree.PlacedName.{PlacedName}
 use Rattle.dsr_tree.specs.declared.tree.Structure.{Structure}
-use Rattle.dsr_meaning.specs.Lists.{each_at}
 use Rattle.dsr_language_theory.specs.Names.{all_ancestors, ancestors_in, before, is_head, parent_number, with_ancestors}
+use Rattle.dsr_names.proofs.ByNumber.{by_number, by_number-get, by_number-length, by_number-push, by_number-same}
 
--- what the number of each item gives, counted from n
-abbrev by_number : {S Y : Type 0} → (ℕ → Y) → ℕ → List S → List Y
-by_number g n xs = each_at (λ i _. g i ∷ []) n xs
-
-module _ {S Y : Type 0} (g : ℕ → Y) where
-  by_number-push : (n : ℕ) (xs : List S) (x : S) → by_number g n (xs ++ x ∷ []) ≡ by_number g n xs ++ g (n + length xs) ∷ []
-  by_number-push n [] x =
-      let at : n ≡ n + 0 = omega arith in
-      ap (λ k. g k ∷ []) at
-  by_number-push n (y ∷ ys) x =
-      let at : suc n + length ys ≡ n + length (y ∷ ys) = omega arith in
-      ap (λ zs. g n ∷ zs) (by_number-push (suc n) ys x ∙ ap (λ k. by_number g (suc n) ys ++ g k ∷ []) at)
-
-  by_number-length : (n : ℕ) (xs : List S) → length (by_number g n xs) ≡ length xs
-  by_number-length n [] = refl
-  by_number-length n (x ∷ xs) = ap suc (by_number-length (suc n) xs)
-
-  pub by_number-get : (n : ℕ) (xs : List S) (i : ℕ) (d : Y) → i < length xs → get_or (by_number g n xs) i d ≡ g (n + i)
-  by_number-get n [] i d lt = absurd (omega arith)
-  by_number-get n (x ∷ xs) zero d lt =
-      let at : n ≡ n + 0 = omega arith in
-      ap g at
-  by_number-get n (x ∷ xs) (suc i) d lt =
-      let at : suc n + i ≡ n + suc i = omega arith in
-      by_number-get (suc n) xs i d (omega arith) ∙ ap g at
-
-  by_number-same : (h : ℕ → Y) (n : ℕ) (xs : List S) → ((i : ℕ) → i < n + length xs → g i ≡ h i) → by_number g n xs ≡ by_number h n xs
-  by_number-same h n [] same = refl
-  by_number-same h n (x ∷ xs) same =
-      let rest = by_number-same h (suc n) xs (λ i lt. same i (omega arith)) in
-      let first = same n (omega arith) in
-      λ j. first j ∷ rest j
+-- a parent with its ancestors, where there is one
+pub line_is : (f : ℕ → List ℕ) (parent : Option ℕ) → option_map_or (λ p. p ∷ f p) parent [] ≡ with_ancestors f parent
+line_is f None = refl
+line_is f (Some p) = refl
 
 -- a parent stands before its structure, so only the ancestors of earlier structures are asked
 module _ (f g : ℕ → List ℕ) (n : ℕ) (same : (p : ℕ) → p < n → f p ≡ g p) where
@@ -76,14 +49,13 @@ module _ (number : List ℕ → Option ℕ) where
   ancestors_push : (ss : List StructureTree) (s : StructureTree) → all_ancestors number (ss ++ s ∷ []) ≡ all_ancestors number ss ++ with_ancestors (λ p. get_or (all_ancestors number ss) p []) (parent_number number (length ss) s.parent) ∷ []
   ancestors_push ss s =
       let many = length-reverse ss in
-      let from_zero : (n : ℕ) → 0 + n ≡ n = λ n. omega arith in
       let was = ancestors_in number (reverse ss) in
       let now = ancestors_in number (s ∷ reverse ss) in
       let earlier : by_number now 0 ss ≡ by_number was 0 ss = by_number-same now was 0 ss (λ i lt. in_earlier s (reverse ss) i (rw many (omega arith))) in
       let last : now (0 + length ss) ≡ with_ancestors (λ p. get_or (all_ancestors number ss) p []) (parent_number number (length ss) s.parent) =
-      ap now (from_zero (length ss))
+      ap now (zero-add (length ss))
       ∙ of_last s (reverse ss) (length ss) (sym many)
-      ∙ parent_same was (λ p. get_or (all_ancestors number ss) p []) (length ss) (λ p lt. sym (by_number-get was 0 ss p [] lt ∙ ap was (from_zero p))) number s.parent in
+      ∙ parent_same was (λ p. get_or (all_ancestors number ss) p []) (length ss) (λ p lt. sym (by_number-get was 0 ss p [] lt ∙ ap was (zero-add p))) number s.parent in
       ap (λ rs. by_number (ancestors_in number rs) 0 (ss ++ s ∷ [])) (reverse-append ss (s ∷ []))
       ∙ by_number-push now 0 ss s
       ∙ (λ j. earlier j ++ last j ∷ [])

@@ -1,5 +1,5 @@
 -- What follows where no declaration has a fault: few items, so that their numbers fit, and legal widths.
-use Rattle.std.proofs.Common.{◌≡◌, ◌<◌, ◌≤◌, ◌+◌, ◌-◌, ◌^◌, ℕ, Bool, true, false, not, ◌||◌, nat_eq, List, [], ◌∷◌, ◌++◌, length, min, codes, Option, None, Some, IfSome, is_some, All, cond, slice_get, option_and_then, refl, sym, subst, arith}
+use Rattle.std.proofs.Common.{◌≡◌, ◌<◌, ◌≤◌, ◌+◌, ◌-◌, ◌^◌, ℕ, Bool, not, ◌||◌, nat_eq, List, [], ◌++◌, length, min, codes, Option, None, Some, IfSome, is_some, All, slice_get, option_and_then, refl, sym, subst, arith}
 use Rattle.std.specs.List.{position_from}
 use Rattle.std.specs.Str.{bytes_eq}
 use Rattle.std.proofs.lemmas.Bool.{eq-eqb}
@@ -16,16 +16,8 @@ use Rattle.dsr_language_theory.specs.Names.{Names, names_of, is_at, structure_nu
 use Rattle.dsr_struct.specs.Known.{AllFit, HasLegalWidth, HasLegalWidths}
 use Rattle.dsr_meaning.proofs.Empty.{both_empty, second_empty, no_second, each_has, few}
 use Rattle.dsr_language_theory.proofs.Absent.{when_absent}
+use Rattle.dsr_names.proofs.Numbering.{position_below}
 use Rattle.dsr_struct.proofs.Parts.{sound_field, sound_structure}
-
--- the number of an item that is found is one of the list's
-position_below : {T : Type 0} (test : T → Bool) (i : ℕ) (xs : List T) → IfSome (position_from test i xs) (λ k. k < i + length xs)
-position_below test i [] = tt
-position_below test i (x ∷ xs) =
-    elim (test x) as (λ b. IfSome (cond b (Some i) (position_from test (i + 1) xs)) (λ k. k < i + length (x ∷ xs))) [
-      | true ↦ omega arith
-      | false ↦ IfSome_then (position_from test (i + 1) xs) (position_below test (i + 1) xs) (λ k lt. omega (arith, lt))
-    ]
 
 -- the numbers of 64 items at most fit
 position_fits : {T : Type 0} (test : T → Bool) (xs : List T) → length xs ≤ 64 → IfSome (position_from test 0 xs) (λ k. k < 2 ^ 32 - 1)

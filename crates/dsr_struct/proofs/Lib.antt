@@ -1,5 +1,4 @@
 pub mod Ancestors
-pub mod Counted
 pub mod ExprSteps
 pub mod Extents
 pub mod Faultless
@@ -21,4 +20,3 @@ pub mod Tables
 pub mod TypedFields
 pub mod TypedSets
 pub mod TypedTables
-pub mod Wide

@@ -15,7 +15,8 @@ use Rattle.dsr_language_theory.specs.Declarations.{is_not_before, parent_faults,
 use Rattle.dsr_language_theory.specs.Names.{Names, names_of, is_head, used_structure, before, parent_number, with_ancestors, ancestors_in, all_ancestors, ancestors_of, asked_structures}
 use Rattle.dsr_language_theory.specs.Tables.{number_in, typed_structure, tables}
 use Rattle.dsr_language_theory.proofs.Absent.{when_absent}
-use Rattle.dsr_struct.proofs.Ancestors.{by_number-get}
+use Rattle.dsr_names.proofs.ByNumber.{by_number-get}
+use Rattle.dsr_struct.proofs.Ancestors.{line_is}
 use Rattle.dsr_struct.proofs.Faultless.{AllEmpty}
 use Rattle.dsr_struct.proofs.Parts.{known_name, sound_structure}
 
@@ -67,13 +68,9 @@ module _ (names : Names) where
       ap (λ n. if nat_eq i n then option_map_or (λ p. p ∷ line p) parent [] else line i) (length-map earlier (typed_structure names))
       ∙ ap (λ l. if nat_eq i (length earlier) then option_map_or (λ p. p ∷ l p) parent [] else l i) all
       ∙ (elim (nat_eq i (length earlier)) as (λ b. nat_eq i (length earlier) ≡ b → (if b then option_map_or (λ p. p ∷ line_of p) parent [] else line_of i) ≡ (if b then with_ancestors line_of (parent_number names.structure i s.parent) else line_of i)) [
-        | true ↦ λ is. as_list line_of parent ∙ ap (with_ancestors line_of) (sym have.0 ∙ ap (λ n. parent_number names.structure n s.parent) (sym (eqb-true i (length earlier) is)))
+        | true ↦ λ is. line_is line_of parent ∙ ap (with_ancestors line_of) (sym have.0 ∙ ap (λ n. parent_number names.structure n s.parent) (sym (eqb-true i (length earlier) is)))
         | false ↦ λ _. refl
       ] refl)
-    where
-      as_list : (f : ℕ → List ℕ) (o : Option ℕ) → option_map_or (λ p. p ∷ f p) o [] ≡ with_ancestors f o
-      as_list f None = refl
-      as_list f (Some p) = refl
 
 map_reverse : {S T : Type 0} (g : S → T) (xs : List S) → map g (reverse xs) ≡ reverse (map g xs)
 map_reverse g [] = refl

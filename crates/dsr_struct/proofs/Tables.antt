@@ -7,8 +7,8 @@ use Rattle.std.specs.Str.{bytes_eq}
 use Rattle.dsr_tree.specs.Trees.{pool_shape, structure_shape, tree_shape}
 use Rattle.dsr_tree.specs.declared.tree.Tree.{Tree}
 use Rattle.dsr_language_theory.specs.Names.{Names, all_ancestors, field_number, fixed_in, names_of}
-use Rattle.dsr_struct.specs.Known.{is_named}
-use Rattle.dsr_struct.proofs.Numbering.{position_map}
+use Rattle.dsr_names.specs.Tables.{is_named}
+use Rattle.dsr_names.proofs.Numbering.{position_map}
 
 -- each table as the contract of the function that makes it has it
 pub record AreRight (tree : Tree) (told : Names) : Type 0 where

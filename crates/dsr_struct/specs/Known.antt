@@ -1,5 +1,5 @@
 -- What the tables of names tell, as definitions and contracts see it.
-use Rattle.std.specs.Prelude.{◌≡◌, ◌<◌, ◌-◌, ◌^◌, ℕ, Bool, false, List, [], Option, None, Some, IfSome, All, is_some, map, take, codes, if◌then◌else◌}
+use Rattle.std.specs.Prelude.{◌≡◌, ◌<◌, ◌-◌, ◌^◌, ℕ, List, [], Option, Some, IfSome, All, map, take, codes}
 use Rattle.std.specs.List.{position_from}
 use Rattle.std.specs.Str.{bytes_eq}
 use Rattle.indexmap.specs.IndexMap.{get}
@@ -7,24 +7,15 @@ use Rattle.dsr_tree.specs.Trees.{FieldTree, named, skipped, StructureTree, struc
 use Rattle.dsr_tree.specs.declared.tree.Tree.{Tree}
 use Rattle.dsr_language_theory.specs.Declarations.{FieldPosition, width_faults}
 use Rattle.dsr_language_theory.specs.Names.{Names, all_ancestors, field_number, fixed_in}
-use Rattle.dsr_struct.specs.declared.names.NameTables.{NameTables}
+use Rattle.dsr_names.specs.Tables.{is_named}
+use Rattle.dsr_struct.specs.declared.names.TreeNames.{TreeNames}
 use Rattle.dsr_struct.specs.declared.names.StructureTables.{StructureTables}
 use Rattle.dsr_struct.specs.declared.names.SymbolTables.{SymbolTables}
 use Rattle.dsr_struct.specs.declared.lookups.Names.{Names as NamesOfTree}
 use Rattle.dsr_struct.specs.declared.field_checks.Position.{Position}
 
--- whether an item has a name, and this one
-abbrev pub is_named : Option (List ℕ) → List ℕ → Bool
-is_named None q = false
-is_named (Some n) q = bytes_eq n q
-
--- what is known of a name after one more was entered under a number; the first entry counts
-abbrev pub entered : (List ℕ → Option ℕ) → List ℕ → ℕ → List ℕ → Option ℕ
-entered known name number q =
-    if is_some (known q) then known q else (if bytes_eq name q then Some number else None)
-
 -- what the tables tell of the names of a tree
-abbrev pub told_by : Tree → NameTables → Names
+abbrev pub told_by : Tree → TreeNames → Names
 told_by tree tables = record {
   tree = tree_shape tree;
   structure = get bytes_eq tables.structures.numbers.structures;

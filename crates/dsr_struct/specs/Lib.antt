@@ -1,2 +1,1 @@
-pub mod FieldNames
 pub mod Known

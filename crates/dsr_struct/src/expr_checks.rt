@@ -13,7 +13,7 @@ use indexmap::IndexMap;
 
 /// The names of an expression that are no fixed fields.
 #[cycle(expression)]
-pub fn check_expr(told: &mut Told, fixed: &IndexMap<Name, usize>, expr: &Expr)
+pub fn check_expr(told: &mut Told, fixed: &IndexMap<Name, u32>, expr: &Expr)
     ensures { Finds (expr_faults (get bytes_eq fixed.now) (expr_shape expr.now)) told.old.fault told.new.fault }
 {
     check_term(told, fixed, &expr.first);
@@ -21,7 +21,7 @@ pub fn check_expr(told: &mut Told, fixed: &IndexMap<Name, usize>, expr: &Expr)
 }
 
 #[cycle(expression)]
-fn check_more_terms(told: &mut Told, fixed: &IndexMap<Name, usize>, terms: &[MoreTerm])
+fn check_more_terms(told: &mut Told, fixed: &IndexMap<Name, u32>, terms: &[MoreTerm])
     ensures { Finds (more_terms_faults (get bytes_eq fixed.now)
         (in_terms (map more_term_shape terms.now))) told.old.fault told.new.fault }
 {
@@ -31,7 +31,7 @@ fn check_more_terms(told: &mut Told, fixed: &IndexMap<Name, usize>, terms: &[Mor
 }
 
 #[cycle(expression)]
-fn check_term(told: &mut Told, fixed: &IndexMap<Name, usize>, term: &Term2)
+fn check_term(told: &mut Told, fixed: &IndexMap<Name, u32>, term: &Term2)
     ensures { Finds (term_faults (get bytes_eq fixed.now) (term_shape term.now)) told.old.fault told.new.fault }
 {
     check_factor(told, fixed, &term.first);
@@ -39,7 +39,7 @@ fn check_term(told: &mut Told, fixed: &IndexMap<Name, usize>, term: &Term2)
 }
 
 #[cycle(expression)]
-fn check_more_factors(told: &mut Told, fixed: &IndexMap<Name, usize>, factors: &[MoreFactor])
+fn check_more_factors(told: &mut Told, fixed: &IndexMap<Name, u32>, factors: &[MoreFactor])
     ensures { Finds (more_factors_faults (get bytes_eq fixed.now)
         (in_factors (map more_factor_shape factors.now))) told.old.fault told.new.fault }
 {
@@ -49,7 +49,7 @@ fn check_more_factors(told: &mut Told, fixed: &IndexMap<Name, usize>, factors: &
 }
 
 #[cycle(expression)]
-fn check_factor(told: &mut Told, fixed: &IndexMap<Name, usize>, factor: &Factor)
+fn check_factor(told: &mut Told, fixed: &IndexMap<Name, u32>, factor: &Factor)
     ensures { Finds (factor_faults (get bytes_eq fixed.now) (factor_shape factor.now))
         told.old.fault told.new.fault }
 {
@@ -61,7 +61,7 @@ fn check_factor(told: &mut Told, fixed: &IndexMap<Name, usize>, factor: &Factor)
 }
 
 /// The names of an expression that may be left out.
-pub fn check_maybe_expr(told: &mut Told, fixed: &IndexMap<Name, usize>, expr: &Option<Expr>)
+pub fn check_maybe_expr(told: &mut Told, fixed: &IndexMap<Name, u32>, expr: &Option<Expr>)
     ensures { Finds (maybe_expr_faults (get bytes_eq fixed.now) (option_map expr_shape expr.now))
         told.old.fault told.new.fault }
 {

@@ -1,5 +1,5 @@
 // The faults of fields.
-ghost use Rattle.std.specs.Prelude.{◌≡◌, ◌<◌, ◌%◌, ◌^◌, ◌&&◌, ◌||◌, not, nat_eq, nat_le, is_some, map, slice_get};
+ghost use Rattle.std.specs.Prelude.{◌≡◌, ◌<◌, ◌%◌, ◌&&◌, ◌||◌, not, nat_eq, is_some, map, slice_get};
 ghost use Rattle.dsr_tree.specs.Trees.{field_shape, named_shape, structure_shape};
 ghost use Rattle.dsr_language_theory.specs.Declarations.{entry_bits, is_bytewise, width_faults, content_faults, extent_of, is_open, has_open, is_open_structure, inherits_open, is_declared_above, is_misplaced, named_field_faults, field_faults, position_of};
 ghost use Rattle.dsr_meaning.specs.Extents.{bit_behind};
@@ -8,10 +8,10 @@ ghost use Rattle.dsr_struct.specs.Known.{known_of, place_of};
 ghost use Rattle.dsr_names.specs.Telling.{Finds};
 
 use crate::expr_checks::{check_expr, check_maybe_expr, has_open_length, is_number};
-use crate::lookups::{Names, is_at};
+use crate::lookups::Names;
 use crate::names::is_head;
 use dsr_ir::Name;
-use dsr_names::Told;
+use dsr_names::{Told, is_at, is_too_wide};
 use dsr_tree::{Condition, Content, Field, NamedField, Structure, Width};
 
 /// Where a field stands.
@@ -57,13 +57,6 @@ fn check_width(told: &mut Told, width: Width)
         let is_legal = 1 <= number.number && number.number <= 32;
         told.note_if(!is_legal, Condition::Width, number.place);
     }
-}
-
-// Whether a number needs more than so many bits.
-fn is_too_wide(number: u64, bits: u64) -> bool
-    ensures { result ≡ nat_le (2 ^ bits) number }
-{
-    bits < 64 && number >> bits != 0
 }
 
 // The bit inside a byte at which the next field begins, behind one that begins at such a bit.
@@ -128,7 +121,7 @@ impl Names<'_> {
         ensures { result ≡ inherits_open (known_of self.now) structure }
     {
         for ancestor in self.ancestors(structure) {
-            if self.is_open_structure(*ancestor) {
+            if self.is_open_structure(*ancestor as usize) {
                 return true;
             }
         }

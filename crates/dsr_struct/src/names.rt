@@ -1,14 +1,16 @@
 // Tables of names, from each name to the number of the first item that declares it.
-ghost use Rattle.std.specs.Prelude.{◌≡◌, ◌<◌, ℕ, List, [], Some, map, take, length, vec_len, slice_index_or, codes, IfOk, OnOk};
+ghost use Rattle.std.specs.Prelude.{◌≡◌, ◌<◌, ◌^◌, ℕ, List, [], Some, map, take, length, vec_len, codes, IfOk, OnOk};
 ghost use Rattle.std.specs.List.{position_from};
 ghost use Rattle.std.specs.Str.{bytes_eq};
 ghost use Rattle.indexmap.specs.IndexMap.{get};
 ghost use Rattle.dsr_tree.specs.Trees.{field_shape, structure_shape, tree_shape};
-ghost use Rattle.dsr_language_theory.specs.Names.{has_name, has_fixed_name, field_number, fixed_in, before, is_head, with_ancestors, all_ancestors, parent_number, names_of};
-ghost use Rattle.dsr_struct.specs.Known.{is_named, entered, told_by, HaveStructures, HaveSymbols};
+ghost use Rattle.dsr_language_theory.specs.Names.{has_name, has_fixed_name, field_number, fixed_in, before, is_head, all_ancestors, parent_number, names_of};
+ghost use Rattle.dsr_names.specs.Tables.{is_named};
+ghost use Rattle.dsr_struct.specs.Known.{told_by, HaveStructures, HaveSymbols};
 
-use dsr_ir::{Name, NoMemory, TryClone};
-use dsr_tree::{Field, Fresh, PlacedName, Pool, Relation, Set, Structure, Tree};
+use dsr_ir::{Name, NoMemory};
+use dsr_names::{enter, first_numbers, line_of};
+use dsr_tree::{Field, PlacedName, Structure, Tree};
 use indexmap::IndexMap;
 use std::alloc::Global;
 
@@ -16,14 +18,14 @@ use std::alloc::Global;
 // and those that stay alive at a `?` are dropped by a call of their own.
 
 /// What the names of a tree stand for, by the numbers of the items that declare them.
-pub struct NameTables {
+pub struct TreeNames {
     pub structures: StructureTables,
     pub symbols: SymbolTables,
 }
 
-impl Drop for NameTables {
+impl Drop for TreeNames {
     fn drop(self) {
-        let NameTables {
+        let TreeNames {
             structures: _,
             symbols: _,
         } = self;
@@ -47,8 +49,8 @@ impl Drop for StructureTables {
 
 /// The structures by their names, and the fixed fields of `Head`.
 pub struct StructureNumbers {
-    pub structures: IndexMap<Name, usize>,
-    pub fixed: IndexMap<Name, usize>,
+    pub structures: IndexMap<Name, u32>,
+    pub fixed: IndexMap<Name, u32>,
 }
 
 impl Drop for StructureNumbers {
@@ -64,9 +66,9 @@ impl Drop for StructureNumbers {
 #[derive(Drop)]
 pub struct StructureRows {
     /// The fields that it declares itself.
-    pub fields: Vec<IndexMap<Name, usize>>,
+    pub fields: Vec<IndexMap<Name, u32>>,
     /// Up to the first one over the limit its ancestors, the nearest first.
-    pub ancestors: Vec<Vec<usize>>,
+    pub ancestors: Vec<Vec<u32>>,
 }
 
 /// What the names of pools, sets and relations stand for.
@@ -78,9 +80,9 @@ pub struct SymbolTables {
 
 /// The pools by their names.
 pub struct PoolTables {
-    pub pools: IndexMap<Name, usize>,
+    pub pools: IndexMap<Name, u32>,
     /// The first supply of each pool.
-    pub supplies: IndexMap<Name, usize>,
+    pub supplies: IndexMap<Name, u32>,
 }
 
 impl Drop for PoolTables {
@@ -95,83 +97,8 @@ impl Drop for PoolTables {
 /// The sets and the relations by their names.
 #[derive(Drop)]
 pub struct SetTables {
-    pub sets: IndexMap<Name, usize>,
-    pub relations: IndexMap<Name, usize>,
-}
-
-/// An item that may have a name.
-trait Named {
-    ghost use Rattle.std.specs.Prelude.{◌≡◌, Option, List, ℕ, option_map};
-
-    ghost own_name: { Self → Option (List ℕ) };
-
-    /// The name under which the item is entered.
-    fn own_name(&self) -> Option<&Name>
-        ensures { option_map (λ n. n.now) result ≡ own_name self.now };
-}
-
-impl Named for Structure {
-    ghost use Rattle.std.specs.Prelude.{Some};
-
-    ghost own_name = { λ s. Some s.name.name };
-
-    fn own_name(&self) -> Option<&Name> {
-        Some(&self.name.name)
-    }
-}
-
-impl Named for Field {
-    ghost use Rattle.dsr_struct.specs.FieldNames.{field_name};
-
-    ghost own_name = { field_name };
-
-    fn own_name(&self) -> Option<&Name> {
-        match self {
-            Field::Named(field) => Some(&field.name.name),
-            Field::Skip { .. } => None,
-        }
-    }
-}
-
-impl Named for Pool {
-    ghost use Rattle.std.specs.Prelude.{Some};
-
-    ghost own_name = { λ p. Some p.name.name };
-
-    fn own_name(&self) -> Option<&Name> {
-        Some(&self.name.name)
-    }
-}
-
-impl Named for Set {
-    ghost use Rattle.std.specs.Prelude.{Some};
-
-    ghost own_name = { λ s. Some s.name.name };
-
-    fn own_name(&self) -> Option<&Name> {
-        Some(&self.name.name)
-    }
-}
-
-impl Named for Relation {
-    ghost use Rattle.std.specs.Prelude.{Some};
-
-    ghost own_name = { λ r. Some r.name.name };
-
-    fn own_name(&self) -> Option<&Name> {
-        Some(&self.name.name)
-    }
-}
-
-// A supply is entered under its pool's name.
-impl Named for Fresh {
-    ghost use Rattle.std.specs.Prelude.{Some};
-
-    ghost own_name = { λ f. Some f.pool.name };
-
-    fn own_name(&self) -> Option<&Name> {
-        Some(&self.pool.name)
-    }
+    pub sets: IndexMap<Name, u32>,
+    pub relations: IndexMap<Name, u32>,
 }
 
 /// Whether a name is the one of the structure of the record at byte 0.
@@ -188,39 +115,9 @@ pub fn head_name(alloc: Global) -> Result<Name, NoMemory>
     Ok(Name::new(Vec::from_slice(alloc, b"Head")?))
 }
 
-// Enters a name under a number, where it isn't entered yet.
-fn enter(
-    alloc: Global,
-    table: &mut IndexMap<Name, usize>,
-    name: &Name,
-    number: usize,
-) -> Result<(), NoMemory>
-    ensures { OnOk result ((q : List ℕ) → get bytes_eq table.new q
-        ≡ entered (get bytes_eq table.old) name.now number q) }
-{
-    if table.get(name).is_none() {
-        let key = name.clone(alloc)?;
-        table.insert(key, number)?;
-    }
-    Ok(())
-}
-
-// For each name the number of the first item that has it.
-fn numbers_of<T: Named>(alloc: Global, items: &[T]) -> Result<IndexMap<Name, usize>, NoMemory>
-    ensures { IfOk result (λ m. (q : List ℕ) → get bytes_eq m q
-        ≡ position_from (λ x. is_named (T.own_name x) q) 0 items.now) }
-{
-    let mut table = IndexMap::new(alloc);
-    for (number, item) in items.iter().enumerate() {
-        if let Some(name) = item.own_name() {
-            enter(alloc, &mut table, name, number)?;
-        }
-    }
-    Ok(table)
-}
-
-// For each name the number of the first fixed field that has it.
-fn fixed_fields(alloc: Global, fields: &[Field]) -> Result<IndexMap<Name, usize>, NoMemory>
+// For each name the number of the first fixed field that has it, of fields whose numbers fit.
+fn fixed_numbers(alloc: Global, fields: &[Field]) -> Result<IndexMap<Name, u32>, NoMemory>
+    requires { length fields.now < 2 ^ 32 }
     ensures { IfOk result (λ m. (q : List ℕ) → get bytes_eq m q
         ≡ position_from (has_fixed_name q) 0 (map field_shape fields.now)) }
 {
@@ -228,23 +125,34 @@ fn fixed_fields(alloc: Global, fields: &[Field]) -> Result<IndexMap<Name, usize>
     for (number, field) in fields.iter().enumerate() {
         if let Field::Named(field) = field {
             if field.fixed.is_some() {
-                enter(alloc, &mut table, &field.name.name, number)?;
+                enter(alloc, &mut table, &field.name.name, number as u32)?;
             }
         }
     }
     Ok(table)
 }
 
+// For each name the number of the first fixed field that has it.
+fn fixed_fields(alloc: Global, fields: &[Field]) -> Result<IndexMap<Name, u32>, NoMemory>
+    ensures { IfOk result (λ m. (q : List ℕ) → get bytes_eq m q
+        ≡ position_from (has_fixed_name q) 0 (map field_shape fields.now)) }
+{
+    if fields.len() > u32::MAX as usize {
+        return Err(NoMemory);
+    }
+    fixed_numbers(alloc, fields)
+}
+
 // The fixed fields of the structure of a number, where there is one.
 fn fixed_of(
     alloc: Global,
     tree: &Tree,
-    structure: Option<usize>,
-) -> Result<IndexMap<Name, usize>, NoMemory>
+    structure: Option<u32>,
+) -> Result<IndexMap<Name, u32>, NoMemory>
     ensures { IfOk result (λ m. (q : List ℕ) → get bytes_eq m q ≡ fixed_in (tree_shape tree.now) structure q) }
 {
     if let Some(number) = structure {
-        if let Some(structure) = tree.structures.items().get(number) {
+        if let Some(structure) = tree.structures.items().get(number as usize) {
             return fixed_fields(alloc, structure.fields.items());
         }
     }
@@ -255,8 +163,8 @@ fn fixed_of(
 fn fixed_of_head(
     alloc: Global,
     tree: &Tree,
-    structures: &IndexMap<Name, usize>,
-) -> Result<IndexMap<Name, usize>, NoMemory>
+    structures: &IndexMap<Name, u32>,
+) -> Result<IndexMap<Name, u32>, NoMemory>
     ensures { IfOk result (λ m. (q : List ℕ) → get bytes_eq m q
         ≡ fixed_in (tree_shape tree.now) (get bytes_eq structures.now (codes "Head")) q) }
 {
@@ -265,37 +173,34 @@ fn fixed_of_head(
 }
 
 // For each structure the fields that it declares itself.
-fn own_fields(
-    alloc: Global,
-    structures: &[Structure],
-) -> Result<Vec<IndexMap<Name, usize>>, NoMemory>
+fn own_fields(alloc: Global, structures: &[Structure]) -> Result<Vec<IndexMap<Name, u32>>, NoMemory>
     ensures { IfOk result (λ tables. map (get bytes_eq) tables.items
         ≡ map (λ s. field_number (structure_shape s)) structures.now) }
 {
     let mut tables = Vec::new(alloc);
     for structure in structures {
-        let numbers = numbers_of(alloc, structure.fields.items())?;
+        let numbers = first_numbers(alloc, structure.fields.items())?;
         tables.push(numbers)?;
     }
     Ok(tables)
 }
 
 // A number that is less than another one.
-fn before(number: usize, found: Option<usize>) -> Option<usize>
+fn before(number: usize, found: Option<u32>) -> Option<u32>
     ensures { result ≡ before number found }
 {
     match found {
-        Some(found) if found < number => Some(found),
+        Some(found) if (found as usize) < number => Some(found),
         _ => None,
     }
 }
 
 // The parent of a structure of this number, where it is one.
 fn parent_of(
-    structures: &IndexMap<Name, usize>,
+    structures: &IndexMap<Name, u32>,
     number: usize,
     parent: &Option<PlacedName>,
-) -> Option<usize>
+) -> Option<u32>
     ensures { result ≡ parent_number (get bytes_eq structures.now) number parent.now }
 {
     match parent {
@@ -307,31 +212,12 @@ fn parent_of(
     }
 }
 
-// A structure's parent and the parent's ancestors.
-fn line_of(
-    alloc: Global,
-    earlier: &[Vec<usize>],
-    parent: Option<usize>,
-) -> Result<Vec<usize>, NoMemory>
-    ensures { IfOk result (λ line. line.items
-        ≡ with_ancestors (λ p. slice_index_or (map (λ v. v.items) earlier.now) p []) parent) }
-{
-    let mut line = Vec::new(alloc);
-    if let Some(parent) = parent {
-        line.push(parent)?;
-        if let Some(above) = earlier.get(parent) {
-            line.extend_from_slice(above)?;
-        }
-    }
-    Ok(line)
-}
-
 // The ancestors of each structure.
 fn ancestors_of(
     alloc: Global,
-    numbers: &IndexMap<Name, usize>,
+    numbers: &IndexMap<Name, u32>,
     structures: &[Structure],
-) -> Result<Vec<Vec<usize>>, NoMemory>
+) -> Result<Vec<Vec<u32>>, NoMemory>
     ensures { IfOk result (λ lines. map (λ v. v.items) lines.items
         ≡ all_ancestors (get bytes_eq numbers.now) (map structure_shape structures.now)) }
 {
@@ -350,8 +236,8 @@ fn pool_tables(alloc: Global, tree: &Tree) -> Result<PoolTables, NoMemory>
     ensures supplies { IfOk result (λ t. (q : List ℕ) → get bytes_eq t.supplies q
         ≡ position_from (λ f. is_named (Some f.pool.name) q) 0 tree.now.supplies) }
 {
-    let pools = numbers_of(alloc, tree.pools.items())?;
-    let supplies = numbers_of(alloc, tree.supplies.items())?;
+    let pools = first_numbers(alloc, tree.pools.items())?;
+    let supplies = first_numbers(alloc, tree.supplies.items())?;
     Ok(PoolTables { pools, supplies })
 }
 
@@ -361,8 +247,8 @@ fn set_tables(alloc: Global, tree: &Tree) -> Result<SetTables, NoMemory>
     ensures relations { IfOk result (λ t. (q : List ℕ) → get bytes_eq t.relations q
         ≡ position_from (λ r. is_named (Some r.name.name) q) 0 tree.now.relations) }
 {
-    let sets = numbers_of(alloc, tree.sets.items())?;
-    let relations = numbers_of(alloc, tree.relations.items())?;
+    let sets = first_numbers(alloc, tree.sets.items())?;
+    let relations = first_numbers(alloc, tree.relations.items())?;
     Ok(SetTables { sets, relations })
 }
 
@@ -380,14 +266,14 @@ fn structure_numbers(alloc: Global, tree: &Tree) -> Result<StructureNumbers, NoM
     ensures fixed { IfOk result (λ n. (q : List ℕ) → get bytes_eq n.fixed q
         ≡ fixed_in (tree_shape tree.now) (get bytes_eq n.structures (codes "Head")) q) }
 {
-    let structures = numbers_of(alloc, tree.structures.items())?;
+    let structures = first_numbers(alloc, tree.structures.items())?;
     let fixed = fixed_of_head(alloc, tree, &structures)?;
     Ok(StructureNumbers { structures, fixed })
 }
 
 fn structure_rows(
     alloc: Global,
-    numbers: &IndexMap<Name, usize>,
+    numbers: &IndexMap<Name, u32>,
     structures: &[Structure],
 ) -> Result<StructureRows, NoMemory>
     ensures fields { IfOk result (λ rows. map (get bytes_eq) rows.fields.items
@@ -410,12 +296,12 @@ fn structure_tables(alloc: Global, tree: &Tree) -> Result<StructureTables, NoMem
 }
 
 /// What the names of a tree stand for.
-pub fn name_tables(alloc: Global, tree: &Tree) -> Result<NameTables, NoMemory>
+pub fn name_tables(alloc: Global, tree: &Tree) -> Result<TreeNames, NoMemory>
     ensures { IfOk result (λ tables. told_by tree.now tables ≡ names_of (tree_shape tree.now)) }
 {
     let structures = structure_tables(alloc, tree)?;
     let symbols = symbol_tables(alloc, tree)?;
-    Ok(NameTables {
+    Ok(TreeNames {
         structures,
         symbols,
     })

@@ -1,31 +1,18 @@
 // The faults of sets, relations and supplies.
 ghost use Rattle.std.specs.Prelude.{◌≡◌, ◌∷◌, ◌+◌, length, nat_eq, option_and_then};
-ghost use Rattle.dsr_language_theory.specs.Declarations.{disagree, is_unrelated, view_faults, set_faults, source_faults, target_faults, relation_faults, all_sets, is_elsewhere, is_supply_mismatch, supply_faults, unknown_name};
+ghost use Rattle.dsr_language_theory.specs.Declarations.{is_unrelated, view_faults, set_faults, source_faults, target_faults, relation_faults, all_sets, is_elsewhere, is_supply_mismatch, supply_faults, unknown_name};
 ghost use Rattle.dsr_meaning.specs.Lists.{any_of, each_at};
 ghost use Rattle.dsr_language_theory.specs.Names.{plain_set, pool_structure, set_pool};
 ghost use Rattle.dsr_struct.specs.Known.{known_of};
 ghost use Rattle.dsr_names.specs.Telling.{Finds};
 
-use crate::lookups::{Names, is_at};
-use dsr_names::Told;
+use crate::lookups::Names;
+use dsr_names::{Told, disagree, is_at};
 use dsr_tree::{Condition, Fresh, PlacedName, Relation, Set, Target, Var, View};
-
-// Whether two numbers are known and differ.
-fn disagree(left: Option<usize>, right: Option<usize>) -> bool
-    ensures { result ≡ disagree left right }
-{
-    let Some(left) = left else {
-        return false;
-    };
-    match right {
-        Some(right) => left != right,
-        None => false,
-    }
-}
 
 impl Names<'_> {
     // Whether a structure is known not to descend from another one.
-    fn is_unrelated(&self, structure: Option<usize>, ancestor: Option<usize>) -> bool
+    fn is_unrelated(&self, structure: Option<u32>, ancestor: Option<u32>) -> bool
         ensures { result ≡ is_unrelated (known_of self.now) structure ancestor }
     {
         let Some(structure) = structure else {
@@ -38,7 +25,7 @@ impl Names<'_> {
     }
 
     // The structure of the pool that a name stands for.
-    pub fn structure_of_pool(&self, name: &PlacedName) -> Option<usize>
+    pub fn structure_of_pool(&self, name: &PlacedName) -> Option<u32>
         ensures { result ≡ option_and_then (pool_structure (known_of self.now))
             ((known_of self.now).pool name.now.name) }
     {
@@ -49,7 +36,7 @@ impl Names<'_> {
     }
 
     // The pool of the set that a name stands for.
-    fn pool_of_set(&self, name: &PlacedName) -> Option<usize>
+    fn pool_of_set(&self, name: &PlacedName) -> Option<u32>
         ensures { result ≡ option_and_then (set_pool (known_of self.now))
             (plain_set (known_of self.now) name.now.name) }
     {
@@ -156,13 +143,13 @@ impl Names<'_> {
     }
 
     // Whether a set is known to be one of another pool.
-    fn is_elsewhere(&self, pool: Option<usize>, set: &PlacedName) -> bool
+    fn is_elsewhere(&self, pool: Option<u32>, set: &PlacedName) -> bool
         ensures { result ≡ is_elsewhere (known_of self.now) pool set.now }
     {
         disagree(pool, self.pool_of_set(set))
     }
 
-    fn is_any_elsewhere(&self, pool: Option<usize>, sets: &[PlacedName]) -> bool
+    fn is_any_elsewhere(&self, pool: Option<u32>, sets: &[PlacedName]) -> bool
         ensures { result ≡ any_of (is_elsewhere (known_of self.now) pool) sets.now }
     {
         for set in sets {

@@ -7,16 +7,16 @@ ghost use Rattle.dsr_struct.specs.Known.{known_of};
 ghost use Rattle.dsr_names.specs.Telling.{Finds};
 
 use crate::expr_checks::{check_expr, check_maybe_expr};
-use crate::lookups::{Names, is_at};
-use dsr_names::Told;
+use crate::lookups::Names;
+use dsr_names::{Told, is_at};
 use dsr_tree::{Condition, PlacedName, Pool, Structure};
 
 // Whether a number was found that isn't less than another one.
-fn is_not_before(number: usize, found: Option<usize>) -> bool
+fn is_not_before(number: usize, found: Option<u32>) -> bool
     ensures { result ≡ is_not_before number found }
 {
     match found {
-        Some(found) => number <= found,
+        Some(found) => number <= found as usize,
         None => false,
     }
 }

@@ -10,7 +10,7 @@ ghost use Rattle.dsr_struct.specs.Known.{told_by, known_of, AllFit, HasLegalWidt
 ghost use Rattle.dsr_names.specs.FaultsTold.{Tells};
 
 use crate::lookups::Names;
-use crate::names::{NameTables, head_name, name_tables};
+use crate::names::{TreeNames, head_name, name_tables};
 use dsr_ir::{Name, NoMemory, Structures};
 use dsr_names::SpecFault;
 use dsr_tree::Tree;
@@ -30,7 +30,7 @@ impl Names<'_> {
         requires fit { AllFit (known_of self.now) }
         ensures { result ≡ unwrap_or ((known_of self.now).structure (codes "Head")) 0 }
     {
-        self.structure(head).unwrap_or(0) as u32
+        self.structure(head).unwrap_or(0)
     }
 
     fn typed(&self, alloc: Global, head: &Name) -> Result<Structures, NoMemory>
@@ -77,7 +77,7 @@ impl Names<'_> {
 }
 
 // The typed tables of a tree, or the fault that is told, with what its names stand for.
-fn typed_with(alloc: Global, tree: &Tree, known: &NameTables) -> Result<Structures, SpecFault>
+fn typed_with(alloc: Global, tree: &Tree, known: &TreeNames) -> Result<Structures, SpecFault>
     requires { told_by tree.now known.now ≡ names_of (tree_shape tree.now) }
     ensures no_fault { IfOk result (λ _. declaration_faults (tree_shape tree.now) ≡ []) }
     ensures tables { IfOk result (λ s. s ≡ tables (tree_shape tree.now)) }

@@ -12,11 +12,11 @@ use indexmap::IndexMap;
 use std::alloc::Global;
 
 /// The number that a name stands for.
-pub fn number_in(numbers: &IndexMap<Name, usize>, name: &PlacedName) -> u32
+pub fn number_in(numbers: &IndexMap<Name, u32>, name: &PlacedName) -> u32
     requires { Fit (get bytes_eq numbers.now) }
     ensures { result ≡ number_in (get bytes_eq numbers.now) name.now }
 {
-    numbers.get(&name.name).copied().unwrap_or(0) as u32
+    numbers.get(&name.name).copied().unwrap_or(0)
 }
 
 fn sum_of(alloc: Global, sign: SumSign, left: Expr, right: Expr) -> Result<Expr, NoMemory>
@@ -41,7 +41,7 @@ fn product_of(alloc: Global, sign: ProductSign, left: Expr, right: Expr) -> Resu
 #[cycle(expression)]
 pub fn typed_expr(
     alloc: Global,
-    fixed: &IndexMap<Name, usize>,
+    fixed: &IndexMap<Name, u32>,
     expr: &dsr_tree::Expr,
 ) -> Result<Expr, NoMemory>
     requires { Fit (get bytes_eq fixed.now) }
@@ -54,7 +54,7 @@ pub fn typed_expr(
 #[cycle(expression)]
 fn typed_sum(
     alloc: Global,
-    fixed: &IndexMap<Name, usize>,
+    fixed: &IndexMap<Name, u32>,
     rest: &[MoreTerm],
     first: Expr,
 ) -> Result<Expr, NoMemory>
@@ -71,7 +71,7 @@ fn typed_sum(
 }
 
 #[cycle(expression)]
-fn typed_term(alloc: Global, fixed: &IndexMap<Name, usize>, term: &Term2) -> Result<Expr, NoMemory>
+fn typed_term(alloc: Global, fixed: &IndexMap<Name, u32>, term: &Term2) -> Result<Expr, NoMemory>
     requires { Fit (get bytes_eq fixed.now) }
     ensures { IfOk result (λ e. e ≡ typed_term (get bytes_eq fixed.now) (term_shape term.now)) }
 {
@@ -82,7 +82,7 @@ fn typed_term(alloc: Global, fixed: &IndexMap<Name, usize>, term: &Term2) -> Res
 #[cycle(expression)]
 fn typed_product(
     alloc: Global,
-    fixed: &IndexMap<Name, usize>,
+    fixed: &IndexMap<Name, u32>,
     rest: &[MoreFactor],
     first: Expr,
 ) -> Result<Expr, NoMemory>
@@ -102,7 +102,7 @@ fn typed_product(
 #[cycle(expression)]
 fn typed_factor(
     alloc: Global,
-    fixed: &IndexMap<Name, usize>,
+    fixed: &IndexMap<Name, u32>,
     factor: &Factor,
 ) -> Result<Expr, NoMemory>
     requires { Fit (get bytes_eq fixed.now) }
@@ -118,7 +118,7 @@ fn typed_factor(
 /// An expression that may be left out.
 pub fn typed_maybe_expr(
     alloc: Global,
-    fixed: &IndexMap<Name, usize>,
+    fixed: &IndexMap<Name, u32>,
     expr: &Option<dsr_tree::Expr>,
 ) -> Result<Option<Expr>, NoMemory>
     requires { Fit (get bytes_eq fixed.now) }

@@ -18,7 +18,7 @@ impl Names<'_> {
     {
         match &set.view {
             Some(View::As { structure, .. }) => self.structure_in(structure),
-            _ => self.structure_of_pool(&set.pool).unwrap_or(0) as u32,
+            _ => self.structure_of_pool(&set.pool).unwrap_or(0),
         }
     }
 

@@ -47,7 +47,7 @@ struct SlotExprs {
 
 fn typed_slots(
     alloc: Global,
-    fixed: &IndexMap<Name, usize>,
+    fixed: &IndexMap<Name, u32>,
     pool: &dsr_tree::Pool,
 ) -> Result<SlotExprs, NoMemory>
     requires { Fit (get bytes_eq fixed.now) }
@@ -74,7 +74,7 @@ struct CodeExprs {
 
 fn typed_codes(
     alloc: Global,
-    fixed: &IndexMap<Name, usize>,
+    fixed: &IndexMap<Name, u32>,
     pool: &dsr_tree::Pool,
 ) -> Result<CodeExprs, NoMemory>
     requires { Fit (get bytes_eq fixed.now) }
@@ -105,7 +105,7 @@ impl Names<'_> {
         requires fit { AllFit (known_of self.now) }
         ensures { result ≡ number_in (used_structure (known_of self.now)) name.now }
     {
-        self.used_structure(&name.name).unwrap_or(0) as u32
+        self.used_structure(&name.name).unwrap_or(0)
     }
 
     fn typed_content(&self, content: &Option<Content>) -> Kind
@@ -243,7 +243,7 @@ impl Names<'_> {
         ensures { IfOk result (λ ns. ns ≡ avoided (known_of self.now) pool.now) }
     {
         if let Some(number) = self.supply(pool) {
-            if let Some(supply) = self.tree.supplies.items().get(number) {
+            if let Some(supply) = self.tree.supplies.items().get(number as usize) {
                 return Ok(Some(self.avoided_by(alloc, supply)?));
             }
         }

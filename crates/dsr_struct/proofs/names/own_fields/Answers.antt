@@ -4,7 +4,7 @@ use Rattle.std.specs.Str.{bytes_eq}
 use Rattle.indexmap.specs.IndexMap.{get}
 use Rattle.dsr_tree.specs.Trees.{field_shape, structure_shape}
 use Rattle.dsr_language_theory.specs.Names.{field_number, has_name}
-use Rattle.dsr_struct.proofs.Growing.{map_next}
+use Rattle.dsr_names.proofs.Growing.{map_next}
 use Rattle.dsr_struct.proofs.Numbering.{field_numbers}
 use Rattle.dsr_struct.proofs.names.own_fields.Goals as goal
 

@@ -1,6 +1,6 @@
 use Rattle.std.proofs.Common.{Some, ap, ◌∙◌}
 use Rattle.std.specs.List.{position_from}
-use Rattle.dsr_struct.specs.Known.{is_named}
+use Rattle.dsr_names.specs.Tables.{is_named}
 use Rattle.dsr_struct.proofs.names.set_tables.Goals as goal
 
 pub returns : goal.returns

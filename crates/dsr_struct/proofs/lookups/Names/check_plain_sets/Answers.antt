@@ -1,7 +1,7 @@
 use Rattle.dsr_language_theory.specs.Declarations.{unknown_name}
 use Rattle.dsr_language_theory.specs.Names.{plain_set}
 use Rattle.dsr_struct.specs.Known.{known_of}
-use Rattle.dsr_struct.proofs.Counted.{finds_next_from}
+use Rattle.dsr_names.proofs.Finding.{finds_next_from}
 use Rattle.dsr_struct.proofs.lookups.Names.check_plain_sets.Goals as goal
 
 pub loop-name-preserved : goal.loop-name-preserved

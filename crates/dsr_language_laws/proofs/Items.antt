@@ -1,10 +1,8 @@
 -- Items of lists: by their numbers, among those of two lists, and among what is made of others.
-use Rattle.std.proofs.Common.{◌≡◌, ◌≤◌, ◌+◌, ◌⊎◌, ℕ, zero, suc, Bool, false, List, [], ◌∷◌, ◌++◌, map, length, Option, None, Some, slice_get, option_map, All, inl, inr, refl, sym, ap, ◌∙◌, subst, arith}
-use Rattle.std.proofs.lemmas.Bool.{or_parts}
-use Rattle.std.proofs.lemmas.List.Elements.{All-cons, All-nil}
+use Rattle.std.proofs.Common.{◌≡◌, ◌+◌, ℕ, zero, suc, List, [], ◌∷◌, map, Option, None, Some, slice_get, option_map, inl, inr, refl, sym, ◌∙◌, subst, arith}
 use Rattle.std.proofs.lemmas.Option.{slice_get-map}
-use Rattle.dsr_meaning.specs.Counting.{IsIn, IsDistinct}
-use Rattle.dsr_meaning.specs.Lists.{any_of, each_at}
+use Rattle.dsr_meaning.specs.Counting.{IsIn}
+use Rattle.dsr_meaning.specs.Lists.{each_at}
 use Rattle.dsr_meaning.specs.Typed.{AreDifferent}
 use Rattle.dsr_meaning.proofs.Empty.{both_empty}
 

@@ -1,12 +1,12 @@
 pub mod BoundVariables
 pub mod Constants
+pub mod DifferentAtoms
 pub mod FormulaAtoms
 pub mod FormulaLiterals
 pub mod FoundNames
 pub mod Items
 pub mod RulePaths
 pub mod RuleScopes
-pub mod SameAtoms
 pub mod TypedAtoms
 pub mod TypedConstraints
 pub mod TypedInclusions

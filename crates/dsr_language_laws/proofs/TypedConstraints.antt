@@ -24,7 +24,7 @@ use Rattle.dsr_language_laws.proofs.BoundVariables.{bound, binding_in}
 use Rattle.dsr_language_laws.proofs.FormulaAtoms.{sound_formula, not_negated}
 use Rattle.dsr_language_laws.proofs.FormulaLiterals.{each_from, below_longest}
 use Rattle.dsr_language_laws.proofs.Items.{mapped_is, each_is, different_names}
-use Rattle.dsr_language_laws.proofs.SameAtoms.{few_images}
+use Rattle.dsr_language_laws.proofs.DifferentAtoms.{few_images}
 use Rattle.dsr_language_laws.proofs.TypedAtoms.{base_atom, rewritten, atom_is_typed, literal_is_typed}
 use Rattle.dsr_meaning.proofs.Items.{all_of, in_map}
 

@@ -1,5 +1,5 @@
-//! What the names in rules and constraints stand for among the tables of declarations, and the fault that is told of
-//! a specification among all that hold in it.
+//! Tables of names, what the names in rules and constraints stand for among the tables of
+//! declarations, and the fault that is told of a specification among all that hold in it.
 #![tactic(auto)]
 
 mod comparing;

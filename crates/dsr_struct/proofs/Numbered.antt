@@ -1,6 +1,6 @@
 -- In a tree without faults each declaration is the one for which its name stands, and what is found is what is meant.
 use Rattle.std.proofs.Common.{◌≡◌, ℕ, suc, true, false, nat_eq, [], Option, None, Some, is_some, unwrap_or, slice_get, option_and_then, if◌then◌else◌, refl, sym, ap, ◌∙◌, subst, arith}
-use Rattle.std.proofs.lemmas.Bool.{eqb-true}
+use Rattle.std.proofs.lemmas.Bool.{eqb-true, or_parts}
 use Rattle.std.specs.Str.{bytes_eq}
 use Rattle.dsr_tree.specs.Trees.{StructureTree, PoolTree, TreeShape}
 use Rattle.dsr_tree.specs.declared.tree.PlacedName.{PlacedName}
@@ -15,7 +15,7 @@ use Rattle.dsr_language_theory.specs.Tables.{number_in, typed_except, typed_set,
 use Rattle.dsr_struct.proofs.Faultless.{AllEmpty}
 use Rattle.dsr_struct.proofs.Found.{each_is}
 use Rattle.dsr_struct.proofs.Parts.{known_name, SoundStructure, sound_structure, SoundPool, sound_pool, SoundSet, sound_set, SoundRelation, sound_relation}
-use Rattle.dsr_struct.proofs.Sound.{neither, not_false, at_is, known_is, is_some_and, found_item, made_at}
+use Rattle.dsr_struct.proofs.Sound.{not_false, at_is, known_is, is_some_and, found_item, made_at}
 
 -- what a look-up behind another one gives
 record Through {A : Type 0} (f : ℕ → Option A) (o : Option ℕ) (y : A) : Type 0 where
@@ -62,10 +62,10 @@ module _ (t : TreeShape) (empty : AllEmpty t) where
   set_named i s at = at_is i ((names_of t).set s.name.name) (set_at i s at).first
 
   pub relation_named : (i : ℕ) (r : Relation) → slice_get t.relations i ≡ Some r → (names_of t).relation r.name.name ≡ Some i
-  relation_named i r at = at_is i ((names_of t).relation r.name.name) (neither (is_some ((names_of t).set r.name.name)) _ (relation_at i r at).once).1
+  relation_named i r at = at_is i ((names_of t).relation r.name.name) (or_parts (is_some ((names_of t).set r.name.name)) _ (relation_at i r at).once).1
 
   pub relation_no_set : (i : ℕ) (r : Relation) → slice_get t.relations i ≡ Some r → is_some ((names_of t).set r.name.name) ≡ false
-  relation_no_set i r at = (neither (is_some ((names_of t).set r.name.name)) _ (relation_at i r at).once).0
+  relation_no_set i r at = (or_parts (is_some ((names_of t).set r.name.name)) _ (relation_at i r at).once).0
 
   -- the pool for which a name stands, and its structure
   pub record PoolOf (q : PlacedName) : Type 0 where

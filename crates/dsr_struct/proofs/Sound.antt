@@ -2,17 +2,13 @@
 use Rattle.std.proofs.Common.{◌≡◌, inl, inr, ℕ, zero, suc, ◌+◌, Bool, true, false, not, ◌&&◌, ◌||◌, nat_eq, List, [], ◌∷◌, ◌++◌, map, length, Option, None, Some, IfSome, is_some, is_none, unwrap_or, cond, slice_get, option_map, All, refl, sym, ap, ◌∙◌, subst, arith}
 use Rattle.std.specs.Prelude.{IsSomeAnd, IsTrue}
 use Rattle.std.specs.List.{position_from}
-use Rattle.std.proofs.lemmas.Bool.{eqb-true}
+use Rattle.std.proofs.lemmas.Bool.{eqb-true, or_parts}
 use Rattle.std.proofs.lemmas.Option.{slice_get-map}
 use Rattle.dsr_meaning.specs.Counting.{IsIn}
 use Rattle.dsr_meaning.specs.Lists.{any_of}
 use Rattle.dsr_meaning.specs.Typed.{AreDifferent}
 use Rattle.dsr_language_theory.specs.Names.{is_at}
 use Rattle.dsr_struct.proofs.Found.{IsFound, found_passes}
-
-pub neither : (a b : Bool) → (a || b) ≡ false → (a ≡ false) × (b ≡ false)
-neither true b e = absurd cc
-neither false b e = (refl, e)
 
 pub second_fails : (a b : Bool) → a ≡ true → (a && b) ≡ false → b ≡ false
 second_fails true b p e = e
@@ -117,7 +113,7 @@ all_with P x xs p all (suc k) d lt = all k d (omega arith)
 pub all_made : {S T : Type 0} (test : S → Bool) (g : S → T) (P : T → Type 0) → ((x : S) → test x ≡ false → P (g x)) → (xs : List S) → any_of test xs ≡ false → All P (map g xs)
 all_made test g P h [] e = λ i d lt. absurd (omega arith)
 all_made test g P h (x ∷ xs) e =
-    let both = neither (test x) (any_of test xs) e in
+    let both = or_parts (test x) (any_of test xs) e in
     all_with P (g x) (map g xs) (h x both.0) (all_made test g P h xs both.1)
 
 -- ---- names that stand for their numbers

@@ -2,7 +2,7 @@
 use Rattle.std.proofs.Common.{◌≡◌, ◌<◌, ◌^◌, ℕ, Bool, true, false, not, ◌&&◌, ◌||◌, nat_le, List, [], map, take, codes, Option, None, Some, IfSome, is_some, is_none, unwrap_or, slice_get, option_map, option_and_then, All, refl, sym, ap, ◌∙◌, subst, arith}
 use Rattle.std.specs.Option.{option_map_or}
 use Rattle.std.specs.Str.{bytes_eq}
-use Rattle.std.proofs.lemmas.Bool.{leb-false}
+use Rattle.std.proofs.lemmas.Bool.{leb-false, or_parts}
 use Rattle.std.proofs.lemmas.Bool.Decides.{nat_tests}
 use Rattle.std.proofs.lemmas.List.{take-map}
 use Rattle.std.proofs.lemmas.Nat.{pow_pos}
@@ -34,7 +34,7 @@ use Rattle.dsr_struct.proofs.NamesInExprs.{number_has, expr_is_typed, maybe_is_t
 use Rattle.dsr_struct.proofs.Numbered.{structure_at, structure_named}
 use Rattle.dsr_struct.proofs.Parts.{known_name, SoundField, sound_field}
 use Rattle.dsr_struct.proofs.PlaceableTables.{is_placeable}
-use Rattle.dsr_struct.proofs.Sound.{neither, not_false, not_true, at_is, made_at, made_of, made_in, none_found, all_made}
+use Rattle.dsr_struct.proofs.Sound.{not_false, not_true, at_is, made_at, made_of, made_in, none_found, all_made}
 use Rattle.dsr_meaning.proofs.Items.{none_of}
 
 -- a number that isn't found at another one or behind it is before
@@ -106,7 +106,7 @@ module _ (t : TreeShape) (empty : AllEmpty t) where
 
     -- its name stands for its number
     field_named : (k : ℕ) (f : NamedFieldTree) → slice_get s.fields k ≡ Some (named f) → own_field (names_of t) i f.name.name ≡ Some k
-    field_named k f is = at_is k (own_field (names_of t) i f.name.name) (neither (not (is_at k (own_field (names_of t) i f.name.name))) (inherits (names_of t) i f.name.name) (sound_at k f is).once).0
+    field_named k f is = at_is k (own_field (names_of t) i f.name.name) (or_parts (not (is_at k (own_field (names_of t) i f.name.name))) (inherits (names_of t) i f.name.name) (sound_at k f is).once).0
 
     -- the ancestors of its structure
     line_is : ancestors (tables t).structures i ≡ ancestors_of (names_of t) i
@@ -125,7 +125,7 @@ module _ (t : TreeShape) (empty : AllEmpty t) where
               let both : Some j ≡ Some k = sym other ∙ ap (own_field names i) (sym n.same ∙ same) ∙ one in
               cc;
           inherited = λ a u g is_in at_a in_fields has same.
-              let none = none_of (λ b. is_some (own_field names b q)) (ancestors_of names i) (neither (not (is_at k (own_field names i q))) (inherits names i q) (sound_at k f is).once).1 a (subst (IsIn a) line_is is_in) in
+              let none = none_of (λ b. is_some (own_field names b q)) (ancestors_of names i) (or_parts (not (is_at k (own_field names i q))) (inherits names i q) (sound_at k f is).once).1 a (subst (IsIn a) line_is is_in) in
               let m = made_of (typed_structure names) t.structures a u at_a in
               let number : own_field names a q ≡ field_number m.item q = ap (option_and_then (λ n. n q)) (made_at field_number t.structures a m.item m.is) in
               let x = made_in (typed_field names) m.item.fields g (subst (λ v. IsIn g v.fields) m.made in_fields) in
@@ -139,7 +139,7 @@ module _ (t : TreeShape) (empty : AllEmpty t) where
     may_be_fixed k f is fixed =
         let names = names_of t in
         let placed = well_placed (is_some f.fixed) (is_head s.name.name) f.length (inherits_open names i || has_open (take k s.fields)) fixed (sound_at k f is).placed in
-        let closed = neither (inherits_open names i) (has_open (take k s.fields)) placed.1.1 in
+        let closed = or_parts (inherits_open names i) (has_open (take k s.fields)) placed.1.1 in
         let called = (bytes_eq-Decides s.name.name (codes "Head")).0 placed.0 in
         record {
           in_head = sym (ap (λ o. unwrap_or o 0) (sym (ap names.structure called) ∙ structure_named t empty i s at));

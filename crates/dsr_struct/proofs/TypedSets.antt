@@ -2,7 +2,7 @@
 use Rattle.std.proofs.Common.{◌≡◌, ◌≤◌, ◌<◌, ◌-◌, if◌then◌else◌, inl, inr, ℕ, suc, true, false, ◌&&◌, ◌||◌, nat_eq, List, [], ◌∷◌, map, length, Option, None, Some, IfSome, unwrap_or, slice_get, option_and_then, All, refl, sym, ap, ◌∙◌, subst, arith}
 use Rattle.std.specs.Prelude.{IsSomeAnd, IsSome}
 use Rattle.std.specs.Str.{bytes_eq}
-use Rattle.std.proofs.lemmas.Bool.{eqb-true}
+use Rattle.std.proofs.lemmas.Bool.{eqb-true, or_parts}
 use Rattle.std.proofs.lemmas.List.{length-map}
 use Rattle.std.proofs.Math.Dec.{eqb-suc-zero}
 use Rattle.std.proofs.lemmas.Slice.Eq.{bytes_eq-Decides}
@@ -35,7 +35,7 @@ use Rattle.dsr_struct.proofs.Lineage.{ancestors_are}
 use Rattle.dsr_struct.proofs.NamesInExprs.{number_has, expr_is_typed, maybe_is_typed}
 use Rattle.dsr_struct.proofs.Numbered.{PoolOf, pool_of, pool_at, pool_named, set_at, relation_at, plain_in}
 use Rattle.dsr_struct.proofs.Parts.{known_name, sound_supply}
-use Rattle.dsr_struct.proofs.Sound.{neither, not_false, not_true, second_fails, known_some, all_with, known_is, is_some_and, found_item, made_at, some_is}
+use Rattle.dsr_struct.proofs.Sound.{not_false, not_true, second_fails, known_some, all_with, known_is, is_some_and, found_item, made_at, some_is}
 
 -- a structure that descends from another one, by numbers
 descends_is : (i a : ℕ) (line : List ℕ) → (nat_eq i a || any_of (nat_eq a) line) ≡ true → IsIn a (i ∷ line)
@@ -59,7 +59,7 @@ module _ (t : TreeShape) (empty : AllEmpty t) where
   avoids_all pool (q ∷ qs) n known same =
       let names = names_of t in
       let both = both_empty (unknown_name (plain_set names) q) (each_at (λ _ r. unknown_name (plain_set names) r) (suc n) qs) known in
-      let none = neither (is_elsewhere names (Some pool) q) (any_of (is_elsewhere names (Some pool)) qs) same in
+      let none = or_parts (is_elsewhere names (Some pool) q) (any_of (is_elsewhere names (Some pool)) qs) same in
       all_with (IsPlainSetOf (tables t) (suc pool)) (number_in names.set q) (map (number_in names.set) qs) (plain_in t empty pool q both.0 none.0) (avoids_all pool qs (suc n) both.1 none.1)
 
   are_sets : (qs : List PlacedName) (n : ℕ) → each_at (λ _ q. unknown_name (plain_set (names_of t)) q) n qs ≡ [] → all_sets (names_of t) qs ≡ true

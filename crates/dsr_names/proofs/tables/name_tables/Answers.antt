@@ -1,6 +1,5 @@
 use Rattle.std.proofs.Common.{map, ap, ◌∙◌}
 use Rattle.std.specs.List.{position_from}
-use Rattle.std.specs.Str.{bytes_eq}
 use Rattle.dsr_language_theory.specs.Known.{has_field_name}
 use Rattle.dsr_names.proofs.Ancestors.{lines}
 use Rattle.dsr_names.proofs.ToldNames.{few_fields, tables_tell}

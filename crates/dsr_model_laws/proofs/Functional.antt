@@ -1,5 +1,5 @@
 -- A functional relation has one target a record: both pairs come from the same instance of the one rule that gives them.
-use Rattle.std.proofs.Common.{◌≡◌, ◌<◌, ◌+◌, ◌∙◌, ℕ, zero, suc, Bool, true, IsTrue, not, ◌&&◌, List, [], ◌∷◌, Option, None, Some, is_some, inl, inr, refl, sym, ap, subst, arith}
+use Rattle.std.proofs.Common.{◌≡◌, ◌<◌, ◌+◌, ◌∙◌, ℕ, zero, suc, true, IsTrue, not, List, [], ◌∷◌, Option, None, Some, is_some, inl, inr, refl, sym, ap, subst, arith}
 use Rattle.std.specs.Prelude.{slice_get, if◌then◌else◌}
 use Rattle.std.proofs.lemmas.Bool.{eq-eqb}
 use Rattle.dsr_ir.specs.Rules.{gives}

@@ -17,7 +17,7 @@ use Rattle.dsr_meaning.specs.Consistency.{AreInOrder, AreSatisfied, AreViolation
 use Rattle.dsr_meaning.specs.Counting.{IsIn}
 use Rattle.dsr_meaning.specs.Orders.{BindingPrecedes, Precedes}
 use Rattle.dsr_meaning.specs.Truth.{LiteralHolds}
-use Rattle.dsr_meaning.proofs.Ordered.{bindings_apart}
+use Rattle.dsr_meaning.proofs.Ordered.{bindings_apart, elements_follow}
 use Rattle.dsr_model_laws.specs.Deciding.{IsDecided}
 use Rattle.dsr_model_laws.proofs.Ways.{by_logic}
 use Rattle.dsr_model_laws.proofs.Listed.{IsListed, alike, nothing, one, when, each, below, known, taken_to, all_decided, some_one, opposite, numbers}
@@ -85,17 +85,11 @@ module _ (is_fact : Fact → Type 0) where
 
 -- what comes before comes before what comes later
 
-elements_on : (a b c : Element) → Precedes a b → Precedes b c → Precedes a c
-elements_on a b c (inl p) (inl q) = inl (omega (arith, p, q))
-elements_on a b c (inl p) (inr (e, q)) = inl (omega (arith, p, e))
-elements_on a b c (inr (e, p)) (inl q) = inl (omega (arith, e, q))
-elements_on a b c (inr (e, p)) (inr (f, q)) = inr (e ∙ f, omega (arith, p, q))
-
 pairs_on : (a a' b b' c c' : Element) → BindingPrecedes (Pair a a') (Pair b b') → BindingPrecedes (Pair b b') (Pair c c') → BindingPrecedes (Pair a a') (Pair c c')
-pairs_on a a' b b' c c' (inl p) (inl q) = inl (elements_on a b c p q)
+pairs_on a a' b b' c c' (inl p) (inl q) = inl (elements_follow a b c p q)
 pairs_on a a' b b' c c' (inl p) (inr (e, q)) = inl (subst (Precedes a) e p)
 pairs_on a a' b b' c c' (inr (e, p)) (inl q) = inl (subst (λ x. Precedes x c) (sym e) q)
-pairs_on a a' b b' c c' (inr (e, p)) (inr (f, q)) = inr (e ∙ f, elements_on a' b' c' p q)
+pairs_on a a' b b' c c' (inr (e, p)) (inr (f, q)) = inr (e ∙ f, elements_follow a' b' c' p q)
 
 bindings_on : (a b c : Binding) → BindingPrecedes a b → BindingPrecedes b c → BindingPrecedes a c
 bindings_on Once Once c p q = absurd p
@@ -107,7 +101,7 @@ bindings_on Once (Pair b b') (Each c) p q = tt
 bindings_on Once (Pair b b') (Pair c c') p q = tt
 bindings_on (Each a) Once c p q = absurd p
 bindings_on (Each a) (Each b) Once p q = absurd q
-bindings_on (Each a) (Each b) (Each c) p q = elements_on a b c p q
+bindings_on (Each a) (Each b) (Each c) p q = elements_follow a b c p q
 bindings_on (Each a) (Each b) (Pair c c') p q = tt
 bindings_on (Each a) (Pair b b') Once p q = absurd q
 bindings_on (Each a) (Pair b b') (Each c) p q = absurd q

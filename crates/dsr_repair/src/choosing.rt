@@ -13,7 +13,8 @@ use dsr_ir::{
     At, Atom, Binding, Element, Fact, Goal, Instance, Measure, Pick, Place, Target, Template,
     Update, Write,
 };
-use dsr_model::{Model, element_of};
+use dsr_model::Model;
+use dsr_schema::element_of;
 
 // Whether nothing is there that the atom counts.
 fn counts_nothing(model: &Model, atom: &Atom, binding: &Binding) -> bool

@@ -35,7 +35,7 @@ use Rattle.dsr_meaning.specs.Layouts.{layout_of}
 use Rattle.dsr_meaning.specs.Models.{IsFact}
 use Rattle.dsr_meaning.specs.Truth.{element_of, head}
 use Rattle.dsr_meaning.specs.Typed.{GivesTarget, IsPlainSetOf, IsTyped, IsTypedInc, IsTypedQuant, IsTypedRule, Reads, Relates, pool_of_var}
-use Rattle.dsr_resolve.proofs.Entries.{item_below}
+use Rattle.dsr_meaning.proofs.Items.{item_there}
 use Rattle.dsr_update_theory.specs.Givers.{is_own}
 use Rattle.dsr_update_theory.specs.KnownSets.{IsKnown}
 use Rattle.dsr_update_theory.specs.Templates.{KnownSets, TellsKnown, place_of, starts_at}
@@ -160,7 +160,7 @@ module _ (spec : Spec) (typed : IsTyped spec) where
   pub known_pool : (quant : Quant) → IsTypedQuant spec.base quant → {v : Var} {set : ℕ} → IsKnown spec quant v set → IsPoolOf quant v set
   known_pool quant quant_typed (IsKnown.quantified set e) =
       let declared : set < length spec.base.sets = subst (IsTypedQuant spec.base) e quant_typed in
-      let found = item_below spec.base.sets set declared in
+      let found = item_there spec.base.sets set declared in
       subst (λ q. IsPoolOf q First set) (sym e) (ap (option_map (λ (s : SetDecl). s.pool)) found.1 ∙ sym (ap (λ o. Some (option_map_or (λ (s : SetDecl). s.pool) o 0)) found.1), declared)
   known_pool quant quant_typed (IsKnown.source rel set e given) =
       let k = given.some.0 in

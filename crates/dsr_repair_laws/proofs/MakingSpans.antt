@@ -23,7 +23,7 @@ use Rattle.dsr_meaning.specs.Instances.{declared_field, index_count, record_coun
 use Rattle.dsr_meaning.specs.Layouts.{layout_of, pool_of, slot_bytes}
 use Rattle.dsr_meaning.specs.Places.{size_of}
 use Rattle.dsr_meaning.specs.Typed.{CountsSlots, IsPoolNumber, IsTypedSpan, pool_at}
-use Rattle.dsr_resolve.proofs.Entries.{item_below}
+use Rattle.dsr_meaning.proofs.Items.{item_there}
 use Rattle.dsr_resolve.proofs.PlacesOfFields.{place_of}
 use Rattle.dsr_meaning.proofs.Options.{chained_from}
 
@@ -67,8 +67,8 @@ module _ (base : Structures) (bytes : List ℕ) (layout : Layout) (is : layout_o
   declared_pool pool number =
       let other : nat_eq pool 0 ≡ false = ne_eqb pool 0 (λ e. omega (arith, e, number.from)) in
       let many = as_many fixed size base.pools layout.pools (built fixed base (length bytes) layout is).pools_are in
-      let decl = item_below base.pools (pool - 1) (omega (arith, number.from, number.to)) in
-      let numbers = item_below layout.pools (pool - 1) (omega (arith, many, number.from, number.to)) in
+      let decl = item_there base.pools (pool - 1) (omega (arith, number.from, number.to)) in
+      let numbers = item_there layout.pools (pool - 1) (omega (arith, many, number.from, number.to)) in
       record {
         decl = decl.0;
         decl_is = ap (λ b. if b then None else slice_get base.pools (pool - 1)) other ∙ decl.1;

@@ -17,7 +17,7 @@ use Rattle.dsr_meaning.specs.Instances.{Compares}
 use Rattle.dsr_meaning.specs.Looking.{FindsGreatestCounted}
 use Rattle.dsr_meaning.specs.Truth.{HasBound, HasSize}
 use Rattle.dsr_resolve.proofs.PassedTests.{decides_compares}
-use Rattle.dsr_resolve.specs.Readings.{compares}
+use Rattle.dsr_schema.specs.Comparing.{compares}
 use Rattle.dsr_relations.specs.Tuples.{IsNextValue}
 use Rattle.dsr_truth.specs.Walks.{FindsGreatestValue, IsGreatestValue}
 

@@ -17,14 +17,10 @@ use Rattle.dsr_model.specs.Views.{ModelView}
 use Rattle.dsr_relations.specs.Tuples.{IsInPools}
 use Rattle.dsr_relations.specs.declared.rows.RelationRow.{RelationRow}
 use Rattle.dsr_truth.specs.Walks.{ComesAfter, FindsLeastBinding, IsLaterBinding, MayBind, bindings_after, each, pair}
+use Rattle.dsr_relations.proofs.Facts.{same_relation}
+use Rattle.dsr_meaning.proofs.Ordered.{elements_follow}
 
 -- ---- what comes later than what comes later
-
-elements_follow : (a b c : Element) → Precedes a b → Precedes b c → Precedes a c
-elements_follow a b c (inl p) (inl q) = inl (omega (arith, p, q))
-elements_follow a b c (inl p) (inr q) = inl (omega (arith, p, q.0))
-elements_follow a b c (inr p) (inl q) = inl (omega (arith, p.0, q))
-elements_follow a b c (inr p) (inr q) = inr (p.0 ∙ q.0, omega (arith, p.1, q.1))
 
 pairs_follow : (a b c x y z : Element) → Precedes a b ⊎ ((a ≡ b) × Precedes x y)
     → Precedes b c ⊎ ((b ≡ c) × Precedes y z)
@@ -59,9 +55,6 @@ bindings_follow (bindings.Pair a x) (bindings.Pair b y) (bindings.Pair c z) p q 
 
 abbrev member : ℕ → Element → Fact
 member set e = Member set e
-
-relation_same : (r rel : ℕ) → Rel r ≡ Rel rel → r ≡ rel
-relation_same r rel e = cc
 
 -- the binding of a member
 abbrev pub each_of : Option Fact → Option Binding
@@ -186,7 +179,7 @@ module _ (m : ModelView) (rel : ℕ) where
   pair_next before None kinds h = λ b is. let it = pair_is before b is in h (Pair rel it.0 (Elem it.1)) it.3
   pair_next before (Some (Member s e)) kinds h = absurd cc
   pair_next before (Some (Pair r e (Elem f))) kinds h =
-      let same : r ≡ rel = relation_same r rel h.of_kind.0.0 in
+      let same : r ≡ rel = same_relation r rel h.of_kind.0.0 in
       let held : IsInModel m (Pair rel e (Elem f)) =
       subst (λ k. IsInModel m (Pair k e (Elem f))) same h.of_kind.0.1 in
       let after : Follows (option_map (related rel) before) (Pair rel e (Elem f)) =
@@ -200,7 +193,7 @@ module _ (m : ModelView) (rel : ℕ) where
       }
   pair_next before (Some (Pair r e (Num n))) kinds h = λ b is.
       let it = pair_is before b is in
-      let same : r ≡ rel = relation_same r rel h.of_kind.0.0 in
+      let same : r ≡ rel = same_relation r rel h.of_kind.0.0 in
       let number = (kinds (Pair r e (Num n)) h.of_kind.0).1 in
       let mine = (kinds (Pair rel it.0 (Elem it.1)) it.3.0).1 in
       one_kind (slice_get m.relations rel) it.0 e it.1 n mine
@@ -213,7 +206,7 @@ module _ (m : ModelView) (rel : ℕ) where
   pair_kind None kinds before h = tt
   pair_kind (Some (Member s e)) kinds before h = tt
   pair_kind (Some (Pair r e (Elem f))) kinds before h =
-      let same : r ≡ rel = relation_same r rel h.of_kind.0.0 in
+      let same : r ≡ rel = same_relation r rel h.of_kind.0.0 in
       subst (λ k. MayBeOf m (Rel rel) (Pair k e (Elem f))) same (kinds (Pair r e (Elem f)) h.of_kind.0)
   pair_kind (Some (Pair r e (Num n))) kinds before h = tt
 
@@ -226,10 +219,10 @@ module _ (m : ModelView) (rel : ℕ) where
   pair_fewer None before h fewer = tt
   pair_fewer (Some (Member s e)) before h fewer = tt
   pair_fewer (Some (Pair r e (Elem f))) None h fewer =
-      let same : r ≡ rel = relation_same r rel h.of_kind.0.0 in
+      let same : r ≡ rel = same_relation r rel h.of_kind.0.0 in
       subst (λ k. facts_after m (Rel rel) (Some (Pair k e (Elem f))) < facts_after m (Rel rel) None) same fewer
   pair_fewer (Some (Pair r e (Elem f))) (Some x) h fewer =
-      let same : r ≡ rel = relation_same r rel h.of_kind.0.0 in
+      let same : r ≡ rel = same_relation r rel h.of_kind.0.0 in
       let behind = facts_after m (Rel rel) (Some (Pair rel x.0 (Elem x.1))) in
       subst (λ k. facts_after m (Rel rel) (Some (Pair k e (Elem f))) < behind) same fewer
   pair_fewer (Some (Pair r e (Num n))) before h fewer = tt

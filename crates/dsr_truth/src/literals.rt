@@ -12,8 +12,8 @@ ghost use Rattle.dsr_truth.specs.Walks.{FindsGreatestValue, IsSatisfied, IsUnsat
 use dsr_ir::{
     Atom, Binding, Bound, Conj, Constraint, Element, Fact, Literal, Measure, Op, Spec, Target, Var,
 };
-use dsr_model::{Model, element_of};
-use dsr_resolve::compares;
+use dsr_model::Model;
+use dsr_schema::{compares, element_of};
 
 // The number of what is counted; none where the binding hasn't got the variable.
 #[inline]

@@ -1,6 +1,6 @@
 -- A record has each entry of a field of its pool's structure and of the ancestors, and the reset value fits there.
 use Rattle.std.proofs.Common.{◌≡◌, ◌<◌, ◌≤◌, ◌+◌, ◌*◌, ◌^◌, ◌-◌, ◌∙◌, ℕ, zero, suc, true, false, nat_eq, List, [], ◌∷◌, length, Option, Some, None, refl, sym, ap, subst, arith}
-use Rattle.std.specs.Prelude.{IsSome, IsSomeAnd, MatchBool, option_map, option_and_then, slice_get}
+use Rattle.std.specs.Prelude.{IsSomeAnd, MatchBool, option_map, option_and_then, slice_get}
 use Rattle.dsr_ir.specs.Layouts.{pool_numbers, field_place}
 use Rattle.dsr_ir.specs.declared.declarations.Field.{Field}
 use Rattle.dsr_ir.specs.declared.declarations.FieldRef.{FieldRef}
@@ -26,12 +26,12 @@ use Rattle.dsr_meaning.specs.Places.{end_of, extent_of, lineage, own_places, pla
 use Rattle.dsr_meaning.specs.Typed.{Descends, IsTypedKind, pool_at}
 use Rattle.dsr_resolve.proofs.AcceptedLayouts.{legal_of}
 use Rattle.dsr_resolve.proofs.Descent.{descended_end}
-use Rattle.dsr_resolve.proofs.Entries.{item_below}
 use Rattle.dsr_resolve.proofs.PlacesOfFields.{collected_has, mapped_before}
 use Rattle.dsr_step_theory.specs.Resets.{reset_number}
 use Rattle.dsr_update.specs.Claims.{CanReset, IsRecordField}
 use Rattle.dsr_update.proofs.RecordSlots.{in_pool}
-use Rattle.dsr_meaning.proofs.Options.{some_and}
+use Rattle.dsr_meaning.proofs.Options.{some_and, some_of}
+use Rattle.dsr_meaning.proofs.Items.{item_there}
 
 -- ---- the place of a declared field is as wide as the field
 
@@ -61,10 +61,6 @@ same_width base bytes layout is field f place declared found =
     placed_width fixed at.structure.fields start.0 own.value start.1.1 field.field f place at.field_is there
 
 -- ---- what a record that can be reset has
-
-some_of : {X : Type 0} (o : Option X) → IsSome o → (x : X) × (o ≡ Some x)
-some_of None is = absurd cc
-some_of (Some x) is = (x, refl)
 
 -- the bits of a slot are those of a record there
 in_slot : (layout : Layout) (e : Element) (n : PoolNumbers) (bits : ℕ) → pool_numbers layout e.pool ≡ Some n → e.slot < n.count → bits ≤ 8 * n.slot → HasBits layout e bits
@@ -99,7 +95,7 @@ module _ (spec : Spec) (layout : Layout) (e : Element) (bytes : ℕ) (can : CanR
         let declared = pool_found base e.pool d pool.1.0 in
         let own = field_found base place f of.declared in
         let sized = some_of (size place.structure) (has_size spec can.image can.layout_is.accepted place.structure own.structure own.structure_is) in
-        let above = item_below base.structures d.structure (can.typed.base.pools (e.pool - 1) d declared).structure.declared in
+        let above = item_there base.structures d.structure (can.typed.base.pools (e.pool - 1) d declared).structure.declared in
         let top = some_of (size d.structure) (has_size spec can.image can.layout_is.accepted d.structure above.0 above.1) in
         let fixed = fixed_value base can.image in
         let ancestor : sized.0 ≤ top.0 = descended_end fixed base.structures (λ i s is. (can.typed.base.structures i s is).parent_before) d.structure place.structure top.0 sized.0 pool.1.1 (sized_end fixed base.structures d.structure top.0 top.1) (sized_end fixed base.structures place.structure sized.0 sized.1) in

@@ -13,6 +13,7 @@ ghost use Rattle.dsr_update.specs.Claims.{CanReset, IsRecordField, IsRecordStruc
 use dsr_image::ImageBytes;
 use dsr_ir::{Cell, Element, Field, FieldRef, Kind, Layout, Order, Spec};
 use dsr_layout::{cell, field_place, pool_numbers};
+use dsr_schema::{parent, pool_at};
 
 // Makes so many claimed bytes from one on 0.
 fn zero_bytes<I: ImageBytes>(at: u64, count: u64, image: &mut I)
@@ -146,20 +147,11 @@ fn reset_structure<I: ImageBytes>(
     }
 }
 
-// The parent of a structure.
-fn parent(spec: &Spec, structure: u32) -> Option<u32>
-    ensures { result ≡ option_and_then (λ s. s.parent)
-        (slice_get spec.now.base.structures structure) }
-{
-    spec.base.structures.items().get(structure as usize)?.parent
-}
-
 // The structure of the record's pool.
 fn structure_of(spec: &Spec, elem: Element) -> Option<u32>
     ensures { result ≡ option_map (λ d. d.structure) (pool_at spec.now.base elem.pool) }
 {
-    let number = elem.pool.checked_sub(1)?;
-    Some(spec.base.pools.items().get(number as usize)?.structure)
+    Some(pool_at(&spec.base, elem.pool)?.structure)
 }
 
 /// Resets a record: its bytes become 0, and then each field of its pool's structure and of the
@@ -176,6 +168,6 @@ pub fn reset<I: ImageBytes>(spec: &Spec, layout: &Layout, elem: Element, image: 
     let mut next = structure_of(spec, elem);
     while let Some(current) = next {
         reset_structure(spec, layout, elem, current, image);
-        next = parent(spec, current);
+        next = parent(&spec.base, current);
     }
 }

@@ -7,9 +7,10 @@ ghost use Rattle.dsr_meaning.specs.Legal.{HasEntry, IsLegalLayout};
 ghost use Rattle.dsr_step_theory.specs.Steps as said;
 ghost use Rattle.dsr_step_theory.specs.Steps.{IsWanted};
 
-use crate::values::{meets, picked_number, referred_pool};
+use crate::values::{meets, picked_number};
 use dsr_ir::{Cell, Layout, Spec, Write};
 use dsr_layout::cell;
+use dsr_schema::referred_pool;
 use dsr_step_theory::Step;
 
 fn written_index(step: &Step, write: &Write) -> u64

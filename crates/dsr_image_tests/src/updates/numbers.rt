@@ -1,22 +1,11 @@
 // The numbers that a step's writes put.
 ghost use Rattle.std.specs.Prelude.{◌≡◌, Some, IfSome};
-ghost use Rattle.dsr_meaning.specs.Instances as meaning;
 ghost use Rattle.dsr_step_theory.specs.Steps as said;
 
-use dsr_ir::{Element, FieldRef, Kind, Layout, Pick, Spec, Write};
+use dsr_ir::{Element, FieldRef, Layout, Pick, Spec, Write};
 use dsr_layout::pool_numbers;
-use dsr_model::element_of;
+use dsr_schema::{element_of, referred_pool};
 use dsr_step_theory::Step;
-
-fn referred_pool(spec: &Spec, field: FieldRef) -> Option<u32>
-    ensures { result ≡ meaning.referred_pool spec.now field }
-{
-    let structure = spec.base.structures.items().get(field.structure as usize)?;
-    match structure.fields.items().get(field.field as usize)?.kind {
-        Kind::Refers { pool } => Some(pool),
-        Kind::Number { init: _ } | Kind::Gap => None,
-    }
-}
 
 fn none_of(spec: &Spec, layout: &Layout, field: FieldRef) -> Option<u64>
     ensures { result ≡ said.none_of spec.now layout.now field }

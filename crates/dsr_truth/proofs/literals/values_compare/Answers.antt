@@ -12,14 +12,14 @@ pub returns-then-not-compares : goal.returns-then-not-compares
 returns-then-not-compares c =
     let held = λ (v : ℕ). IsInModel c.args.model.now (facts.Pair c.args.rel c.args.source (Num v)) in
     not_all c.args.op c.args.number held c.in-Some-next_value.value c.compares.result
-    c.in-Some-next_value.ensures.held c.compares.ensures c.if-not-compares.true
+    c.in-Some-next_value.ensures.held c.compares.ensures.computes c.if-not-compares.true
 
 pub returns-then-value-last : goal.returns-then-value-last
 returns-then-value-last c =
     let held = λ (v : ℕ). IsInModel c.args.model.now (facts.Pair c.args.rel c.args.source (Num v)) in
     let all =
     values_last c.args.op c.args.number held c.loop-value.from c.loop-value.invariant
-    c.in-Some-next_value.value c.in-Some-next_value.ensures c.compares.result c.compares.ensures
+    c.in-Some-next_value.value c.in-Some-next_value.ensures c.compares.result c.compares.ensures.computes
     c.if-not-compares.false c.in-Some.last c.in-Some.ensures c.if-value-last.true in
     (λ _. all, λ _. refl)
 
@@ -27,7 +27,7 @@ pub loop-value-preserved : goal.loop-value-preserved
 loop-value-preserved c =
     let held = λ (v : ℕ). IsInModel c.args.model.now (facts.Pair c.args.rel c.args.source (Num v)) in
     values_go_on c.args.op c.args.number held c.loop-value.from c.loop-value.invariant
-    c.in-Some-next_value.value c.in-Some-next_value.ensures c.compares.result c.compares.ensures
+    c.in-Some-next_value.value c.in-Some-next_value.ensures c.compares.result c.compares.ensures.computes
     c.if-not-compares.false
 
 pub returns : goal.returns

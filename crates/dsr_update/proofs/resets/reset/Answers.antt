@@ -5,7 +5,8 @@ use Rattle.dsr_step_theory.specs.Resets.{reset_puts}
 use Rattle.dsr_update.proofs.Left.{line_begins, line_end, line_next}
 use Rattle.dsr_update.proofs.Putting.{put_all, put_more, put_none}
 use Rattle.dsr_update.proofs.RecordEntries.{as_long, legal_where_small}
-use Rattle.dsr_update.proofs.RecordLines.{first_line, goes_down, next_line, of_record, parent_line}
+use Rattle.dsr_schema.proofs.Lines.{goes_down, parent_line}
+use Rattle.dsr_update.proofs.RecordLines.{first_line, next_line, of_record}
 use Rattle.dsr_update.specs.Claims.{CanReset, IsSlotClaimed}
 use Rattle.dsr_update.proofs.resets.reset.Goals as goal
 

@@ -8,7 +8,7 @@ ghost use Rattle.dsr_update_theory.specs.Values.{CellValue, ComesOut, IllegalRef
 ghost use Rattle.dsr_effect.specs.ValueSets.{AllReferencesComeOut, Has, HasNumber, IsComparing, IsInRange, IsNumberIn, IsNumberWanted, IsReferenceOf, IsReferenceWanted};
 
 use dsr_ir::{Field, Kind, Op, Pick, Test, Width, Write};
-use dsr_layout::width_bits;
+use dsr_schema::width_bits;
 
 // The numbers from the first to the last one; none where the last one is below the first.
 #[derive(Clone, Copy)]

@@ -5,7 +5,8 @@ ghost use Rattle.dsr_meaning.specs.Cells as cells;
 ghost use Rattle.dsr_meaning.specs.Legal.{HasBits, HasEntry};
 
 use dsr_ir::{Element, FieldPlace, FieldRef, Layout};
-use dsr_layout::{field_place, width_bits};
+use dsr_layout::field_place;
+use dsr_schema::width_bits;
 
 // The bit behind an entry, counted from the start of its record.
 fn bit_behind(place: &FieldPlace, index: u64) -> Option<u64>

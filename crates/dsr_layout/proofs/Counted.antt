@@ -1,5 +1,5 @@
 -- What is known of sizes and instances where nothing is refused.
-use Rattle.std.proofs.Common.{◌≡◌, ◌<◌, ◌≤◌, ◌^◌, ℕ, suc, Bool, true, false, not, ◌&&◌, nat_lt, List, [], ◌∷◌, ◌++◌, Some, inl, inr, sym, ap, ◌∙◌, subst, arith}
+use Rattle.std.proofs.Common.{◌≡◌, ◌<◌, ◌≤◌, ◌^◌, ℕ, suc, true, false, not, ◌&&◌, nat_lt, List, [], ◌∷◌, ◌++◌, Some, inl, inr, sym, ap, ◌∙◌, subst, arith}
 use Rattle.std.specs.Option.{option_map_or}
 use Rattle.std.proofs.lemmas.Bool.Decides.{nat_tests}
 use Rattle.dsr_ir.specs.Layouts.{field_place}
@@ -25,14 +25,8 @@ use Rattle.dsr_meaning.specs.Layouts.{layout_of}
 use Rattle.dsr_meaning.specs.Places.{size_of}
 use Rattle.dsr_meaning.specs.Refusals.{CountTooWide, Instances, refused_when, fits, greatest_size, given_path, gives_narrower, reaches_bound, outgrows, constraint_outgrows, count_refusals, instance_limit, instances, instance_refusals, outside_refusals, overlap_refusals, subtype_refusals, zero_refusals, none_refusals, code_refusals, refusals}
 use Rattle.dsr_layout.proofs.Fitting.{all_empty, not_not}
-use Rattle.dsr_layout.proofs.LegalPools.{neither}
 use Rattle.dsr_layout.proofs.Looking.{quiet}
-
--- a test that no item passes fails at each
-none_passes : {T : Type 0} (test : T → Bool) (xs : List T) → any_of test xs ≡ false → (x : T) → IsIn x xs → test x ≡ false
-none_passes test [] e x is = absurd is
-none_passes test (y ∷ ys) e x (inl same) = subst (λ z. test z ≡ false) (sym same) (neither (test y) (any_of test ys) e).0
-none_passes test (y ∷ ys) e x (inr later) = none_passes test ys (neither (test y) (any_of test ys) e).1 x later
+use Rattle.dsr_meaning.proofs.Items.{none_of}
 
 -- where no item gives anything, each item of the list gives nothing at some number
 nothing_given : {S T : Type 0} (f : ℕ → S → List T) (n : ℕ) (xs : List S) → each_at f n xs ≡ [] → (x : S) → IsIn x xs → (k : ℕ) × (f k x ≡ [])
@@ -69,15 +63,15 @@ module _ (spec : Spec) (bytes : List ℕ) (none : refusals spec bytes ≡ []) (l
     not_outgrown =
         let nothing = nothing_given (λ k d. refused_when (constraint_outgrows spec layout d) (CountTooWide k)) 0 spec.constraints last_empty.0 c in_spec in
         let whole = quiet (constraint_outgrows spec layout c) (CountTooWide nothing.0) nothing.1 in
-        let one = none_passes (λ j. any_of (λ m. outgrows spec layout m.atom) j.literals) c.conjs whole conj in_constraint in
-        let literal = none_passes (λ m. outgrows spec layout m.atom) conj.literals one l in_conj in
+        let one = none_of (λ j. any_of (λ m. outgrows spec layout m.atom) j.literals) c.conjs whole conj in_constraint in
+        let literal = none_of (λ m. outgrows spec layout m.atom) conj.literals one l in_conj in
         let known : outgrows spec layout (Value var rel op (Size measure)) ≡ false = subst (λ a. outgrows spec layout a ≡ false) atom literal in
         sym (ap (λ b. b && any_of (gives_narrower layout rel (greatest_size spec layout measure)) spec.rules) reaches) ∙ known
 
     pub count_fits : (r : Rule) (path : Path) (place : FieldPlace) → IsIn r spec.rules → given_path rel r.inc ≡ Some path → field_place layout path.field ≡ Some place → greatest_size spec layout measure < 2 ^ width_bits place.width
     count_fits r path place in_rules given found =
         let value = greatest_size spec layout measure in
-        let told = none_passes (gives_narrower layout rel value) spec.rules not_outgrown r in_rules in
+        let told = none_of (gives_narrower layout rel value) spec.rules not_outgrown r in_rules in
         let known : not (fits (width_bits place.width) value) ≡ false =
         sym (ap (λ o. option_map_or (λ p. option_map_or (λ q. not (fits (width_bits q.width) value)) (field_place layout p.field) false) o false) given
         ∙ ap (λ o. option_map_or (λ q. not (fits (width_bits q.width) value)) o false) found)

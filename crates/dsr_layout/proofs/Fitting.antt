@@ -1,7 +1,7 @@
 -- What fits where nothing is refused: the head its image, and structures the slots that they describe.
 use Rattle.std.proofs.Common.{◌≡◌, ◌<◌, ◌≤◌, ◌+◌, ◌-◌, ◌*◌, ◌/◌, ◌%◌, ◌^◌, ℕ, Bool, true, false, not, ◌||◌, nat_eq, nat_lt, List, [], ◌++◌, length, Option, None, Some, IfSome, IsSome, IsSomeAnd, is_none, option_map, option_and_then, unwrap_or, slice_get, if◌then◌else◌, refl, sym, ap, ◌∙◌, subst, arith}
 use Rattle.std.specs.Option.{option_map_or}
-use Rattle.std.proofs.lemmas.Bool.{eq-eqb}
+use Rattle.std.proofs.lemmas.Bool.{and_parts, eq-eqb}
 use Rattle.std.proofs.lemmas.Bool.Decides.{nat_tests}
 use Rattle.dsr_ir.specs.Layouts.{pool_numbers}
 use Rattle.dsr_ir.specs.declared.declarations.Field.{Field}
@@ -29,7 +29,7 @@ use Rattle.dsr_layout.proofs.Collecting.{IsOf, collected_item}
 use Rattle.dsr_layout.proofs.Enclosed.{sized_end}
 use Rattle.dsr_layout.proofs.LegalLayout.{built}
 use Rattle.dsr_layout.proofs.LegalPlaces.{ends_at_byte}
-use Rattle.dsr_layout.proofs.LegalPools.{both, codes_below, counted, head_apart_from}
+use Rattle.dsr_layout.proofs.LegalPools.{codes_below, counted, head_apart_from}
 use Rattle.dsr_layout.proofs.Looking.{each_item, quiet}
 
 -- a structure by which a pool is read fits its slot, where that isn't refused
@@ -161,11 +161,11 @@ module _ (spec : Spec) (bytes : List ℕ) (none : refusals spec bytes ≡ []) wh
 
       pub none_fits : n.none < 2 ^ width_bits f.width
       none_fits =
-          let fits_it = (both (fits (width_bits f.width) n.none) (nat_eq n.count 0 || fits (width_bits f.width) (last_code n)) codes_told).0 in
+          let fits_it = (and_parts (fits (width_bits f.width) n.none) (nat_eq n.count 0 || fits (width_bits f.width) (last_code n)) codes_told).0 in
           grind (arith, nat_tests)
 
       pub code_fits : (slot : ℕ) → slot < n.count → n.code + slot * n.step < 2 ^ width_bits f.width
-      code_fits = codes_below n (2 ^ width_bits f.width) (both (fits (width_bits f.width) n.none) (nat_eq n.count 0 || fits (width_bits f.width) (last_code n)) codes_told).1
+      code_fits = codes_below n (2 ^ width_bits f.width) (and_parts (fits (width_bits f.width) n.none) (nat_eq n.count 0 || fits (width_bits f.width) (last_code n)) codes_told).1
 
     module _ (p : ℕ) (n : PoolNumbers) (numbers : pool_numbers layout p ≡ Some n) where
       pool_empty : (d : Pool) → slice_get base.pools (p - 1) ≡ Some d → (view_refusals size layout p d.structure ≡ []) × (set_refusals size layout p base.sets ≡ [])

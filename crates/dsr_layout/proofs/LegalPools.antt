@@ -1,5 +1,5 @@
 -- What is known of pools where none of them is refused.
-use Rattle.std.proofs.Common.{◌≡◌, ◌≢◌, ◌<◌, ◌≤◌, ◌+◌, ◌-◌, ◌*◌, ◌^◌, ℕ, zero, suc, Bool, true, false, ◌&&◌, ◌||◌, nat_eq, nat_lt, List, [], ◌∷◌, map, length, get_or, All, None, Some, slice_get, if◌then◌else◌, refl, sym, ap, ◌∙◌, subst, arith}
+use Rattle.std.proofs.Common.{◌≡◌, ◌≢◌, ◌<◌, ◌≤◌, ◌+◌, ◌-◌, ◌*◌, ◌^◌, ℕ, zero, suc, true, false, ◌||◌, nat_eq, nat_lt, List, [], ◌∷◌, map, length, get_or, All, None, Some, slice_get, if◌then◌else◌, refl, sym, ap, ◌∙◌, subst, arith}
 use Rattle.std.proofs.Math.Nat.{mul-le-mul_right}
 use Rattle.std.proofs.lemmas.Bool.Decides.{nat_tests}
 use Rattle.std.proofs.lemmas.List.{get_or-map, length-map}
@@ -16,20 +16,13 @@ use Rattle.dsr_layout.proofs.SharedBytes.{byte_shared}
 use Rattle.dsr_layout.proofs.Looking.{quiet}
 use Rattle.dsr_layout.specs.Laws.{HasByte}
 use Rattle.dsr_layout.specs.Pools.{IsComputable, HasStep}
-
-pub neither : (a b : Bool) → (a || b) ≡ false → (a ≡ false) × (b ≡ false)
-neither true b e = absurd cc
-neither false b e = (refl, e)
-
-pub both : (a b : Bool) → (a && b) ≡ true → (a ≡ true) × (b ≡ true)
-both true b e = (refl, e)
-both false b e = absurd cc
+use Rattle.std.proofs.lemmas.Bool.{and_parts, or_parts}
 
 -- a value that is no slot's code is none's
 no_code : (n : PoolNumbers) (value count : ℕ) → is_code_below n value count ≡ false → (slot : ℕ) → slot < count → value ≢ n.code + slot * n.step
 no_code n value zero e slot lt is = absurd (omega (arith, lt))
 no_code n value (suc count) e slot lt is =
-    let parts = neither (nat_eq value (n.code + count * n.step)) (is_code_below n value count) e in
+    let parts = or_parts (nat_eq value (n.code + count * n.step)) (is_code_below n value count) e in
     elim (nat_eq slot count) as (λ b. nat_eq slot count ≡ b → ⊥) [
       | true ↦ λ same.
           let at : slot ≡ count = grind (arith, nat_tests) in
@@ -54,14 +47,14 @@ codes_below n bound below slot lt =
 -- a pool that isn't refused
 legal_pool : (bytes : ℕ) (n : PoolNumbers) → IsComputable n → nat_lt bytes (pool_end n) ≡ false → (nat_eq n.step 0 || nat_eq n.slot 0) ≡ false → is_code_below n n.none n.count ≡ false → IsLegalPool bytes n
 legal_pool bytes n computable inside some apart =
-    let parts = neither (nat_eq n.step 0) (nat_eq n.slot 0) some in
+    let parts = or_parts (nat_eq n.step 0) (nat_eq n.slot 0) some in
     let step = parts.0 in
     let slot = parts.1 in
     record {
       slot_some = grind (arith, nat_tests);
       step_some = grind (arith, nat_tests);
       within = grind (arith, nat_tests);
-      codes_small = codes_below n (2 ^ 64) (both (nat_lt (pool_end n) (2 ^ 64)) (nat_eq n.count 0 || nat_lt (last_code n) (2 ^ 64)) computable).1;
+      codes_small = codes_below n (2 ^ 64) (and_parts (nat_lt (pool_end n) (2 ^ 64)) (nat_eq n.count 0 || nat_lt (last_code n) (2 ^ 64)) computable).1;
       none_apart = no_code n n.none n.count apart;
     }
 
@@ -158,5 +151,5 @@ have_steps layout e = each_has (λ p n. refused_when (nat_eq n.step 0 || nat_eq 
   where
     step_of : (p : ℕ) (n : PoolNumbers) → refused_when (nat_eq n.step 0 || nat_eq n.slot 0) (Zero p) ≡ [] → HasStep n
     step_of p n empty =
-        let step = (neither (nat_eq n.step 0) (nat_eq n.slot 0) (quiet (nat_eq n.step 0 || nat_eq n.slot 0) (Zero p) empty)).0 in
+        let step = (or_parts (nat_eq n.step 0) (nat_eq n.slot 0) (quiet (nat_eq n.step 0 || nat_eq n.slot 0) (Zero p) empty)).0 in
         grind (arith, nat_tests)

@@ -1,8 +1,8 @@
 -- Arrays and pools whose numbers of entries are one expression have as many.
-use Rattle.std.proofs.Common.{◌≡◌, ◌<◌, ◌-◌, ℕ, zero, suc, true, false, nat_eq, List, [], ◌∷◌, length, inl, inr, Option, None, Some, option_map, option_and_then, slice_get, unwrap_or, if◌then◌else◌, refl, sym, ap, ◌∙◌, subst, arith}
+use Rattle.std.proofs.Common.{◌≡◌, ◌<◌, ◌-◌, ℕ, zero, suc, true, false, nat_eq, List, [], ◌∷◌, length, Option, None, Some, option_map, option_and_then, slice_get, unwrap_or, if◌then◌else◌, refl, sym, ap, ◌∙◌, subst, arith}
 use Rattle.std.specs.Option.{option_map_or}
 use Rattle.std.proofs.lemmas.Bool.Decides.{nat_tests}
-use Rattle.std.proofs.lemmas.Option.{slice_get_cases, slice_get_within}
+use Rattle.std.proofs.lemmas.Option.{slice_get_within}
 use Rattle.dsr_ir.specs.Exprs.{ExprShape}
 use Rattle.dsr_ir.specs.Layouts.{pool_numbers, field_place}
 use Rattle.dsr_ir.specs.declared.declarations.Field.{Field}
@@ -28,6 +28,7 @@ use Rattle.dsr_layout.proofs.Fitting.{pool_found, field_found}
 use Rattle.dsr_layout.proofs.LegalLayout.{built, as_many}
 use Rattle.dsr_layout.proofs.LegalPools.{counted}
 use Rattle.dsr_layout.proofs.Lineages.{ancestors, lineage_of}
+use Rattle.dsr_meaning.proofs.Items.{item_there}
 
 -- what comes of a value comes of one that is there
 pub some_before : {A B : Type 0} (f : A → Option B) (o : Option A) (y : B) → option_and_then f o ≡ Some y → (x : A) × ((o ≡ Some x) × (f x ≡ Some y))
@@ -38,15 +39,8 @@ mapped_before : {A B : Type 0} (f : A → B) (o : Option A) (y : B) → option_m
 mapped_before f None y is = absurd cc
 mapped_before f (Some x) y is = (x, (refl, cc))
 
--- a number below the length of a list has an item
-item_below : {X : Type 0} (xs : List X) (i : ℕ) → i < length xs → (x : X) × (slice_get xs i ≡ Some x)
-item_below xs i lt = elim (slice_get_cases xs i).1 [
-  | inl found ↦ (found.0, found.2)
-  | inr past ↦ absurd (omega (arith, past.0, lt))
-]
-
 -- the count of a pool's numbers is the one that was computed
-numbers_count : (count slot start code step none : Option ℕ) (n : PoolNumbers) → option_and_then (λ count. option_and_then (λ slot. option_and_then (λ start. option_and_then (λ code. option_and_then (λ step. option_map (λ none. record { start = start; slot = slot; count = count; code = code; step = step; none = none }) none) step) code) start) slot) count ≡ Some n → count ≡ Some n.count
+pub numbers_count : (count slot start code step none : Option ℕ) (n : PoolNumbers) → option_and_then (λ count. option_and_then (λ slot. option_and_then (λ start. option_and_then (λ code. option_and_then (λ step. option_map (λ none. record { start = start; slot = slot; count = count; code = code; step = step; none = none }) none) step) code) start) slot) count ≡ Some n → count ≡ Some n.count
 numbers_count None slot start code step nothing n is = absurd cc
 numbers_count (Some c) None start code step nothing n is = absurd cc
 numbers_count (Some c) (Some l) None code step nothing n is = absurd cc
@@ -134,13 +128,13 @@ module _ (base : Structures) (bytes : List ℕ) (layout : Layout) (is : layout_o
     | false ↦ λ h.
         let many = as_many fixed size base.pools layout.pools (built fixed base (length bytes) layout is).pools_are in
         let below = slice_get_within base.pools (pool - 1) d h in
-        item_below layout.pools (pool - 1) (omega (arith, many, below))
+        item_there layout.pools (pool - 1) (omega (arith, many, below))
   ] declared
 
   declared_pool : (pool : ℕ) → IsPoolNumber base pool → (d : Pool) × (pool_at base pool ≡ Some d)
   declared_pool pool number = elim (nat_eq pool 0) as (λ b. nat_eq pool 0 ≡ b → (d : Pool) × ((if b then None else slice_get base.pools (pool - 1)) ≡ Some d)) [
     | true ↦ λ e. let none : pool ≡ 0 = grind (arith, nat_tests) in absurd (omega (arith, none, number.from))
-    | false ↦ λ _. item_below base.pools (pool - 1) (omega (arith, number.from, number.to))
+    | false ↦ λ _. item_there base.pools (pool - 1) (omega (arith, number.from, number.to))
   ] refl
 
   -- an index runs over as many entries as the expression of its length says

@@ -6,8 +6,8 @@ ghost use Rattle.dsr_meaning.specs.Legal.{HasEntry, IsLegalLayout};
 
 use crate::fixed_fields::is_bytewise;
 use crate::lookups::{field_place, pool_numbers};
-use crate::places::width_bits;
 use dsr_ir::{Cell, Element, FieldPlace, FieldRef, Layout};
+use dsr_schema::width_bits;
 
 // The first byte of a record.
 fn record_start(layout: &Layout, elem: Element) -> u64

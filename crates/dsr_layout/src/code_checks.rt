@@ -9,9 +9,9 @@ ghost use Rattle.dsr_layout.specs.Telling.{told_of};
 
 use crate::faults::LayoutFault;
 use crate::lookups::pool_numbers;
-use crate::places::width_bits;
 use crate::pools::last_code;
 use dsr_ir::{Field, Kind, Layout, PoolNumbers, Structure, Width};
+use dsr_schema::width_bits;
 
 /// Whether a number fits an entry.
 pub fn fits(width: Width, value: u64) -> bool

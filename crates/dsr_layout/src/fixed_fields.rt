@@ -10,9 +10,10 @@ ghost use Rattle.dsr_layout.specs.Tables.{known, clip_cell};
 ghost use Rattle.dsr_layout.specs.Telling.{told_of, Tells};
 
 use crate::faults::LayoutFault;
-use crate::places::{bit_behind_fields, ends, start_in, width_bits};
+use crate::places::{bit_behind_fields, ends, start_in};
 use dsr_ir::{Cell, Field, NoMemory, Order, Structures, Width};
 use dsr_meaning::value_of_cell;
+use dsr_schema::width_bits;
 use std::alloc::Global;
 use std::slice;
 

@@ -30,5 +30,4 @@ pub use laws::{
 };
 pub use layouts::layout;
 pub use lookups::{field_place, pool_numbers, record_count, set_pool};
-pub use places::width_bits;
 pub use references::{Ref, code_of, slot_of};

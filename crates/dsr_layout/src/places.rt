@@ -14,21 +14,8 @@ ghost use Rattle.dsr_layout.specs.declared.faults.LayoutFault.{LayoutFault};
 use crate::faults::LayoutFault;
 use crate::values::entries_of;
 use dsr_ir::{Field, FieldPlace, NoMemory, Seq, Structure, Width};
+use dsr_schema::width_bits;
 use std::alloc::Global;
-
-/// The bits of an entry.
-pub fn width_bits(width: Width) -> u64
-    ensures value { result ≡ width_bits width }
-    ensures small { result ≤ 255 }
-{
-    match width {
-        Width::U8 => 8,
-        Width::U16 => 16,
-        Width::U32 => 32,
-        Width::U64 => 64,
-        Width::Bits(count) => u64::from(count),
-    }
-}
 
 // The first byte boundary at a bit or behind it.
 fn up_to_byte(bit: u64) -> u64

@@ -26,7 +26,7 @@ use Rattle.dsr_meaning.specs.Legal.{entry_count}
 use Rattle.dsr_meaning.specs.Places.{lineage, entries_of, bit_behind_fields, placed, end_of, own_places}
 use Rattle.dsr_meaning.specs.Typed.{AreTyped, Descends, ancestors}
 use Rattle.dsr_meaning.specs.Writes.{AreBitsApart, AreCellsApart}
-use Rattle.dsr_layout_laws.proofs.Descending.{ancestors_step, line, no_ancestors}
+use Rattle.dsr_schema.proofs.Descending.{ancestors_step, line, no_ancestors}
 use Rattle.dsr_layout_laws.proofs.Ranges.{row_step}
 use Rattle.dsr_layout_laws.proofs.Records.{carried, entry_cell}
 
@@ -257,7 +257,7 @@ rows_apart : (record_bit i j : ℕ) (p q : FieldPlace) → (end_bit p ≤ q.bit)
 rows_apart record_bit i j p q (inl before) lt less = inl (omega (arith, before, row_step i (entry_count p) (width_bits p.width) lt))
 rows_apart record_bit i j p q (inr after) lt less = inr (omega (arith, after, row_step j (entry_count q) (width_bits q.width) less))
 
-turned : {A B : Type 0} → A ⊎ B → B ⊎ A
+pub turned : {A B : Type 0} → A ⊎ B → B ⊎ A
 turned (inl x) = inr x
 turned (inr y) = inl y
 

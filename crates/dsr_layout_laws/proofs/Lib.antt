@@ -1,4 +1,3 @@
-pub mod Descending
 pub mod Fields
 pub mod Ranges
 pub mod Records

@@ -1,8 +1,9 @@
 -- Cells of records that share no bit.
-use Rattle.std.proofs.Common.{◌≡◌, ◌≢◌, ◌≤◌, ◌<◌, ◌+◌, ◌*◌, ℕ, true, false, nat_eq, Some, None, Option, slice_get, inl, inr, refl, sym, ap, ◌∙◌, subst, arith}
+use Rattle.std.proofs.Common.{◌≡◌, ◌≢◌, ◌≤◌, ◌<◌, ◌+◌, ◌*◌, ℕ, true, false, nat_eq, Some, None, inl, inr, refl, sym, ap, ◌∙◌, subst, arith}
 use Rattle.std.proofs.lemmas.Bool.Decides.{nat_tests}
-use Rattle.std.specs.Option.{option_and_then, option_map, option_map_or}
-use Rattle.std.specs.Prelude.{All, IsSomeAnd, MatchBool}
+use Rattle.std.specs.Option.{option_map, option_map_or}
+use Rattle.std.proofs.lemmas.Option.{same_Some}
+use Rattle.std.specs.Prelude.{IsSomeAnd, MatchBool}
 use Rattle.dsr_layout_laws.specs.Entries.{IsEntry}
 use Rattle.dsr_ir.specs.Layouts.{pool_numbers, field_place}
 use Rattle.dsr_ir.specs.declared.declarations.FieldRef.{FieldRef}
@@ -13,19 +14,12 @@ use Rattle.dsr_ir.specs.declared.layouts.FieldPlace.{FieldPlace}
 use Rattle.dsr_ir.specs.declared.layouts.Layout.{Layout}
 use Rattle.dsr_ir.specs.declared.layouts.PoolNumbers.{PoolNumbers}
 use Rattle.dsr_ir.specs.declared.tuples.Element.{Element}
-use Rattle.dsr_layout.proofs.Meanings.{found_holds}
 use Rattle.dsr_meaning.specs.Cells.{cell_of, placed_cell, record_start, width_bits}
-use Rattle.dsr_meaning.specs.Legal.{HasBits, IsLegalLayout, IsLegalPlace}
+use Rattle.dsr_meaning.specs.Legal.{HasBits, IsLegalLayout}
 use Rattle.dsr_meaning.specs.Placeable.{IsLegalWidth}
 use Rattle.dsr_meaning.specs.Writes.{AreBitsApart, AreCellsApart}
 use Rattle.dsr_layout_laws.proofs.Ranges.{pools_apart, slots_apart}
-
--- the place of a declared field is a legal one
-legal_place : (layout : Layout) (field : FieldRef) (place : FieldPlace) → IsLegalLayout layout → field_place layout field ≡ Some place → IsLegalPlace place
-legal_place layout field place legal e = elim (slice_get layout.fields field.structure) as (λ o. slice_get layout.fields field.structure ≡ o → option_and_then (λ places. slice_get places field.field) o ≡ Some place → IsLegalPlace place) [
-  | None ↦ λ _ h. absurd cc
-  | Some places ↦ λ is h. found_holds IsLegalPlace places field.field place (found_holds (All IsLegalPlace) layout.fields field.structure places legal.fields is) h
-] refl e
+use Rattle.dsr_layout.proofs.HeldCells.{legal_place}
 
 -- an entry has some bits
 width_some : (width : Width) → IsLegalWidth width → 0 < width_bits width
@@ -66,10 +60,6 @@ in_slot layout e bits some has = elim (nat_eq e.pool 0) as (λ b. nat_eq e.pool 
   ] refl h
 ] refl has
 
--- two numbers that are both those of a pool
-same_numbers : (o : Option PoolNumbers) (m n : PoolNumbers) → o ≡ Some m → o ≡ Some n → m ≡ n
-same_numbers o m n one two = let both : Some m ≡ Some n = sym one ∙ two in cc
-
 -- an entry of a slot, by its first bit there and its width
 record IsPart (layout : Layout) (e : Element) (cell : Cell) (first width : ℕ) : Type 0 where
   slot : IsSlot layout e (first + width)
@@ -99,7 +89,7 @@ in_other_slots layout e f a b i j c d some same other one two =
     let p = part layout e a i c one some in
     let q = part layout f b j d two (λ none. some (same ∙ none)) in
     let numbers : q.slot.numbers ≡ p.slot.numbers =
-    same_numbers (pool_numbers layout f.pool) q.slot.numbers p.slot.numbers q.slot.numbers_are (ap (pool_numbers layout) (sym same) ∙ p.slot.numbers_are) in
+    same_Some q.slot.numbers p.slot.numbers (sym q.slot.numbers_are ∙ (ap (pool_numbers layout) (sym same) ∙ p.slot.numbers_are)) in
     let v = width_bits one.entry.place.width in
     let w = width_bits two.entry.place.width in
     let k = one.entry.place.bit + i * v in

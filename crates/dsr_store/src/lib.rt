@@ -9,7 +9,7 @@ mod replacing;
 mod system;
 mod torn;
 
-pub use memory::{MemoryShelf, MemorySink, SureShelf, SureSink};
+pub use memory::{MemorySink, SureShelf, SureSink};
 pub use outside::{Content, Held, Label, Missed, Shelf, ShelfFault, Sink, SinkFault};
 pub use system::{FileShelf, StdSink, read_front};
 pub use torn::TornShelf;

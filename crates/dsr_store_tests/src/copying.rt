@@ -4,7 +4,7 @@ ghost use Rattle.dsr_script.specs.Moves.{shown};
 
 use crate::memory::one_file;
 use dsr_script::{Commands, Move, Stage, Status, Told, Verdict, run};
-use dsr_store::{Held, MemoryShelf, MemorySink};
+use dsr_store::{Held, MemorySink, TornShelf};
 use std::alloc::{AllocError, Global};
 use std::test::Fail;
 
@@ -138,11 +138,12 @@ fn words_of(alloc: Global, words: &[&str]) -> Result<Vec<String>, AllocError> {
     Ok(all)
 }
 
-fn shelf_of(alloc: Global, case: &Case<'_>) -> Result<MemoryShelf, AllocError> {
+fn shelf_of(alloc: Global, case: &Case<'_>) -> Result<TornShelf, AllocError> {
     let fail = vec![in alloc; case.failing.0]?;
-    Ok(MemoryShelf {
+    Ok(TornShelf {
         files: one_file(alloc, case.file.as_bytes())?,
         fail,
+        cut: 0,
         calls: 0,
         last: None,
     })
@@ -166,7 +167,7 @@ fn ends_so(alloc: Global, case: &Case<'_>) -> Result<bool, AllocError> {
         fail: vec![in alloc; case.failing.1]?,
         calls: 0,
     };
-    let status = run::<Copying, MemoryShelf, MemorySink>(alloc, &words, &mut shelf, &mut out);
+    let status = run::<Copying, TornShelf, MemorySink>(alloc, &words, &mut shelf, &mut out);
     if status == Status::NoMemory && out.bytes.is_empty() {
         return Err(AllocError);
     }

@@ -1,6 +1,6 @@
 // Shelves and outputs in memory.
 use crate::calls::{Call, first_wrong, is_missed, refusals};
-use dsr_store::{Content, Held, Label, MemoryShelf, MemorySink, SureShelf, SureSink};
+use dsr_store::{Content, Held, Label, MemorySink, SureShelf, SureSink, TornShelf};
 use std::alloc::{AllocError, Global};
 use std::test::Fail;
 
@@ -32,9 +32,10 @@ pub fn one_file(alloc: Global, bytes: &[u8]) -> Result<Vec<Held>, AllocError> {
 
 fn memory_is_right(alloc: Global) -> Result<bool, AllocError> {
     let fail = vec![in alloc; 3, 6]?;
-    let mut shelf = MemoryShelf {
+    let mut shelf = TornShelf {
         files: one_file(alloc, b"xyz")?,
         fail,
+        cut: 0,
         calls: 0,
         last: None,
     };

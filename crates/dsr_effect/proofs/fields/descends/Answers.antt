@@ -2,7 +2,7 @@ use Rattle.std.proofs.Common.{◌<◌, ◌∙◌, suc, ap, subst, sym}
 use Rattle.std.specs.Prelude.{nat_eq, slice_get}
 use Rattle.std.specs.Option.{option_and_then, option_map_or}
 use Rattle.dsr_meaning.specs.Lists.{any_of}
-use Rattle.dsr_layout_laws.proofs.Descending.{line}
+use Rattle.dsr_schema.proofs.Descending.{line}
 use Rattle.dsr_effect.proofs.Descending.{goes_down, line_goes_on, parent_line}
 use Rattle.dsr_effect.proofs.fields.descends.Goals as goal
 

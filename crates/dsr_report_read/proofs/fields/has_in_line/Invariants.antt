@@ -3,7 +3,7 @@ use Rattle.std.specs.Prelude.{nat_eq}
 use Rattle.std.specs.Option.{option_map_or}
 use Rattle.dsr_meaning.specs.Lists.{any_of}
 use Rattle.dsr_update_theory.specs.Changes.{descends}
-use Rattle.dsr_layout_laws.proofs.Descending.{line}
+use Rattle.dsr_schema.proofs.Descending.{line}
 use Rattle.dsr_report_read.proofs.fields.has_in_line.Given as goal
 
 -- what is left of the line tells

@@ -1,32 +1,19 @@
 -- The ancestors of a typed structure, one after the other.
-use Rattle.std.proofs.Common.{◌≡◌, ◌<◌, ◌≤◌, ◌+◌, ◌∙◌, ℕ, zero, suc, true, false, nat_eq, List, [], ◌∷◌, ◌++◌, length, reverse, None, Some, IfSome, refl, sym, ap, arith, length-append}
+use Rattle.std.proofs.Common.{◌≡◌, ◌<◌, ◌≤◌, ◌∙◌, ℕ, zero, suc, List, [], ◌∷◌, ◌++◌, length, reverse, None, Some, IfSome, refl, sym, ap, arith, length-append}
 use Rattle.std.specs.Prelude.{Option, slice_get}
 use Rattle.std.specs.Option.{option_map_or}
-use Rattle.std.proofs.lemmas.Bool.{cond-true, cond-false}
-use Rattle.std.proofs.lemmas.Grind.{common_steps}
 use Rattle.std.proofs.lemmas.List.{length-reverse, reverse-append, append_assoc}
 use Rattle.std.proofs.lemmas.Option.{same_Some}
 use Rattle.dsr_ir.specs.declared.declarations.Structure.{Structure}
 use Rattle.dsr_meaning.specs.Typed.{ancestors, ancestors_among}
+use Rattle.dsr_meaning.proofs.Ancestors.{in_earlier, of_last, past_end}
 
--- a structure changes nothing for those before it
-in_earlier : (s : Structure) (earlier : List Structure) (i : ℕ) → i < length earlier → ancestors_among (s ∷ earlier) i ≡ ancestors_among earlier i
-in_earlier s earlier i lt =
-    let other : nat_eq i (length earlier) ≡ false = grind (arith, common_steps) in
-    cond-false (nat_eq i (length earlier)) (option_map_or (λ p. p ∷ ancestors_among earlier p) s.parent []) (ancestors_among earlier i) other
-
--- nor do several
+-- structures that are declared later change nothing
 in_later : (later earlier : List Structure) (i : ℕ) → i < length earlier → ancestors_among (later ++ earlier) i ≡ ancestors_among earlier i
 in_later [] earlier i lt = refl
 in_later (s ∷ later) earlier i lt =
     in_earlier s (later ++ earlier) i (omega (arith, lt, length-append later earlier))
     ∙ in_later later earlier i lt
-
--- its own ancestors are found among those before it
-of_last : (s : Structure) (earlier : List Structure) (i : ℕ) → i ≡ length earlier → ancestors_among (s ∷ earlier) i ≡ option_map_or (λ p. p ∷ ancestors_among earlier p) s.parent []
-of_last s earlier i is =
-    let found : nat_eq i (length earlier) ≡ true = grind (arith, common_steps) in
-    cond-true (nat_eq i (length earlier)) (option_map_or (λ p. p ∷ ancestors_among earlier p) s.parent []) (ancestors_among earlier i) found
 
 -- a list, split at an item
 record SplitAt {A : Type 0} (xs : List A) (i : ℕ) (x : A) : Type 0 where
@@ -72,12 +59,5 @@ ancestors_step structures i s is before =
     ] before)
 
 -- a number that is that of no structure has none
-none_past : (ss : List Structure) (i : ℕ) → length ss ≤ i → ancestors_among ss i ≡ []
-none_past [] i le = refl
-none_past (s ∷ earlier) i le =
-    let other : nat_eq i (length earlier) ≡ false = let lt : length earlier < i = omega (arith, le) in grind (arith, common_steps) in
-    cond-false (nat_eq i (length earlier)) (option_map_or (λ p. p ∷ ancestors_among earlier p) s.parent []) (ancestors_among earlier i) other
-    ∙ none_past earlier i (omega (arith, le))
-
 pub no_ancestors : (structures : List Structure) (i : ℕ) → length structures ≤ i → ancestors structures i ≡ []
-no_ancestors structures i le = none_past (reverse structures) i (rw (length-reverse structures) le)
+no_ancestors structures i le = past_end (reverse structures) i (rw (length-reverse structures) le)

@@ -1,0 +1,29 @@
+use Rattle.std.proofs.Common.{rules, ◌<◌, ◌∙◌, suc, true, false, ◌∷◌, ap, subst, sym}
+use Rattle.std.specs.Prelude.{nat_eq}
+use Rattle.std.specs.Option.{option_map_or}
+use Rattle.dsr_meaning.specs.Lists.{any_of}
+use Rattle.dsr_meaning.specs.Typed.{ancestors}
+use Rattle.dsr_schema.proofs.Descending.{line}
+use Rattle.dsr_schema.proofs.Lines.{goes_down, in_line, line_goes_on, parent_line}
+use Rattle.dsr_schema.proofs.structures.descends.Goals as goal
+
+pub loop-next-smaller : goal.loop-next-smaller
+loop-next-smaller c =
+    subst (λ o. option_map_or suc c.parent-next.result 0 < option_map_or suc o 0) (sym c.in-Some.is)
+    (goes_down c.args.base.now.structures c.in-Some.current c.parent-next.result
+    (parent_line c.args.base.now c.in-Some.current c.parent-next.result c.requires.typed c.parent-next.ensures))
+
+pub loop-next-preserved : goal.loop-next-preserved
+loop-next-preserved c =
+    line_goes_on c.args.base.now.structures c.in-Some.current c.args.other c.parent-next.result c.if-current-other.false
+    (parent_line c.args.base.now c.in-Some.current c.parent-next.result c.requires.typed c.parent-next.ensures)
+    ∙ ap (λ o. any_of (nat_eq c.args.other) (line c.args.base.now.structures o)) (sym c.in-Some.is)
+    ∙ c.loop-next.invariant
+
+pub returns-then-current-other-clause-descends : goal.returns-then-current-other-clause-descends
+returns-then-current-other-clause-descends c =
+    in_line c.args.other (c.args.structure ∷ ancestors c.args.base.now.structures c.args.structure) true (search rules)
+
+pub returns-clause-descends : goal.returns-clause-descends
+returns-clause-descends c =
+    in_line c.args.other (c.args.structure ∷ ancestors c.args.base.now.structures c.args.structure) false (search rules)

@@ -1,0 +1,14 @@
+use Rattle.std.proofs.Common.{◌≡◌, suc}
+use Rattle.std.specs.Prelude.{◌∷◌, nat_eq}
+use Rattle.std.specs.Option.{option_map_or}
+use Rattle.dsr_meaning.specs.Lists.{any_of}
+use Rattle.dsr_meaning.specs.Typed.{ancestors}
+use Rattle.dsr_schema.proofs.Descending.{line}
+use Rattle.dsr_schema.proofs.structures.descends.Given as goal
+
+-- what is left of the line tells
+abbrev pub invariant-loop-next : goal.invariant-loop-next
+invariant-loop-next l = any_of (nat_eq l.other) (line l.base.structures l.next) ≡ any_of (nat_eq l.other) (l.structure ∷ ancestors l.base.structures l.structure)
+
+abbrev pub decreases-loop-next : goal.decreases-loop-next
+decreases-loop-next l = option_map_or suc l.next 0

@@ -47,7 +47,7 @@ entry_end : (index bits width : ℕ) → bits ≡ width → index * bits + bits 
 entry_end index bits width e = rw e (omega arith)
 
 -- the place of a declared field is a legal one
-legal_place : (layout : Layout) (field : FieldRef) (place : FieldPlace) → IsLegalLayout layout → field_place layout field ≡ Some place → IsLegalPlace place
+pub legal_place : (layout : Layout) (field : FieldRef) (place : FieldPlace) → IsLegalLayout layout → field_place layout field ≡ Some place → IsLegalPlace place
 legal_place layout field place legal e = elim (slice_get layout.fields field.structure) as (λ o. slice_get layout.fields field.structure ≡ o → option_and_then (λ places. slice_get places field.field) o ≡ Some place → IsLegalPlace place) [
   | None ↦ λ _ h. absurd cc
   | Some places ↦ λ is h. found_holds IsLegalPlace places field.field place (found_holds (All IsLegalPlace) layout.fields field.structure places legal.fields is) h

@@ -46,7 +46,7 @@ item_below xs i lt = elim (slice_get_cases xs i).1 [
 ]
 
 -- the count of a pool's numbers is the one that was computed
-numbers_count : (count slot start code step none : Option ℕ) (n : PoolNumbers) → option_and_then (λ count. option_and_then (λ slot. option_and_then (λ start. option_and_then (λ code. option_and_then (λ step. option_map (λ none. record { start = start; slot = slot; count = count; code = code; step = step; none = none }) none) step) code) start) slot) count ≡ Some n → count ≡ Some n.count
+pub numbers_count : (count slot start code step none : Option ℕ) (n : PoolNumbers) → option_and_then (λ count. option_and_then (λ slot. option_and_then (λ start. option_and_then (λ code. option_and_then (λ step. option_map (λ none. record { start = start; slot = slot; count = count; code = code; step = step; none = none }) none) step) code) start) slot) count ≡ Some n → count ≡ Some n.count
 numbers_count None slot start code step nothing n is = absurd cc
 numbers_count (Some c) None start code step nothing n is = absurd cc
 numbers_count (Some c) (Some l) None code step nothing n is = absurd cc

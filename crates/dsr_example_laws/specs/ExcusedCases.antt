@@ -25,7 +25,7 @@ use Rattle.dsr_update_theory.specs.declared.effects.Tag.TheVariants.{Written, En
 pub data Kind : Type 0 where
   own_binding different_records targets_apart other_entry : Kind
 
--- such an excuse, where the change is at the record of the variable `v`, or at the entry of its
+-- a change is excused so, where it is at the record of the variable `v`, or at the entry of its
 -- slot, and the other constraint reads at its variable `at`
 abbrev pub IsExcuseOf : Kind → Owner → Owner → Change → Cause → Var → Var → Type 0
 IsExcuseOf own_binding owner other c cause v at =

@@ -35,13 +35,14 @@ use Rattle.dsr_step_theory.specs.Images.{IsImageOf}
 use Rattle.dsr_resolve.proofs.AcceptedLayouts.{legal_of}
 use Rattle.dsr_bound_laws.specs.Bounds.{complements, instances_and_one}
 use Rattle.dsr_template_laws.specs.Helping.{IsActiveFor}
-use Rattle.dsr_bound_laws.proofs.Instances.{AllInstances, all_from, in_map}
+use Rattle.dsr_bound_laws.proofs.Instances.{AllInstances, all_from}
 use Rattle.dsr_bound_laws.proofs.Left.{FewAll, FewStops}
 use Rattle.dsr_bound_laws.proofs.Levels.{FewBindings}
 use Rattle.dsr_bound_laws.proofs.RuleSizes.{few_of_rule, few_records}
 use Rattle.dsr_meaning.proofs.Counts.{no_more}
 use Rattle.dsr_bound_laws.proofs.Sublists.{numbers_below}
 use Rattle.dsr_plan_theory.specs.declared.choices.Choice.{Choice}
+use Rattle.dsr_meaning.proofs.Items.{map_in}
 
 -- the first of a list
 first_item : {A : Type 0} → List A → Option A
@@ -263,7 +264,7 @@ module _ (spec : Spec) (layout : Layout) (bytes : List ℕ) (image : IsImageOf s
             let in_it : IsInComplement spec layout bytes set base e = subst (λ o. IsMemberBy spec layout bytes set o e) base_is is in
             subst (λ b. IsIn b (map (λ s. Each (record { pool = set_pool spec set; slot = s })) ns))
             (λ t. Each (record { pool = sym in_it.pool_is t; slot = e.slot }))
-            (in_map (λ s. Each (record { pool = set_pool spec set; slot = s })) e.slot ns (every e.slot in_it.slot_below))
+            (map_in (λ s. Each (record { pool = set_pool spec set; slot = s })) e.slot ns (every e.slot in_it.slot_below))
 
   pub few_all : (choice : Choice) → FewAll spec choice layout bytes (instances_and_one spec (length bytes))
   few_all choice k c is = by_quant c.quant where

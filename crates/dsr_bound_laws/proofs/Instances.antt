@@ -1,5 +1,5 @@
 -- The instances of all rules have a list, and so have the facts that they give, and all bindings.
-use Rattle.std.proofs.Common.{◌≡◌, ◌≤◌, ◌+◌, ◌*◌, ℕ, zero, suc, List, [], ◌∷◌, ◌++◌, map, length, Some, slice_get, inl, inr, refl, sym, ap, subst, ◌∙◌, arith}
+use Rattle.std.proofs.Common.{◌≡◌, ◌≤◌, ◌+◌, ◌*◌, ℕ, zero, suc, List, [], ◌∷◌, ◌++◌, map, length, Some, slice_get, inl, inr, refl, sym, subst, ◌∙◌, arith}
 use Rattle.std.proofs.Math.Nat.{suc-mul}
 use Rattle.std.proofs.lemmas.List.{length-append, length-map}
 use Rattle.dsr_ir.specs.declared.declarations.Spec.{Spec}
@@ -10,12 +10,7 @@ use Rattle.dsr_meaning.specs.Counting.{IsIn}
 use Rattle.dsr_meaning.specs.Instances.{IsInstance, index_count, premise_pool, record_count}
 use Rattle.dsr_meaning.specs.Refusals.{rule_instances}
 use Rattle.dsr_bound_laws.proofs.Sublists.{numbers_below}
-use Rattle.dsr_meaning.proofs.Items.{in_left, in_right}
-
-pub in_map : {A B : Type 0} (g : A → B) (x : A) (xs : List A) → IsIn x xs → IsIn (g x) (map g xs)
-in_map g x [] i = absurd i
-in_map g x (y ∷ xs) (inl e) = inl (ap g e)
-in_map g x (y ∷ xs) (inr i) = inr (in_map g x xs i)
+use Rattle.dsr_meaning.proofs.Items.{in_left, in_right, map_in}
 
 -- a thing for each of one list with each of another
 grid : {A : Type 0} → (ℕ → ℕ → A) → List ℕ → List ℕ → List A
@@ -35,7 +30,7 @@ grid_long f (x ∷ xs) ys =
 in_grid : {A : Type 0} (f : ℕ → ℕ → A) (a b : ℕ) (xs ys : List ℕ) → IsIn a xs → IsIn b ys → IsIn (f a b) (grid f xs ys)
 unfolding grid
 in_grid f a b [] ys i j = absurd i
-in_grid f a b (x ∷ xs) ys (inl e) j = in_left (f a b) (map (f x) ys) (grid f xs ys) (subst (λ z. IsIn (f a b) (map (f z) ys)) e (in_map (f a) b ys j))
+in_grid f a b (x ∷ xs) ys (inl e) j = in_left (f a b) (map (f x) ys) (grid f xs ys) (subst (λ z. IsIn (f a b) (map (f z) ys)) e (map_in (f a) b ys j))
 in_grid f a b (x ∷ xs) ys (inr i) j = in_right (f a b) (map (f x) ys) (grid f xs ys) (in_grid f a b xs ys i j)
 
 module _ (spec : Spec) (layout : Layout) where

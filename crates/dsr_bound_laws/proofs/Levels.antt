@@ -70,11 +70,6 @@ total_both : {A : Type 0} (f : A → ℕ) (xs ys : List A) → total f (xs ++ ys
 total_both f [] ys = omega arith
 total_both f (x ∷ xs) ys = let rest = total_both f xs ys in omega (arith, rest)
 
-in_map : {A B : Type 0} (g : A → B) (x : A) (xs : List A) → IsIn x xs → IsIn (g x) (map g xs)
-in_map g x [] i = absurd i
-in_map g x (y ∷ xs) (inl e) = inl (ap g e)
-in_map g x (y ∷ xs) (inr i) = inr (in_map g x xs i)
-
 -- bindings with a number cost as much as there are
 total_with : (cost : ℕ → ℕ) (k x : ℕ) (bs : List Binding) → cost k ≡ x → total (λ (w : BoundConstraint). cost w.constraint) (map (λ b. record { constraint = k; binding = b }) bs) ≡ length bs * x
 total_with cost k x [] is = omega arith

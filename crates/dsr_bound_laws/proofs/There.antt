@@ -50,6 +50,8 @@ use Rattle.dsr_bound_laws.proofs.Bindings.{all, active_there}
 use Rattle.dsr_bound_laws.proofs.Falls.{same_or_other}
 use Rattle.dsr_bound_laws.proofs.Helped.{row_there}
 use Rattle.dsr_bound_laws.proofs.Left.{literal_below}
+use Rattle.dsr_meaning.proofs.Items.{item_there}
+use Rattle.dsr_meaning.proofs.Ordered.{one_way}
 
 -- ---- numbers and lists
 
@@ -69,11 +71,6 @@ module _ (P : ℕ → Type 0) (decided : (n : ℕ) → IsDecided (P n)) where
   least_number : (k : ℕ) → P k → Least
   least_number k has = search_from k 0 k (omega arith) has (λ j less is. absurd (omega (arith, less)))
 
-item_there : {A : Type 0} (xs : List A) (n : ℕ) → n < length xs → (x : A) × (slice_get xs n ≡ Some x)
-item_there [] n less = absurd (omega (arith, less))
-item_there (x ∷ xs) zero less = (x, refl)
-item_there (x ∷ xs) (suc n) less = item_there xs n (omega (arith, less))
-
 -- those of a list that are of a kind, which has no others
 picked_of : {A : Type 0} (P : A → Type 0) (xs : List A) → ((x : A) → IsDecided (P x)) → ((x : A) → P x → IsIn x xs) → IsListed P
 picked_of {A} P xs decided within =
@@ -92,28 +89,22 @@ is_true false = inr (λ (e : false ≡ true). absurd cc)
 
 -- ---- orders
 
-elements_not_both : (a b : Element) → Precedes a b → Precedes b a → ⊥
-elements_not_both a b (inl p) (inl q) = absurd (omega (arith, p, q))
-elements_not_both a b (inl p) (inr (e, q)) = absurd (omega (arith, p, e))
-elements_not_both a b (inr (e, p)) (inl q) = absurd (omega (arith, e, q))
-elements_not_both a b (inr (e, p)) (inr (f, q)) = absurd (omega (arith, p, q))
-
 not_before_itself : (a b : Element) → a ≡ b → Precedes a b → ⊥
-not_before_itself a b same before = elements_not_both a b before (subst (λ x. Precedes b x) (sym same) (subst (λ x. Precedes x b) same before))
+not_before_itself a b same before = one_way a b before (subst (λ x. Precedes b x) (sym same) (subst (λ x. Precedes x b) same before))
 
 pub bindings_not_both : (a b : Binding) → BindingPrecedes a b → BindingPrecedes b a → ⊥
 bindings_not_both Once Once p q = p
 bindings_not_both Once (Each b) p q = q
 bindings_not_both Once (Pair b d) p q = q
 bindings_not_both (Each a) Once p q = p
-bindings_not_both (Each a) (Each b) p q = elements_not_both a b p q
+bindings_not_both (Each a) (Each b) p q = one_way a b p q
 bindings_not_both (Each a) (Pair b d) p q = q
 bindings_not_both (Pair a c) Once p q = p
 bindings_not_both (Pair a c) (Each b) p q = p
-bindings_not_both (Pair a c) (Pair b d) (inl p) (inl q) = elements_not_both a b p q
+bindings_not_both (Pair a c) (Pair b d) (inl p) (inl q) = one_way a b p q
 bindings_not_both (Pair a c) (Pair b d) (inl p) (inr (e, q)) = not_before_itself a b (sym e) p
 bindings_not_both (Pair a c) (Pair b d) (inr (e, p)) (inl q) = not_before_itself b a (sym e) q
-bindings_not_both (Pair a c) (Pair b d) (inr (e, p)) (inr (f, q)) = elements_not_both c d p q
+bindings_not_both (Pair a c) (Pair b d) (inr (e, p)) (inr (f, q)) = one_way c d p q
 
 -- of violated bindings in order the first of the lowest level
 record IsBest (level : BoundConstraint → ℕ) (vs : List BoundConstraint) (x : BoundConstraint) : Type 0 where

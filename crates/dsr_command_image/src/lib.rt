@@ -1,4 +1,5 @@
-//! The answers about an image: whether it is consistent by a specification, and what is saved and told of a repair.
+//! The answers about an image: whether it is consistent by a specification, and what is saved and
+//! told of a repair.
 #![tactic(auto)]
 
 mod checks;

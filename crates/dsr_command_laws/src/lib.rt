@@ -1,5 +1,5 @@
-//! What a run says, by the files that a shelf tells: of images and texts, of plans and certificates, of repairs and
-//! trials, and of words that ask for nothing.
+//! What a run says, by the files that a shelf tells: of images and texts, of plans and
+//! certificates, of repairs and trials, and of words that ask for nothing.
 //!
 //! The laws are the contracts of functions that do nothing when they run.
 #![tactic(auto)]

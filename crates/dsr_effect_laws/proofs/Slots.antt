@@ -1,5 +1,5 @@
 -- Cells of different records share no bit.
-use Rattle.std.proofs.Common.{◌≡◌, ◌≢◌, ◌≤◌, ◌<◌, ◌+◌, ◌*◌, ◌∙◌, ℕ, List, Option, None, Some, IsSome, ◌⊎◌, inl, inr, refl, sym, ap, subst, arith}
+use Rattle.std.proofs.Common.{◌≡◌, ◌≢◌, ◌≤◌, ◌<◌, ◌+◌, ◌*◌, ◌∙◌, ℕ, List, Some, ◌⊎◌, inl, inr, sym, ap, subst, arith}
 use Rattle.std.specs.Prelude.{slice_get}
 use Rattle.std.specs.Option.{option_map_or}
 use Rattle.std.proofs.lemmas.Bool.{cases_lt}
@@ -30,7 +30,7 @@ use Rattle.dsr_meaning.specs.Typed.{Descends, IsTyped}
 use Rattle.dsr_meaning.specs.Writes.{AreBitsApart, AreCellsApart}
 use Rattle.dsr_resolve.proofs.Descent.{descended_end}
 use Rattle.std.proofs.lemmas.Bool.{cases_eq}
-use Rattle.dsr_meaning.proofs.Options.{some_and}
+use Rattle.dsr_meaning.proofs.Options.{some_and, some_of}
 
 pub turned : (c d : Cell) → AreCellsApart c d → AreCellsApart d c
 turned c d (inl before) = inr before
@@ -74,10 +74,6 @@ module _ (spec : Spec) (bytes : List ℕ) (layout : Layout) (is : IsLayoutOf spe
   -- or one of the record's slot
   abbrev pub LiesIn : Element → Cell → Type 0
   LiesIn e cell = ((e ≡ head) × LiesInHead cell) ⊎ LiesInSlot layout e cell
-
-  some_of : {X : Type 0} (o : Option X) → IsSome o → (x : X) × (o ≡ Some x)
-  some_of None h = absurd cc
-  some_of (Some x) h = (x, refl)
 
   in_head : (e : Element) (place : FieldRef) (f : Field) (index : ℕ) (cell : Cell) → e.pool ≡ 0 → declared_field spec.base place ≡ Some f → Descends spec.base.structures spec.base.head place.structure → IsEntry layout e place index cell → LiesInHead cell
   in_head e place f index cell none declared line entry =

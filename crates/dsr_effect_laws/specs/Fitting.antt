@@ -25,8 +25,10 @@ abbrev pub IsPickFor : Layout → Step → Field → Pick → Type 0
 IsPickFor layout step field (Num n) = kind_pool field.kind ≡ None
 IsPickFor layout step field NoneCode = IsSome (kind_pool field.kind)
 IsPickFor layout step field (CodeOf v) =
-    IsSomeAnd (element_of step.binding v) (λ e. (kind_pool field.kind ≡ Some e.pool) × IsSlot layout e)
-IsPickFor layout step field Fresh = IsSomeAnd step.fresh (λ e. (kind_pool field.kind ≡ Some e.pool) × IsSlot layout e)
+    IsSomeAnd (element_of step.binding v)
+    (λ e. (kind_pool field.kind ≡ Some e.pool) × IsSlot layout e)
+IsPickFor layout step field Fresh =
+    IsSomeAnd step.fresh (λ e. (kind_pool field.kind ≡ Some e.pool) × IsSlot layout e)
 IsPickFor layout step field (SizeOf measure) = kind_pool field.kind ≡ None
 
 -- the write can be made, with a number of its field's kind, which is what the write wants
@@ -58,9 +60,11 @@ pub record IsFitStep (c : Change) (layout : Layout) (step : Step) (old new : Lis
   pub together : MayStandTogether c.spec.base c.update.writes
   pub writes : (write : Write) → IsIn write c.update.writes → IsFitWrite c layout step write
   pub removal :
-      is_removal c.goal ≡ true → (write : Write) → IsIn write c.update.writes → IsAlwaysMade c layout step old write
+      is_removal c.goal ≡ true → (write : Write) → IsIn write c.update.writes
+      → IsAlwaysMade c layout step old write
   pub entries :
       (write : Write) → IsIn write c.update.writes → write.path.indexed ≡ true
       → (c.update.writes ≡ write ∷ []) ⊎ (step.elem.pool ≡ 0)
   pub fresh :
-      (e : Element) → step.fresh ≡ Some e → (c.update.fresh ≡ Some e.pool) × IsSlot layout e × (e ≢ step.elem)
+      (e : Element) → step.fresh ≡ Some e
+      → (c.update.fresh ≡ Some e.pool) × IsSlot layout e × (e ≢ step.elem)

@@ -33,11 +33,13 @@ pub record IsFreshFor (c : Change) (layout : Layout) (old : List ℕ) (e : Eleme
   pub some : e.pool ≢ 0
   pub pool_is : c.update.fresh ≡ Some e.pool
   pub outside :
-      (set : ℕ) → IsIn set (named_by (fresh_pool c)) → IsDerived c.spec layout old (Member set e) → ⊥
+      (set : ℕ) → IsIn set (named_by (fresh_pool c)) → IsDerived c.spec layout old (Member set e)
+      → ⊥
 
 -- what must be so of a step and of the bytes before it, for the update to change no more than it is
 -- judged to
-pub record IsMadeAsJudged (c : Change) (layout : Layout) (step : Step) (old new : List ℕ) : Type 0 where
+pub record IsMadeAsJudged (c : Change) (layout : Layout) (step : Step)
+    (old new : List ℕ) : Type 0 where
   pub typed : IsTyped c.spec
   pub legal : IsLegalLayout layout
   pub left : IsLeftAs c layout step old new

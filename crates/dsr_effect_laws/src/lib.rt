@@ -23,8 +23,8 @@ ghost use Rattle.dsr_update_theory.specs.Changes.{Change};
 ghost use Rattle.dsr_update_theory.specs.declared.effects.Direction.TheVariants.{Gain, Loss};
 ghost use Rattle.std.specs.Prelude.{List, ℕ, length};
 
-/// Where a step is made as its update is judged, each fact that is gained or lost lies in the
-/// table, under its symbol, with a tag that allows its record.
+/// Where a step is made as its update is judged, each fact that is gained or lost lies in the table
+/// of the update's effect, under its symbol, with a tag that allows its record.
 pub fn changes_lie_in_the_table()
     ensures gains { (c : Change) (layout : Layout) (step : Step) (old new : List ℕ)
         → IsMadeAsJudged c layout step old new → (fact : Fact) → IsGained c.spec layout old new fact
@@ -34,7 +34,9 @@ pub fn changes_lie_in_the_table()
         → Lies c step Loss fact }
 {}
 
-/// So it is with each fact that is in the one model and not in the other.
+/// Where a step is made as its update is judged, each fact that only one of the models before and
+/// after it has lies in the table of the update's effect, under its symbol, with a tag that allows
+/// its record.
 pub fn facts_that_change_lie_in_the_table()
     ensures gains { (c : Change) (layout : Layout) (step : Step) (old new : List ℕ)
         → IsMadeAsJudged c layout step old new → (fact : Fact) → IsFact c.spec layout new fact
@@ -44,21 +46,23 @@ pub fn facts_that_change_lie_in_the_table()
         → (IsFact c.spec layout new fact → ⊥) → Lies c step Loss fact }
 {}
 
-/// What no tag of its symbol allows among the gains is there afterwards only where it was, and
-/// given only by what gave it; what none allows among the losses stays, and is given by what gave
-/// it.
+/// Where a step is made as its update is judged, a fact that no tag of its symbol allows among the
+/// gains is there afterwards only where it was, and is given only by what gave it; one that none
+/// allows among the losses stays, and is given by what gave it.
 pub fn what_no_tag_allows_stays()
     ensures gains { (c : Change) (layout : Layout) (step : Step) (old new : List ℕ)
         → IsMadeAsJudged c layout step old new → (fact : Fact) → (Lies c step Gain fact → ⊥)
         → IsFact c.spec layout new fact → IsFact c.spec layout old fact }
     ensures given { (c : Change) (layout : Layout) (step : Step) (old new : List ℕ)
-        → IsMadeAsJudged c layout step old new → (i : Instance) (fact : Fact) → (Lies c step Gain fact → ⊥)
+        → IsMadeAsJudged c layout step old new → (i : Instance) (fact : Fact)
+        → (Lies c step Gain fact → ⊥)
         → IsDerivedBy c.spec layout new i fact → IsDerivedBy c.spec layout old i fact }
     ensures losses { (c : Change) (layout : Layout) (step : Step) (old new : List ℕ)
         → IsMadeAsJudged c layout step old new → (fact : Fact) → (Lies c step Loss fact → ⊥)
         → IsFact c.spec layout old fact → IsFact c.spec layout new fact }
     ensures still { (c : Change) (layout : Layout) (step : Step) (old new : List ℕ)
-        → IsMadeAsJudged c layout step old new → (i : Instance) (fact : Fact) → (Lies c step Loss fact → ⊥)
+        → IsMadeAsJudged c layout step old new → (i : Instance) (fact : Fact)
+        → (Lies c step Loss fact → ⊥)
         → IsDerivedBy c.spec layout old i fact → IsDerivedBy c.spec layout new i fact }
 {}
 

@@ -1,9 +1,9 @@
 -- Four constraints of which an update is applied, by one step each.
-use Rattle.std.proofs.Common.{◌≡◌, ℕ, false, List, [], ◌∷◌, None, Some, inl, refl, slice_get, arith}
+use Rattle.std.proofs.Common.{◌≡◌, ℕ, false, List, [], ◌∷◌, None, Some, inl, refl, slice_get}
 use Rattle.dsr_step_laws.proofs.Choosing.{step_of}
 use Rattle.dsr_step_laws.proofs.Given.{image, slot}
 use Rattle.dsr_step_laws.proofs.Putting.{puts_byte_2, puts_byte_5}
-use Rattle.dsr_step_laws.proofs.Stepping.{joined, unmarked}
+use Rattle.dsr_step_laws.proofs.Stepping.{joined, unmarked, zero_one}
 use Rattle.dsr_step_laws.proofs.Tried.{plain, template_of}
 use Rattle.dsr_step_laws.proofs.Violated.{literal_of}
 use Rattle.dsr_repair_theory.specs.Applications.{FactsHold}
@@ -20,17 +20,15 @@ use Rattle.dsr_ir.specs.declared.constraints.Quant.{Quant}
 use Rattle.dsr_ir.specs.declared.constraints.Quant.TheVariants.{Each, Pairs}
 use Rattle.dsr_ir.specs.declared.constraints.Var.{Var}
 use Rattle.dsr_ir.specs.declared.constraints.Var.TheVariants.{First, Second}
-use Rattle.dsr_ir.specs.declared.declarations.Structures.{Structures}
 use Rattle.dsr_ir.specs.declared.rules.Op.TheVariants.{Eq}
 use Rattle.dsr_ir.specs.declared.tuples.Binding.{Binding}
 use Rattle.dsr_ir.specs.declared.tuples.Binding.TheVariants as bindings
 use Rattle.dsr_ir.specs.declared.updates.Goal.TheVariants.{SetValue}
 use Rattle.dsr_ir.specs.declared.updates.Pick.TheVariants as picks
 use Rattle.dsr_ir.specs.declared.updates.Template.{Template}
-use Rattle.dsr_ir.specs.declared.updates.Write.{Write}
 use Rattle.dsr_meaning.specs.Consistency.{IsBinding}
 use Rattle.dsr_meaning.specs.Truth.{LiteralHolds, element_of, head}
-use Rattle.dsr_step_laws.proofs.Beside.{nothing_together, together_more}
+use Rattle.dsr_step_laws.proofs.Beside.{one_together}
 use Rattle.dsr_step_theory.specs.Resets.{byte_cell}
 use Rattle.dsr_step_theory.specs.Steps.{IsStepped}
 use Rattle.dsr_step_theory.specs.Steps.AreWritten.{done, made}
@@ -39,14 +37,6 @@ use Rattle.dsr_template_laws.proofs.ListedTemplates.{tried_at}
 use Rattle.dsr_template_laws.specs.Judging.{Application, owner_of}
 use Rattle.dsr_template_laws.specs.Tried.{IsTried}
 use Rattle.dsr_update_theory.specs.Templates.{AreRawOf}
-use Rattle.dsr_update_theory.specs.Together.{MayStandTogether}
-
-zero_one : ◌≡◌ {A = ℕ} 0 1 → ⊥
-zero_one same = omega (arith, same)
-
--- one write stands beside none
-alone : (base : Structures) (w : Write) → MayStandTogether base (w ∷ [])
-alone base w = together_more base w [] (λ v among. absurd among) (nothing_together base)
 
 -- ---- v.value := 0, where v is slot 0
 
@@ -91,7 +81,7 @@ module _ (n : ℕ) (name : List ℕ) (quant : Quant) (v : Var) (b : Binding) (de
   pub assignment_tried : AreRawOf sharing (numbered name quant v 2 0) 0 0 (assigned v ∷ []) → IsTried assignment
   assignment_tried raw = record {
     tried = tried_at (owner_of assignment) 0 0 0 (literal_of (atoms.Value v 2 Eq (bounds.Num 0)) false) (assigned v) (assigned v ∷ []) (assign v) refl raw (inl refl) refl;
-    may = record { writes = alone _ _; fresh = tt };
+    may = record { writes = one_together _ _; fresh = tt };
   }
 
 -- x in C : x.V = 0, <h, y> in P : y.V = 0, x in A : x.V = 0
@@ -157,5 +147,5 @@ tried_marking known tells = refl
 pub marking_tried : IsTried marking
 marking_tried = record {
   tried = tried_at (owner_of marking) 0 0 0 marking.applied.literal marked (marked ∷ []) mark refl tried_marking (inl refl) refl;
-  may = record { writes = alone _ _; fresh = tt };
+  may = record { writes = one_together _ _; fresh = tt };
 }

@@ -8,7 +8,6 @@ use Rattle.dsr_step_laws.proofs.Giving.{at, element_same}
 use Rattle.dsr_step_laws.proofs.Model.{slots_differ}
 use Rattle.dsr_model_laws.proofs.Functional.{one_target}
 use Rattle.dsr_step_laws.proofs.GivenSymbols.{giver_of}
-use Rattle.dsr_repair_laws.proofs.FormItems.{giver_in}
 use Rattle.dsr_example_laws.proofs.Given.{base, entry_path, layout, leading, marking, numbers, pairing, rules, sharing, valuing}
 use Rattle.dsr_example_laws.proofs.Placed.{legal, placed}
 use Rattle.dsr_example_laws.proofs.Typed.{typed}
@@ -29,6 +28,7 @@ use Rattle.dsr_meaning.specs.Models.Chain.{begin, follow}
 use Rattle.dsr_meaning.specs.Truth.{head}
 use Rattle.dsr_template_laws.proofs.KnownMembers.{last}
 use Rattle.dsr_update_theory.specs.Givers.{IsGiver, givers, is_functional}
+use Rattle.dsr_plan_laws.proofs.KnownSets.{giver_in}
 
 -- the facts of the image
 abbrev pub IsTrueNow : Fact → Type 0

@@ -1,13 +1,11 @@
 -- The examples of applications have all that the laws on updates that are tried ask for.
-use Rattle.std.proofs.Common.{zero, suc, [], ◌∷◌, inl, inr, refl}
+use Rattle.std.proofs.Common.{inl, inr, refl}
 use Rattle.dsr_step_laws.proofs.Given.{example}
 use Rattle.dsr_step_laws.proofs.Shown.{example_0, example_1, example_2, example_3, example_4, example_5, example_6, example_8}
 use Rattle.dsr_step_laws.specs.Examples.{Example}
 use Rattle.dsr_effect_laws.specs.Allowed.{Lies}
-use Rattle.dsr_ir.specs.declared.declarations.Structures.{Structures}
 use Rattle.dsr_ir.specs.declared.updates.Goal.{Goal}
 use Rattle.dsr_ir.specs.declared.updates.Goal.TheVariants.{AddSet, RemoveSet, AddTuple, RemoveTuple, SetValue, Trim, Supply, ExactlyOne}
-use Rattle.dsr_ir.specs.declared.updates.Write.{Write}
 use Rattle.dsr_graph_theory.specs.Sides.{MayBeMade, MayServe}
 use Rattle.dsr_template_laws.proofs.Helped.{helped}
 use Rattle.dsr_template_laws.proofs.ListedTemplates.{tried_at}
@@ -18,17 +16,11 @@ use Rattle.dsr_template_laws.specs.Tried.{IsTried}
 use Rattle.dsr_update_theory.specs.Avoided.{IsAvoided}
 use Rattle.dsr_update_theory.specs.Facts.{exclusive}
 use Rattle.dsr_update_theory.specs.KnownSets.{IsKnown}
-use Rattle.dsr_update_theory.specs.Together.{MayStandTogether}
 use Rattle.dsr_update_theory.specs.declared.effects.Direction.{Direction}
 use Rattle.dsr_update_theory.specs.declared.effects.Direction.TheVariants.{Gain, Loss}
 use Rattle.dsr_example_laws.specs.Examples.{HasTriedExample, application_of}
 use Rattle.dsr_example_laws.proofs.KeptSymbols.{a_stays, clear_keeps, cut_keeps, unmark_keeps}
-
--- one write stands beside none
-one_together : (base : Structures) (w : Write) → MayStandTogether base (w ∷ [])
-one_together base w zero zero a b other one two = absurd (other refl)
-one_together base w zero (suc j) a b other one two = absurd cc
-one_together base w (suc i) j a b other one two = absurd cc
+use Rattle.dsr_step_laws.proofs.Beside.{one_together}
 
 -- ---- each can be made as it is judged
 

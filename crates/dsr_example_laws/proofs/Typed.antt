@@ -1,5 +1,5 @@
 -- The specification of the examples is typed.
-use Rattle.std.proofs.Common.{◌≡◌, ◌≤◌, ◌<◌, ◌^◌, ◌∙◌, ℕ, suc, Bool, true, false, IsTrue, List, [], ◌∷◌, length, codes, All, None, Some, IsSomeAnd, map, slice_get, inl, inr, refl, sym, ap, subst, arith}
+use Rattle.std.proofs.Common.{◌≡◌, ◌<◌, ◌^◌, ◌∙◌, ℕ, suc, Bool, true, false, IsTrue, List, [], ◌∷◌, length, codes, All, None, Some, IsSomeAnd, map, slice_get, inl, inr, refl, sym, ap, subst, arith}
 use Rattle.dsr_step_laws.proofs.Given.{constraint_of, path_to, scalar}
 use Rattle.dsr_step_laws.proofs.Items.{all_such, are_different, differ, each_is}
 use Rattle.dsr_example_laws.proofs.Given.{base, constraints, entry_path, head_structure, leading, marking, marks, marks_place, node_structure, nodes, numbered, pairing, rules, set_of_nodes, sharing, valuing}
@@ -17,19 +17,12 @@ use Rattle.dsr_ir.specs.declared.declarations.Kind.TheVariants.{Number, Refers}
 use Rattle.dsr_ir.specs.declared.rules.Op.TheVariants.{Eq, Le}
 use Rattle.dsr_ir.specs.declared.rules.Path.{Path}
 use Rattle.dsr_ir.specs.declared.rules.Rule.{Rule}
-use Rattle.dsr_meaning.proofs.Counts.{no_more}
 use Rattle.dsr_meaning.specs.Cells.{width_bits}
-use Rattle.dsr_meaning.specs.Counting.{AreMany, IsIn}
 use Rattle.dsr_meaning.specs.Instances.{declared_field}
-use Rattle.dsr_meaning.specs.Typed.{AreDifferent, AreTyped, FitsValues, HasAtom, HasName, IsFieldOf, IsOtherStructure, IsPlainSetOf, IsPoolNumber, IsTyped, IsTypedAtom, IsTypedConj, IsTypedConstraint, IsTypedField, IsTypedGuard, IsTypedLiteral, IsTypedPath, IsTypedPool, IsTypedQuant, IsTypedRel, IsTypedRule, IsTypedSet, IsTypedStructure, MayBeNegated, Relates, pool_of_var, premise_structure, symbol_names}
+use Rattle.dsr_meaning.specs.Typed.{AreDifferent, AreTyped, FitsValues, HasName, IsFieldOf, IsOtherStructure, IsPlainSetOf, IsPoolNumber, IsTyped, IsTypedAtom, IsTypedConj, IsTypedConstraint, IsTypedField, IsTypedGuard, IsTypedLiteral, IsTypedPath, IsTypedPool, IsTypedQuant, IsTypedRel, IsTypedRule, IsTypedSet, IsTypedStructure, MayBeNegated, Relates, pool_of_var, premise_structure, symbol_names}
+use Rattle.dsr_step_laws.proofs.Typed.{few_atoms, never, number_named, refers_named}
 
 -- ---- structures
-
-refers_named : (name : List ℕ) → HasName (scalar name (Refers 1))
-refers_named name gap = absurd cc
-
-number_named : (name : List ℕ) → HasName (scalar name (Number 0))
-number_named name gap = absurd cc
 
 marks_named : HasName marks
 marks_named gap = absurd cc
@@ -224,23 +217,7 @@ rules_typed =
 
 -- ---- constraints
 
--- a constraint of one literal has one atom
-one_atom : (name : List ℕ) (quant : Quant) (atom : Atom) (negated : Bool) (a : Atom) → HasAtom (constraint_of name quant atom negated) a → IsIn a (atom ∷ [])
-one_atom name quant atom negated a (conj, literal, in_conjs, in_literals, is) =
-    elim in_conjs as (λ _. IsIn a (atom ∷ [])) [
-      | inl same ↦ elim (subst (λ c. IsIn literal c.literals) same in_literals) as (λ _. IsIn a (atom ∷ [])) [
-        | inl only ↦ inl (sym is ∙ ap (λ l. l.atom) only)
-        | inr more ↦ absurd more
-      ]
-      | inr more ↦ absurd more
-    ]
-
-few_atoms : (name : List ℕ) (quant : Quant) (atom : Atom) (negated : Bool) (n : ℕ) → AreMany (HasAtom (constraint_of name quant atom negated)) n → n ≤ 8
-few_atoms name quant atom negated n many =
-    let one : length many.things ≤ 1 = no_more many.things (atom ∷ []) many.enumerated.distinct (λ a i. one_atom name quant atom negated a (many.enumerated.only a i)) in
-    omega (arith, one, many.counted)
-
--- it is typed where its atom is
+-- a constraint of one literal is typed where its atom is
 constraint_typed : (name : List ℕ) (quant : Quant) (atom : Atom) (negated : Bool) → IsTypedQuant base quant → IsTypedAtom sharing quant atom → (IsTrue negated → MayBeNegated atom) → IsTypedConstraint sharing (constraint_of name quant atom negated)
 constraint_typed name quant atom negated quant_is atom_is may = record {
   quant = quant_is;
@@ -254,9 +231,6 @@ constraint_typed name quant atom negated quant_is atom_is may = record {
   );
   few_atoms = few_atoms name quant atom negated;
 }
-
-never : {A : Type 0} → IsTrue false → A
-never h = absurd cc
 
 -- each field that a rule reads has a byte
 of_byte : (rule item : Rule) (path : Path) (k : ℕ) (f : Field) → k < 256 → IsSomeAnd (target_of item.inc) (λ p. IsSomeAnd (declared_field base p.field) (λ g. 256 ≡ 2 ^ width_bits g.width)) → rule ≡ item → target_of rule.inc ≡ Some path → declared_field base path.field ≡ Some f → k < 2 ^ width_bits f.width

@@ -25,15 +25,17 @@ use Rattle.dsr_update_theory.specs.declared.effects.Tag.TheVariants.{Written, En
 pub data Kind : Type 0 where
   own_binding different_records targets_apart other_entry : Kind
 
--- such an excuse, where the change is at the record of the variable `v`, or at the entry of its
+-- a change is excused so, where it is at the record of the variable `v`, or at the entry of its
 -- slot, and the other constraint reads at its variable `at`
 abbrev pub IsExcuseOf : Kind → Owner → Owner → Change → Cause → Var → Var → Type 0
 IsExcuseOf own_binding owner other c cause v at =
     HappensOnlyAt c cause.reason Written × (c.update.place ≡ Of v) × IsSameBinding owner other v at
 IsExcuseOf different_records owner other c cause v at =
-    HappensOnlyAt c cause.reason Written × (c.update.place ≡ Of v) × AreDifferentRecords owner other v at
+    HappensOnlyAt c cause.reason Written × (c.update.place ≡ Of v)
+    × AreDifferentRecords owner other v at
 IsExcuseOf targets_apart owner other c cause v at =
-    HappensOnlyAt c cause.reason Written × (c.update.place ≡ Of v) × AreSecondsApart owner other v at
+    HappensOnlyAt c cause.reason Written × (c.update.place ≡ Of v)
+    × AreSecondsApart owner other v at
 IsExcuseOf other_entry owner other c cause v at =
     HappensOnlyAt c cause.reason Entry × (c.update.at ≡ SlotOf v) × (owner.spec.base.version ≡ 2)
     × AreDifferentRecords owner other v at
@@ -54,13 +56,16 @@ pub record ExcusedCase (kind : Kind) : Type 0 where
   pub at : Var
   pub read_at : cause.at ≡ Some at
   pub excuse :
-      IsExcuseOf kind (owner_of application) (owner_at application.spec number constraint) (change_in application) cause
-      own at
+      IsExcuseOf kind (owner_of application) (owner_at application.spec number constraint)
+      (change_in application) cause own at
   pub spared :
-      Breaks (owner_of application) (owner_at application.spec number constraint) application.template None
+      Breaks (owner_of application) (owner_at application.spec number constraint)
+      application.template None
   pub binding : Binding
   pub other : binding ≢ application.step.binding
-  pub is_binding : IsBinding (IsFact application.spec application.layout application.old) constraint.quant binding
+  pub is_binding :
+      IsBinding (IsFact application.spec application.layout application.old) constraint.quant
+      binding
   pub holds :
       IsViolated (IsFact application.spec application.layout application.old) application.spec
       (record { constraint = number; binding = binding })

@@ -51,9 +51,7 @@ use Rattle.dsr_update_theory.specs.Changes.{Change}
 use Rattle.dsr_update_theory.specs.Effects.{InTable}
 use Rattle.dsr_update_theory.specs.Templates.{literal_at}
 use Rattle.dsr_update_theory.specs.declared.effects.Tag.{Tag}
-
-same_records : (e f : Element) → e.pool ≡ f.pool → e.slot ≡ f.slot → e ≡ f
-same_records e f pool slot = λ k. record { pool = pool k; slot = slot k }
+use Rattle.dsr_meaning.proofs.Ordered.{same_element}
 
 literal_there : (c : Constraint) (conj : Conj) (literal : Literal) → c.conjs ≡ conj ∷ [] → conj.literals ≡ literal ∷ [] → literal_at c 0 0 ≡ Some literal
 literal_there c conj literal conjs literals =
@@ -198,13 +196,13 @@ module _ (owner other : Owner) (typed : IsTyped owner.spec) (layout : Layout) (b
       let in_b : element_of b v ≡ Some e = subst (λ w. element_of b w ≡ Some e) (sym s.same_var) at_b in
       let one = var_pool owner.spec bytes layout is typed own owner.constraint.quant own own_bound v f at_own in
       let two = var_pool owner.spec bytes layout is typed own owner.constraint.quant b (bound_here s.same_constraint) v e in_b in
-      let same : e ≡ f = same_records e f (same_Some e.pool f.pool (sym two ∙ one)) slots in
+      let same : e ≡ f = same_element e f (same_Some e.pool f.pool (sym two ∙ one)) slots in
       own_excused v at s f at_own (at_b ∙ ap Some same)
   slot_excused v at (IsExcusedAtSlot.different version d) f e at_own at_b slots =
       let one = known_holds owner.spec typed layout bytes owner.constraint.quant own own_bound d.known f at_own in
       let two = known_holds owner.spec typed layout bytes other.constraint.quant b bound d.other_known e at_b in
       let pools = said_pools owner.spec typed layout bytes is owner.number d.set d.other_set (said owner.spec owner.number d.set d.other_set d.exclusive) f e one two in
-      let same : e ≡ f = same_records e f (sym pools) slots in
+      let same : e ≡ f = same_element e f (sym pools) slots in
       different_excused v at d f at_own (at_b ∙ ap Some same)
 
   entry_excused : (stopped : Option Instance) (which : At) (at : Var) → IsExcusedAtEntry owner other which at → (k : ℕ) (e : Element) → IsEntryAt own stopped which k → e.slot ≡ k → element_of b at ≡ Some e → ⊥

@@ -19,7 +19,8 @@ pub record IsListedWay (owner : Owner) (conj literal way : ℕ) (template : Temp
   pub template_is : slice_get templates way ≡ Some template
 
 -- one of the template's updates is applied for this literal of the constraint
-pub record IsApplicationOf (owner : Owner) (conj literal : ℕ) (template : Template) (a : Application) : Type 0 where
+pub record IsApplicationOf (owner : Owner) (conj literal : ℕ) (template : Template)
+    (a : Application) : Type 0 where
   pub spec_is : a.spec ≡ owner.spec
   pub constraint_is : a.step.constraint ≡ owner.number
   pub conj_is : a.step.conj ≡ conj
@@ -30,8 +31,10 @@ pub record IsApplicationOf (owner : Owner) (conj literal : ℕ) (template : Temp
 abbrev pub ViolatesNoMore : Application → ℕ → Type 0
 ViolatesNoMore a constraint =
     (b : Binding)
-    → IsViolated (IsFact a.spec a.layout a.new) a.spec (record { constraint = constraint; binding = b })
-    → IsViolated (IsFact a.spec a.layout a.old) a.spec (record { constraint = constraint; binding = b })
+    → IsViolated (IsFact a.spec a.layout a.new) a.spec
+    (record { constraint = constraint; binding = b })
+    → IsViolated (IsFact a.spec a.layout a.old) a.spec
+    (record { constraint = constraint; binding = b })
 
 -- the literal is true afterwards under each binding under which it was so before
 abbrev pub StaysTrue : Application → Literal → Type 0

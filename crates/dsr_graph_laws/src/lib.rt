@@ -24,28 +24,34 @@ ghost use Rattle.dsr_template_laws.specs.Judging.{Application, IsListed, owner_o
 ghost use Rattle.dsr_template_laws.specs.Tried.{IsTried};
 ghost use Rattle.dsr_update_theory.specs.Templates.{literal_at};
 
-/// Where the template falsifies no other literal of the conjunction, no application of one of its
-/// updates makes another literal of the conjunction false that was true, under any binding. The
-/// update is of a template that is tried for the literal, and can be made as it is judged.
+/// Where a template that is tried for a literal falsifies no other literal of the conjunction, no
+/// application of one of its updates, which can be made as it is judged, makes another literal of
+/// the conjunction false that was true, under any binding.
 pub fn tried_updates_falsify_nothing_else()
-    ensures { (a : Application) → IsTried a → Falsifies (owner_of a) a.step.conj a.step.literal a.template None
+    ensures { (a : Application) → IsTried a
+        → Falsifies (owner_of a) a.step.conj a.step.literal a.template None
         → (n : ℕ) (literal : Literal) (b : Binding) → n ≢ a.step.literal
         → literal_at a.applied.violated.constraint a.step.conj n ≡ Some literal
         → LiteralHolds (IsFact a.spec a.layout a.old) b literal
         → LiteralHolds (IsFact a.spec a.layout a.new) b literal }
 {}
 
-/// Where the template breaks a constraint for no reason, each binding of it that is violated after
-/// an application of one of the template's updates was so before.
+/// Where a template that is tried for a literal breaks a constraint for no reason, each binding of
+/// the constraint that is violated after an application of one of the template's updates, which can
+/// be made as it is judged, was so before.
 pub fn tried_updates_break_nothing()
     ensures { (a : Application) → IsTried a → (broken : ℕ) (b : Binding)
         → (violated : IsViolated (IsFact a.spec a.layout a.new) a.spec
         (record { constraint = broken; binding = b }))
         → Breaks (owner_of a) (owner_at a.spec broken violated.constraint) a.template None
-        → IsViolated (IsFact a.spec a.layout a.old) a.spec (record { constraint = broken; binding = b }) }
+        → IsViolated (IsFact a.spec a.layout a.old) a.spec
+        (record { constraint = broken; binding = b }) }
 {}
 
-/// So it is with each listed template.
+/// Where a listed template falsifies no other literal of the conjunction, no application of one of
+/// its updates makes another literal of the conjunction false that was true; and where it breaks a
+/// constraint for no reason, each binding of the constraint that is violated afterwards was so
+/// before.
 pub fn listed_updates_break_and_falsify_nothing()
     ensures falsifies { (a : Application) (number : ℕ) → IsListed a number
         → Falsifies (owner_of a) a.step.conj a.step.literal a.template None
@@ -57,10 +63,11 @@ pub fn listed_updates_break_and_falsify_nothing()
         → (violated : IsViolated (IsFact a.spec a.layout a.new) a.spec
         (record { constraint = broken; binding = b }))
         → Breaks (owner_of a) (owner_at a.spec broken violated.constraint) a.template None
-        → IsViolated (IsFact a.spec a.layout a.old) a.spec (record { constraint = broken; binding = b }) }
+        → IsViolated (IsFact a.spec a.layout a.old) a.spec
+        (record { constraint = broken; binding = b }) }
 {}
 
-/// Whoever asked of a listed template why it breaks the other constraint, and was told that it
+/// Whoever asked of a listed template why it breaks another constraint, and was told that it
 /// doesn't, has this of each application of its updates: no binding of that constraint is violated
 /// afterwards that wasn't before.
 pub fn ways_that_break_nothing_violate_no_more()
@@ -68,11 +75,13 @@ pub fn ways_that_break_nothing_violate_no_more()
         → IsListedWay owner conj literal way template
         → (other : ℕ) (its : Constraint) → slice_get owner.spec.constraints other ≡ Some its
         → Breaks owner (owner_at owner.spec other its) template None
-        → (a : Application) → IsApplicationOf owner conj literal template a → ViolatesNoMore a other }
+        → (a : Application) → IsApplicationOf owner conj literal template a
+        → ViolatesNoMore a other }
 {}
 
-/// Whoever asked which other literal of the conjunction it may falsify, and was told that there is
-/// none, has this: each of them stays true where it was.
+/// Whoever asked which other literal of the conjunction a listed template may falsify, and was told
+/// that there is none, has this of each application of its updates: each other literal stays true
+/// where it was.
 pub fn ways_that_falsify_nothing_keep_literals()
     ensures { (owner : Owner) (conj literal way : ℕ) (template : Template)
         → IsListedWay owner conj literal way template → Falsifies owner conj literal template None
@@ -81,8 +90,9 @@ pub fn ways_that_falsify_nothing_keep_literals()
         → StaysTrue a its }
 {}
 
-/// There is no first reason exactly where no reason is the first, which is where no cause of the
-/// constraint may break it. So it is with the first literal that is falsified.
+/// A template breaks a constraint for no reason exactly where no reason is the first one, which is
+/// where no cause of the constraint may break it. It falsifies no literal exactly where no literal
+/// is the first one that it falsifies.
 pub fn no_reason_is_none()
     ensures breaks { (owner other : Owner) (template : Template)
         → Breaks owner other template None

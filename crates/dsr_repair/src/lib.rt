@@ -1,7 +1,9 @@
-//! Repair of an image by a plan: which step is due, the step made on the image with what is told of it, and one after
-//! the other until the image is consistent or a supply is empty, with a log of them.
+//! Repair of an image by a plan: which step is due, the step made on the image with what is told of
+//! it, and one after the other until the image is consistent or a supply is empty, with a log of
+//! them.
 //!
-//! That a violated constraint is repaired by making the literals of one conjunction true is after OOPSLA 2003.
+//! That a violated constraint is repaired by making the literals of one conjunction true is after
+//! OOPSLA 2003.
 #![tactic(auto)]
 
 mod bindings;

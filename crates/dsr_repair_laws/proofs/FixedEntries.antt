@@ -1,6 +1,6 @@
 -- The cell of a fixed field is that of an entry which the head has, and lies in the head.
 use Rattle.std.proofs.Common.{◌≡◌, ◌<◌, ◌≤◌, ◌+◌, ◌*◌, ◌∙◌, ℕ, zero, suc, true, false, ◌&&◌, nat_eq, List, [], ◌∷◌, length, take, Option, None, Some, is_none, option_map, option_and_then, slice_get, if◌then◌else◌, refl, sym, ap, subst, arith}
-use Rattle.std.specs.Prelude.{IsSome, MatchBool, IsSomeAnd}
+use Rattle.std.specs.Prelude.{MatchBool, IsSomeAnd}
 use Rattle.std.specs.Option.{option_map_or}
 use Rattle.dsr_layout_laws.specs.Entries.{IsEntry}
 use Rattle.dsr_ir.specs.Layouts.{pool_numbers, field_place}
@@ -30,6 +30,7 @@ use Rattle.dsr_meaning.specs.Places.{bit_behind_fields, end_of, entries_of, exte
 use Rattle.dsr_meaning.specs.Refusals.{IsLayoutOf}
 use Rattle.dsr_resolve.proofs.PlacesOfFields.{collected_has, mapped_before}
 use Rattle.dsr_repair_laws.proofs.KnownLengths.{behind_keeps, end_keeps, then_keeps}
+use Rattle.dsr_meaning.proofs.Options.{some_of}
 
 -- ---- where a fixed field is declared
 
@@ -145,10 +146,6 @@ order_is base bytes layout is =
 -- bits of the image are those of the head
 head_bits : (layout : Layout) (e : Element) (bits : ℕ) → e.pool ≡ 0 → bits ≤ 8 * layout.length → HasBits layout e bits
 head_bits layout e bits head within = subst (λ p. MatchBool (nat_eq p 0) (bits ≤ 8 * layout.length) (IsSomeAnd (pool_numbers layout p) (λ n. (e.slot < n.count) × (bits ≤ 8 * n.slot)))) (sym head) within
-
-some_of : {A : Type 0} (o : Option A) → IsSome o → (x : A) × (o ≡ Some x)
-some_of None is = absurd cc
-some_of (Some x) is = (x, refl)
 
 -- the head has the entry, whose cell lies in the head
 pub record IsFixedEntry (spec : Spec) (bytes : List ℕ) (layout : Layout) (e : Element) (k : ℕ) (cell : Cell) : Type 0 where

@@ -1,7 +1,6 @@
 -- Items of what rules of a symbol give.
-use Rattle.std.proofs.Common.{◌≡◌, ◌⊎◌, ℕ, true, List, [], ◌∷◌, Option, None, Some, inl, inr, refl, sym, ap, subst, arith}
+use Rattle.std.proofs.Common.{◌≡◌, ℕ, true, List, [], Option, None, Some, inl, inr, sym, ap, subst, arith}
 use Rattle.std.specs.Prelude.{slice_get, if◌then◌else◌}
-use Rattle.std.specs.List.{cons_option}
 use Rattle.std.proofs.lemmas.Bool.{eqb-true, false≢true}
 use Rattle.dsr_ir.specs.Rules.{gives, is_same_symbol}
 use Rattle.dsr_ir.specs.declared.updates.Symbol.TheVariants as symbols
@@ -10,8 +9,8 @@ use Rattle.dsr_ir.specs.declared.rules.Rule.{Rule}
 use Rattle.dsr_ir.specs.declared.updates.Symbol.{Symbol}
 use Rattle.dsr_meaning.specs.Counting.{IsIn}
 use Rattle.dsr_update_theory.specs.Templates.{listed}
-use Rattle.dsr_update_theory.specs.Givers.{IsGiver, each_giver, givers}
-use Rattle.dsr_meaning.proofs.Items.{at_each, in_each_at, passed_in}
+use Rattle.dsr_update_theory.specs.Givers.{IsGiver, each_giver}
+use Rattle.dsr_meaning.proofs.Items.{in_each_at, passed_in}
 
 -- what is listed of an option
 pub of_listed : {T : Type 0} (o : Option T) (x : T) → IsIn x (listed o) → o ≡ Some x
@@ -46,30 +45,3 @@ in_giver spec symbol f y is_in =
       giver = record { rule_is = subst (λ k. slice_get spec.rules k ≡ Some found.item) number found.item_is; gives = given.0 };
       is_in = given.1;
     }
-
--- a rule of the symbol is listed with its number
-pub giver_in : (spec : Spec) (symbol : Symbol) (k : ℕ) (rule : Rule) → IsGiver spec symbol k rule → IsIn (k, rule) (givers spec symbol)
-giver_in spec symbol k rule giver =
-    at_each (λ n r. if gives symbol r.inc then (n, r) ∷ [] else []) 0 spec.rules (k, rule) k rule giver.rule_is k (omega arith)
-    (subst (λ b. IsIn {A = ℕ × Rule} (k, rule) (if b then (k, rule) ∷ [] else [])) (sym giver.gives) (inl refl))
-
--- and what is listed is one
-pub in_givers : (spec : Spec) (symbol : Symbol) (r : ℕ × Rule) → IsIn r (givers spec symbol) → IsGiver spec symbol r.0 r.1
-in_givers spec symbol r is_in =
-    let found = in_giver spec symbol (λ k rule. (k, rule) ∷ []) r is_in in
-    let same : r ≡ (found.number, found.rule) = elim found.is_in as (λ _. r ≡ (found.number, found.rule)) [ inl e ↦ e | inr n ↦ absurd n ] in
-    subst (λ (x : ℕ × Rule). IsGiver spec symbol x.0 x.1) (sym same) found.giver
-
--- ---- what is made of some items alone
-
-in_option : {B : Type 0} (o : Option B) (ys : List B) (y : B) → IsIn y (cons_option o ys) → (o ≡ Some y) ⊎ IsIn y ys
-in_option None ys y is_in = inr is_in
-in_option (Some z) ys y (inl same) = inl (ap Some (sym same))
-in_option (Some z) ys y (inr later) = inr later
-
-option_in : {B : Type 0} (o : Option B) (ys : List B) (y : B) → o ≡ Some y → IsIn y (cons_option o ys)
-option_in o ys y is = subst (λ p. IsIn y (cons_option p ys)) (sym is) (inl refl)
-
-behind_option : {B : Type 0} (o : Option B) (ys : List B) (y : B) → IsIn y ys → IsIn y (cons_option o ys)
-behind_option None ys y is_in = is_in
-behind_option (Some z) ys y is_in = inr is_in

@@ -25,7 +25,7 @@ use Rattle.dsr_plan_theory.specs.declared.choices.Way.{Way}
 use Rattle.dsr_plan_theory.specs.declared.choices.Way.TheVariants.{By}
 use Rattle.dsr_repair_theory.specs.Due.{IsDue}
 use Rattle.dsr_update_theory.specs.Templates.{AreRaw, KnownSets, TellsKnown, literal_at}
-use Rattle.dsr_repair_laws.proofs.KnownSets.{told}
+use Rattle.dsr_plan_laws.proofs.KnownSets.{told}
 use Rattle.dsr_meaning.proofs.Items.{in_either, in_flat, in_map, item_at}
 
 -- ---- what is listed

@@ -18,7 +18,7 @@ use Rattle.dsr_meaning.specs.Counting.{IsIn}
 use Rattle.dsr_meaning.specs.Looking.{IsCounted, IsGreatestFact}
 use Rattle.dsr_meaning.specs.Orders.{FactPrecedes, Precedes, TargetPrecedes}
 use Rattle.dsr_meaning.specs.Truth.{element_of}
-use Rattle.dsr_repair_laws.proofs.KnownSets.{maybe_same}
+use Rattle.dsr_plan_laws.proofs.KnownSets.{maybe_same}
 
 -- ---- an order of which one is the greatest
 

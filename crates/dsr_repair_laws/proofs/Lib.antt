@@ -10,7 +10,6 @@ pub mod MakingValues
 pub mod MakingCompensations
 pub mod MakingSteps
 pub mod FormItems
-pub mod KnownSets
 pub mod Forms
 pub mod BoundVars
 pub mod Choosable

@@ -73,7 +73,7 @@ pub record FitsField (spec : Spec) (layout : Layout) (step : Step) (field : Fiel
   pub number_is : picked_number spec layout step field pick ≡ Some number
   pub fits : number < 2 ^ width_bits f.width
 
-referred_number : (base : Structures) (f : Field) (kind : Kind) (pool : ℕ) → IsTypedKind base f kind → kind_pool kind ≡ Some pool → IsPoolNumber base pool
+pub referred_number : (base : Structures) (f : Field) (kind : Kind) (pool : ℕ) → IsTypedKind base f kind → kind_pool kind ≡ Some pool → IsPoolNumber base pool
 referred_number base f (Number init) pool typed e = absurd cc
 referred_number base f (Refers p) pool typed e = subst (IsPoolNumber base) (same_Some p pool e) typed
 referred_number base f Gap pool typed e = absurd cc

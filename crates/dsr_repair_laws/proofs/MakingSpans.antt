@@ -1,6 +1,6 @@
 -- A slot of a pool is an index of a span that counts the pool's slots.
-use Rattle.std.proofs.Common.{◌≡◌, ◌<◌, ◌-◌, ◌∙◌, ℕ, false, nat_eq, List, length, Option, None, Some, sym, ap, subst, slice_get, unwrap_or, if◌then◌else◌, arith}
-use Rattle.std.specs.Prelude.{option_map}
+use Rattle.std.proofs.Common.{Bool, IsSome, List, None, Option, Some, ap, arith, false, if◌then◌else◌, length, nat_eq, slice_get, subst, sym, true, unwrap_or, ℕ, ◌-◌, ◌<◌, ◌∙◌, ◌≡◌}
+use Rattle.std.specs.Prelude.{MatchBool, option_map}
 use Rattle.std.specs.Option.{option_and_then, option_map_or}
 use Rattle.std.proofs.lemmas.Bool.{ne_eqb}
 use Rattle.dsr_ir.specs.Layouts.{pool_numbers}
@@ -16,28 +16,24 @@ use Rattle.dsr_layout.proofs.Collecting.{collected_item}
 use Rattle.dsr_layout.proofs.Fitting.{pool_found}
 use Rattle.dsr_layout.proofs.LegalLayout.{as_many, built}
 use Rattle.dsr_layout.proofs.LegalPools.{counted}
-use Rattle.dsr_layout.proofs.SameCounts.{as_long, counts_slots, records_of}
+use Rattle.dsr_layout.proofs.SameCounts.{as_long, counts_slots, numbers_count, records_of}
 use Rattle.dsr_meaning.specs.Expressions.{value_of}
 use Rattle.dsr_meaning.specs.FixedFields.{fixed_value}
 use Rattle.dsr_meaning.specs.Instances.{declared_field, index_count, record_count}
 use Rattle.dsr_meaning.specs.Layouts.{layout_of, pool_of, slot_bytes}
 use Rattle.dsr_meaning.specs.Places.{size_of}
-use Rattle.dsr_meaning.specs.Typed.{CountsSlots, IsPoolNumber, IsTypedSpan, pool_at}
+use Rattle.dsr_meaning.specs.Typed.{CountsSlots, IsPoolNumber, IsTypedSpan, RunsOver, pool_at}
 use Rattle.dsr_meaning.proofs.Items.{item_there}
 use Rattle.dsr_resolve.proofs.PlacesOfFields.{place_of}
 use Rattle.dsr_meaning.proofs.Options.{chained_from}
+use Rattle.dsr_ir.specs.Exprs.{ExprShape}
 
--- the count of a pool's numbers is the one that was computed
-numbers_count : (count slot start code step none : Option ℕ) (n : PoolNumbers) → option_and_then (λ count. option_and_then (λ slot. option_and_then (λ start. option_and_then (λ code. option_and_then (λ step. option_map (λ none. record { start = start; slot = slot; count = count; code = code; step = step; none = none }) none) step) code) start) slot) count ≡ Some n → count ≡ Some n.count
-numbers_count None slot start code step nothing n is = absurd cc
-numbers_count (Some c) None start code step nothing n is = absurd cc
-numbers_count (Some c) (Some l) None code step nothing n is = absurd cc
-numbers_count (Some c) (Some l) (Some s) None step nothing n is = absurd cc
-numbers_count (Some c) (Some l) (Some s) (Some k) None nothing n is = absurd cc
-numbers_count (Some c) (Some l) (Some s) (Some k) (Some t) None n is = absurd cc
-numbers_count (Some c) (Some l) (Some s) (Some k) (Some t) (Some o) n is =
-    let made : ◌≡◌ {A = PoolNumbers} (record { start = s; slot = l; count = c; code = k; step = t; none = o }) n = cc in
-    ap (λ m. Some m.count) made
+-- an index runs over arrays alone
+pub indexed_some : (base : Structures) (span : Span) (indexed : Bool) (len : Option ExprShape) → MatchBool indexed (RunsOver base span len) (len ≡ None) → MatchBool indexed (IsSome len) (len ≡ None)
+indexed_some base span false len of = of
+indexed_some base (Array place) true len of = of.0
+indexed_some base Single true len of = absurd of
+indexed_some base (Slots pool) true len of = absurd of
 
 module _ (base : Structures) (bytes : List ℕ) (layout : Layout) (is : layout_of base bytes ≡ Some layout) where
   abbrev fixed : ℕ → Option ℕ

@@ -41,13 +41,13 @@ module _ (spec : Spec) (choice : Choice) (layout : Layout) (bytes : List ℕ) (s
   there : IsTypedIn spec c its
   there = typed_in spec image.typed step.constraint c step.conj step.literal its due.due.binding_is.row_of.constraint_is due.due.literal_is.repaired.literal_is
 
-  bound : IsBinding (IsFact spec layout bytes) c.quant step.binding
+  pub bound : IsBinding (IsFact spec layout bytes) c.quant step.binding
   bound =
       let violated = due.due.binding_is.violated in
       let same : violated.constraint ≡ c = same_Some violated.constraint c (sym violated.declared ∙ due.due.binding_is.row_of.constraint_is) in
       subst (λ (x : Constraint). IsBinding (IsFact spec layout bytes) x.quant step.binding) same violated.is_binding
 
-  tried : IsTriedStep spec layout bytes step update
+  pub tried : IsTriedStep spec layout bytes step update
   tried =
       let owner = owner_at spec step.constraint c in
       let form = row_form spec choice step.constraint c due.due.row step.conj step.literal its due.template plan due.due.binding_is.row_of due.due.literal_is.repaired.literal_is due.due.literal_is.repaired.template_is in

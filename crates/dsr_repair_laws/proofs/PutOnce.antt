@@ -7,8 +7,8 @@ use Rattle.std.specs.Prelude.{slice_index, MatchBool, if◌then◌else◌}
 use Rattle.dsr_ir.specs.declared.declarations.Order.{Order}
 use Rattle.dsr_ir.specs.declared.declarations.Order.TheVariants.{Little, Big}
 use Rattle.dsr_ir.specs.declared.layouts.Cell.{Cell}
-use Rattle.dsr_meaning.proofs.Values.{cell_stays}
-use Rattle.dsr_meaning.specs.Cells.{IsByteWidth, IsFieldCell, bit_of, bits_value, bytes_value, cell_value}
+use Rattle.dsr_meaning.proofs.Values.{cell_stays, whole_width}
+use Rattle.dsr_meaning.specs.Cells.{IsByteWidth, IsFieldCell, bit_of, bits_value, bytes_value}
 use Rattle.dsr_meaning.specs.Writes.{AreBytes}
 use Rattle.dsr_step_theory.specs.Puts.{IsPut}
 use Rattle.dsr_step_theory.specs.Resets.{byte_cell}
@@ -48,13 +48,6 @@ at_or_behind P at j from here behind = elim (cases_lt at j) as (λ _. P j) [
   | inl less ↦ behind (omega (arith, less))
   | inr to ↦ let same : at ≡ j = omega (arith, from, to) in subst P same here
 ]
-
--- such a width is one of whole bytes
-whole_width : (width : ℕ) → IsByteWidth width → 8 * (width / 8) ≡ width
-whole_width width (inl e) = omega (arith, e)
-whole_width width (inr (inl e)) = omega (arith, e)
-whole_width width (inr (inr (inl e))) = omega (arith, e)
-whole_width width (inr (inr (inr e))) = omega (arith, e)
 
 module _ (a b : List ℕ) where
   bits_same :

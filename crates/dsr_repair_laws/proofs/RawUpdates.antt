@@ -23,13 +23,13 @@ use Rattle.dsr_meaning.specs.Typed.{MayBeNegated}
 use Rattle.dsr_update_theory.specs.Givers.{givers}
 use Rattle.dsr_update_theory.specs.Options.{options}
 use Rattle.dsr_update_theory.specs.Templates.{AreRaw, KnownSets, item_or_last, removal_updates, removing}
-use Rattle.dsr_repair_laws.proofs.FormItems.{in_givers}
 use Rattle.dsr_repair_laws.proofs.TakenGoals.{adder_takes_none, adds_take_none, taking_takes}
 use Rattle.dsr_repair_laws.proofs.TriedTemplates.{IsRemoval, RawForm, raw_form}
 use Rattle.dsr_repair_laws.proofs.TriedUpdates.{IsAdder, IsRawUpdate, IsRemoving, taken_var}
 use Rattle.dsr_meaning.proofs.Items.{in_filter, item_at, only_item}
 use Rattle.dsr_meaning.proofs.Options.{mapped_from}
 use Rattle.std.proofs.lemmas.Option.{same_Some}
+use Rattle.dsr_plan_laws.proofs.KnownSets.{in_givers}
 
 -- ---- by their places
 

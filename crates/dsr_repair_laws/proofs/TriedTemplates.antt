@@ -39,10 +39,11 @@ use Rattle.dsr_meaning.specs.Refusals.{reaches_bound}
 use Rattle.dsr_meaning.specs.Typed.{MayBeNegated}
 use Rattle.dsr_update_theory.specs.Givers.{HasGiver, IsGiver, givers, is_own, is_single}
 use Rattle.dsr_update_theory.specs.Templates.{AreOnce, AreSized, AreTemplates, AreTrims, AreValued, KnownSets, adding, all_removals, all_true, counted_of, counted_symbol, is_target, joins_by, lacks_option, listed, most_options, pick_of, place_of, referred, relates_by, removal_updates, serves, setting, settings, supplies, supplies_by, target_writes, value_write, variables, with_trims}
-use Rattle.dsr_repair_laws.proofs.FormItems.{in_giver, in_givers, of_listed}
+use Rattle.dsr_repair_laws.proofs.FormItems.{in_giver, of_listed}
 use Rattle.dsr_repair_laws.proofs.TriedUpdates.{GivesCounted, IsAdder, IsSetAt, IsSupplying, taken_var}
 use Rattle.dsr_meaning.proofs.Items.{in_flat, in_map, passed_in}
 use Rattle.dsr_meaning.proofs.Options.{chained_from, failed_from, mapped_from, passed_from}
+use Rattle.dsr_plan_laws.proofs.KnownSets.{in_givers}
 
 -- ---- the three forms
 

@@ -1,5 +1,5 @@
 -- The updates of a template that is due.
-use Rattle.std.proofs.Common.{◌≡◌, ◌∙◌, ◌<◌, ◌≤◌, ◌-◌, ℕ, zero, suc, nat_eq, false, List, [], ◌∷◌, length, min, Option, Some, inl, inr, refl, sym, ap, subst, arith}
+use Rattle.std.proofs.Common.{◌≡◌, ◌∙◌, ◌≤◌, ◌-◌, ℕ, suc, nat_eq, false, List, [], ◌∷◌, length, min, Option, Some, inl, inr, refl, sym, ap, subst, arith}
 use Rattle.std.specs.Prelude.{option_map, slice_get}
 use Rattle.std.proofs.Math.Nat.{min-le_right}
 use Rattle.std.proofs.lemmas.Bool.Decides.{nat_tests}
@@ -24,14 +24,14 @@ use Rattle.dsr_update_theory.specs.Givers.{IsGiver, givers}
 use Rattle.dsr_update_theory.specs.Options.{options}
 use Rattle.dsr_update_theory.specs.Templates.{item_or_last, removal_updates, removing}
 use Rattle.dsr_repair_laws.proofs.DueForms.{IsDueForm, at_compensated, goal_same}
-use Rattle.dsr_repair_laws.proofs.FormItems.{giver_in}
 use Rattle.dsr_repair_laws.proofs.TriedTemplates.{GoalAdds, IsRemoval, IsTakenBy}
 use Rattle.dsr_repair_laws.proofs.LastGiven.{derived_by}
 use Rattle.dsr_repair_laws.proofs.ToGoFacts.{to_go_symbol}
 use Rattle.dsr_step_laws.proofs.GivenSymbols.{giver_of as gives_symbol}
 use Rattle.dsr_repair_laws.proofs.TriedUpdates.{taken_var}
 use Rattle.dsr_repair_laws.proofs.TakenGoals.{adding_adds, taking_adds_none, taking_takes}
-use Rattle.dsr_meaning.proofs.Items.{filter_in, none_of, place_of}
+use Rattle.dsr_meaning.proofs.Items.{filter_in, item_there, none_of, place_of}
+use Rattle.dsr_plan_laws.proofs.KnownSets.{giver_in}
 
 -- ---- the first update of one that adds
 
@@ -55,11 +55,6 @@ giver_of spec layout bytes i fact derived =
     (given.rule, record { rule_is = given.gives.is_instance.rule_is; gives = gives_symbol spec layout bytes i given.rule.inc fact given.gives.included })
 
 -- ---- the update of a rule
-
-item_there : {T : Type 0} (xs : List T) (i : ℕ) → i < length xs → (x : T) × (slice_get xs i ≡ Some x)
-item_there [] i less = absurd (omega (arith, less))
-item_there (x ∷ xs) zero less = (x, refl)
-item_there (x ∷ xs) (suc i) less = item_there xs i (omega (arith, less))
 
 pub last_there : {T : Type 0} (xs : List T) (j : ℕ) → nat_eq (length xs) 0 ≡ false → (x : T) × (item_or_last xs j ≡ Some x)
 last_there xs j some =

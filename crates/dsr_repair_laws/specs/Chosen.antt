@@ -11,10 +11,12 @@ use Rattle.dsr_meaning.specs.Typed.{pool_at}
 
 -- the record and the entry that the update writes are there, the variable whose size it writes is
 -- bound, and the pool of its fresh record has a supply
-pub record IsComplete (spec : Spec) (b : Binding) (stopped : Option Instance) (update : Update) : Type 0 where
+pub record IsComplete (spec : Spec) (b : Binding) (stopped : Option Instance)
+    (update : Update) : Type 0 where
   pub elem : Element
   pub place : IsPlace b stopped update.place elem
   pub index : ℕ
   pub entry : IsEntryAt b stopped update.at index
   pub counted : IfSome (written_size update.writes) (HasVariable b)
-  pub supply : IfSome update.fresh (λ pool. IsSomeAnd (pool_at spec.base pool) (λ d. IsSome d.avoid))
+  pub supply :
+      IfSome update.fresh (λ pool. IsSomeAnd (pool_at spec.base pool) (λ d. IsSome d.avoid))

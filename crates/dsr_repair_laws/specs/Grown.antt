@@ -9,7 +9,8 @@ use Rattle.dsr_meaning.specs.Counting.{IsIn}
 
 -- the write is one of those that compensate the template
 abbrev pub Compensates : Owner → Template → Write → Type 0
-Compensates owner raw write = (writes : List Write) × AreCompensations owner raw writes × IsIn write writes
+Compensates owner raw write =
+    (writes : List Write) × AreCompensations owner raw writes × IsIn write writes
 
 -- the update is this one of the template, perhaps with writes behind its own that compensate it
 pub record IsGrownFrom (owner : Owner) (raw : Template) (u update : Update) : Type 0 where

@@ -22,7 +22,8 @@ pub fn steps_keep_the_layout()
         → IsStepped spec layout step update old new → IsImageOf spec layout new }
 {}
 
-/// Such a step changes no bit of a fixed field.
+/// A step that can be made, writes no fixed field and, where it writes the head, only fields that
+/// the head has, changes no bit of a fixed field.
 pub fn steps_keep_fixed_fields()
     ensures { (spec : Spec) (layout : Layout) (step : Step) (update : Update) (old new : List ℕ)
         → IsImageOf spec layout old

@@ -1,5 +1,5 @@
-//! What a repair chooses next can always be chosen and made, it changes neither the layout nor a fixed field, and what
-//! it leaves is determined: laws on the steps of repairs.
+//! What a repair chooses next can always be chosen and made, it changes neither the layout nor a
+//! fixed field, and what it leaves is determined: laws on the steps of repairs.
 //!
 //! The functions do nothing when they run. Each carries its law as its contract.
 #![tactic(auto)]

@@ -19,14 +19,14 @@ pub fn due_steps_can_be_made()
         → CanStep spec layout step update (length bytes) }
 {}
 
-/// It writes no fixed field.
+/// A step that is due by a plan writes no fixed field.
 pub fn due_steps_write_no_fixed_field()
     ensures { (spec : Spec) (choice : Choice) (layout : Layout) (bytes : List ℕ) (step : Step)
         (update : Update) → IsImageOf spec layout bytes → IsPlan spec choice
         → IsDueStep spec choice layout bytes step update → All (IsFree spec) update.writes }
 {}
 
-/// Where it writes the head, it writes fields of the head's structure.
+/// Where a step that is due by a plan writes the head, it writes fields of the head's structure.
 pub fn due_steps_write_fields_of_the_head()
     ensures { (spec : Spec) (choice : Choice) (layout : Layout) (bytes : List ℕ) (step : Step)
         (update : Update) → IsImageOf spec layout bytes → IsPlan spec choice

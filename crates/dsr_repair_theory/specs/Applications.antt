@@ -29,8 +29,8 @@ FactsHold spec layout bytes constraint =
 -- makes the old bytes the new ones. The facts that the constraint uses hold before. That the
 -- template is one that is tried for the literal stands apart, so that this serves templates with
 -- compensations as well.
-pub record IsApplied (spec : Spec) (template : Template) (update : Update) (layout : Layout) (step : Step)
-    (old new : List ℕ) : Type 0 where
+pub record IsApplied (spec : Spec) (template : Template) (update : Update) (layout : Layout)
+    (step : Step) (old new : List ℕ) : Type 0 where
   pub image : IsImageOf spec layout old
   pub violated :
       IsViolated (IsFact spec layout old) spec

@@ -125,7 +125,8 @@ pub record IsSupplied (is_fact : Fact → Type 0) (spec : Spec) (layout : Layout
     (e : Element) : Type 0 where
   pub pool_is : e.pool ≡ pool
   pub slot : IsSlot layout e
-  pub outside : IsSomeAnd (pool_at spec.base pool) (λ d. IsSomeAnd d.avoid (λ sets. IsOutside is_fact sets e))
+  pub outside :
+      IsSomeAnd (pool_at spec.base pool) (λ d. IsSomeAnd d.avoid (λ sets. IsOutside is_fact sets e))
 
 -- the least such record
 pub record IsFreshFrom (is_fact : Fact → Type 0) (spec : Spec) (layout : Layout) (pool : ℕ)
@@ -136,7 +137,8 @@ pub record IsFreshFrom (is_fact : Fact → Type 0) (spec : Spec) (layout : Layou
 -- the fresh record of an update, which takes one from the pool, if any
 abbrev pub IsFresh : (Fact → Type 0) → Spec → Layout → Option ℕ → Option Element → Type 0
 IsFresh is_fact spec layout None fresh = fresh ≡ None
-IsFresh is_fact spec layout (Some pool) fresh = IsSomeAnd fresh (IsFreshFrom is_fact spec layout pool)
+IsFresh is_fact spec layout (Some pool) fresh =
+    IsSomeAnd fresh (IsFreshFrom is_fact spec layout pool)
 
 -- ---- all of it
 

@@ -18,8 +18,8 @@ use Rattle.dsr_update_theory.specs.Templates.{literal_at}
 
 -- Of the violated bindings the one of the constraint that stands on the lowest level, of those on
 -- one level of the one that is declared first, and of its own the least.
-pub record IsDueBinding (is_fact : Fact → Type 0) (spec : Spec) (choice : Choice) (v : BoundConstraint)
-    (constraint : Constraint) (row : Row) : Type 0 where
+pub record IsDueBinding (is_fact : Fact → Type 0) (spec : Spec) (choice : Choice)
+    (v : BoundConstraint) (constraint : Constraint) (row : Row) : Type 0 where
   pub row_of : IsRowOf spec choice v.constraint constraint row
   pub violated : IsViolated is_fact spec v
   pub lowest :
@@ -54,8 +54,8 @@ pub record IsToRepair (is_fact : Fact → Type 0) (b : Binding) (constraint : Co
   pub is_false : LiteralHolds is_fact b its → ⊥
 
 -- the first literal of the conjunction of which that is so
-pub record IsDueLiteral (is_fact : Fact → Type 0) (b : Binding) (constraint : Constraint) (row : Row)
-    (conj literal : ℕ) (its : Literal) (template : Template) : Type 0 where
+pub record IsDueLiteral (is_fact : Fact → Type 0) (b : Binding) (constraint : Constraint)
+    (row : Row) (conj literal : ℕ) (its : Literal) (template : Template) : Type 0 where
   pub repaired : IsToRepair is_fact b constraint row conj literal its template
   pub none_before :
       (earlier : ℕ) (other : Literal) (by : Template) → earlier < literal

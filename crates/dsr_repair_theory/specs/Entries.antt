@@ -26,17 +26,22 @@ set_by step write cell number old = record {
 
 -- the writes are made in order, and these values are set; a write is skipped where what it wants
 -- holds already
-pub data AreSet (spec : Spec) (layout : Layout) (step : Step) : List Write → List ℕ → List ℕ → List CellSet → Type 0 where
+pub data AreSet (spec : Spec) (layout : Layout) (step : Step) :
+    List Write → List ℕ → List ℕ → List CellSet → Type 0 where
   done : {bytes : List ℕ} → AreSet spec layout step [] bytes bytes []
   skipped :
-      {rest : List Write} {old new : List ℕ} {sets : List CellSet} → (write : Write) (cell : Cell) (number : ℕ)
-      → written_cell layout step write ≡ Some cell → written_number spec layout step write ≡ Some number
-      → IsWanted spec layout write number (cell_value old cell) → AreSet spec layout step rest old new sets
+      {rest : List Write} {old new : List ℕ} {sets : List CellSet}
+      → (write : Write) (cell : Cell) (number : ℕ)
+      → written_cell layout step write ≡ Some cell
+      → written_number spec layout step write ≡ Some number
+      → IsWanted spec layout write number (cell_value old cell)
+      → AreSet spec layout step rest old new sets
       → AreSet spec layout step (write ∷ rest) old new sets
   made :
-      {rest : List Write} {old middle new : List ℕ} {sets : List CellSet} → (write : Write) (cell : Cell)
-      (number : ℕ)
-      → written_cell layout step write ≡ Some cell → written_number spec layout step write ≡ Some number
+      {rest : List Write} {old middle new : List ℕ} {sets : List CellSet}
+      → (write : Write) (cell : Cell) (number : ℕ)
+      → written_cell layout step write ≡ Some cell
+      → written_number spec layout step write ≡ Some number
       → (IsWanted spec layout write number (cell_value old cell) → ⊥) → IsPut cell number old middle
       → AreSet spec layout step rest middle new sets
       → AreSet spec layout step (write ∷ rest) old new (set_by step write cell number old ∷ sets)
@@ -54,7 +59,8 @@ changes old new = changes_from 0 old new
 
 -- the step makes the old bytes the new ones, and this tells it: the fresh record is reset, and then
 -- the writes are made
-pub record IsEntryOf (spec : Spec) (layout : Layout) (step : Step) (update : Update) (old new : List ℕ) (entry : Entry) : Type 0 where
+pub record IsEntryOf (spec : Spec) (layout : Layout) (step : Step) (update : Update)
+    (old new : List ℕ) (entry : Entry) : Type 0 where
   pub constraint : entry.constraint ≡ step.constraint
   pub binding : entry.binding ≡ step.binding
   pub conj : entry.conj ≡ step.conj
@@ -62,6 +68,8 @@ pub record IsEntryOf (spec : Spec) (layout : Layout) (step : Step) (update : Upd
   pub rule : entry.rule ≡ step.rule
   pub fresh : entry.reset ≡ step.fresh
   pub between : List ℕ
-  pub reset : MatchOption step.fresh (between ≡ old) (λ e. ArePut (reset_puts spec.base layout e) old between)
+  pub reset :
+      MatchOption step.fresh (between ≡ old)
+      (λ e. ArePut (reset_puts spec.base layout e) old between)
   pub sets : AreSet spec layout step update.writes between new entry.sets
   pub bytes : entry.bytes ≡ changes old new

@@ -29,12 +29,13 @@ abbrev pub bound_by : Step → BoundConstraint
 bound_by step = record { constraint = step.constraint; binding = step.binding }
 
 -- the step that is due: the one that is chosen for the literal that is to become true next
-pub record IsDueStep (spec : Spec) (choice : Choice) (layout : Layout) (bytes : List ℕ) (step : Step)
-    (update : Update) : Type 0 where
+pub record IsDueStep (spec : Spec) (choice : Choice) (layout : Layout) (bytes : List ℕ)
+    (step : Step) (update : Update) : Type 0 where
   pub literal : Literal
   pub template : Template
   pub due :
-      IsDue (IsFact spec layout bytes) spec choice (bound_by step) step.conj step.literal literal template
+      IsDue (IsFact spec layout bytes) spec choice (bound_by step) step.conj step.literal literal
+      template
   pub chosen : IsChosen spec layout bytes literal.atom template step update
 
 -- each slot of the pool is a member of a set that the pool's supply avoids
@@ -50,11 +51,13 @@ needed_by need = record { constraint = need.constraint; binding = need.binding }
 
 -- the update that is chosen for the literal that is to become true next takes a fresh record of the
 -- pool, whose supply has none
-pub record IsNeed (spec : Spec) (choice : Choice) (layout : Layout) (bytes : List ℕ) (need : Need) : Type 0 where
+pub record IsNeed (spec : Spec) (choice : Choice) (layout : Layout) (bytes : List ℕ)
+    (need : Need) : Type 0 where
   pub literal : Literal
   pub template : Template
   pub due :
-      IsDue (IsFact spec layout bytes) spec choice (needed_by need) need.conj need.literal literal template
+      IsDue (IsFact spec layout bytes) spec choice (needed_by need) need.conj need.literal literal
+      template
   pub at : ℕ
   pub update : Update
   pub stopped : Option Instance

@@ -1,7 +1,7 @@
 -- The entries of a run are such as a report may tell, but that a field need not be the first of its name.
 use Rattle.std.proofs.Common.{◌≡◌, ◌<◌, ℕ, List, [], ◌∷◌, All, Option, None, Some, IfSome, IsSome, MatchOption, length, refl, sym, subst}
 use Rattle.std.proofs.lemmas.List.Elements.{All-append, All-cons, All-nil}
-use Rattle.dsr_repair_laws.proofs.MakingSteps.{can_step}
+use Rattle.dsr_repair_laws.proofs.MakingSteps.{bound, can_step, tried}
 use Rattle.dsr_repair_laws.proofs.TriedSteps.{placed_at}
 use Rattle.dsr_ir.specs.declared.constraints.Literal.{Literal}
 use Rattle.dsr_ir.specs.declared.declarations.Spec.{Spec}
@@ -31,7 +31,7 @@ use Rattle.dsr_step_theory.specs.declared.steps.Step.{Step}
 use Rattle.dsr_update_theory.specs.Templates.{literal_at}
 use Rattle.dsr_report_laws.proofs.RecordsTold.{binding_told, record_told, slot_told}
 use Rattle.dsr_report_laws.proofs.SetsTold.{bytes_told, puts_bytes, sets_told}
-use Rattle.dsr_report_laws.proofs.WrittenPaths.{IsOfRule, bound, each_of_rule, rule_declared, tried}
+use Rattle.dsr_report_laws.proofs.WrittenPaths.{IsOfRule, each_of_rule, rule_declared}
 
 -- each of its lines is one that may be told, but that a field need not be the first of its name
 pub record IsFormedEntry (spec : Spec) (entry : Entry) : Type 0 where

@@ -1,5 +1,5 @@
 -- What the writes of a due step set, and the bytes that it changes, are such as a report may tell.
-use Rattle.std.proofs.Common.{◌≡◌, ◌<◌, ◌≤◌, ◌+◌, ◌*◌, ◌^◌, ◌%◌, ◌∙◌, ℕ, suc, nat_eq, Bool, true, false, List, [], ◌∷◌, All, Option, None, Some, IfSome, IsSome, IsSomeAnd, MatchBool, length, inl, inr, refl, sym, ap, subst, slice_get, arith}
+use Rattle.std.proofs.Common.{◌≡◌, ◌<◌, ◌≤◌, ◌+◌, ◌*◌, ◌^◌, ◌%◌, ◌∙◌, ℕ, suc, nat_eq, true, false, List, [], ◌∷◌, All, Option, None, Some, IfSome, IsSomeAnd, MatchBool, length, inl, inr, refl, sym, ap, subst, slice_get, arith}
 use Rattle.std.specs.Option.{option_map_or}
 use Rattle.std.specs.Prelude.{if◌then◌else◌}
 use Rattle.std.proofs.Math.Pow.{pow_mono}
@@ -7,16 +7,12 @@ use Rattle.std.proofs.lemmas.List.Elements.{All-cons, All-nil}
 use Rattle.std.proofs.lemmas.Nat.{mul-le}
 use Rattle.std.proofs.lemmas.Option.{same_Some}
 use Rattle.dsr_effect_laws.proofs.Bounds.{value_fits}
-use Rattle.dsr_ir.specs.Exprs.{ExprShape}
 use Rattle.dsr_ir.specs.Layouts.{field_place}
 use Rattle.dsr_ir.specs.declared.declarations.SetDecl.{SetDecl}
 use Rattle.dsr_ir.specs.declared.declarations.Spec.{Spec}
-use Rattle.dsr_ir.specs.declared.declarations.Structures.{Structures}
 use Rattle.dsr_ir.specs.declared.layouts.Cell.{Cell}
 use Rattle.dsr_ir.specs.declared.layouts.Layout.{Layout}
 use Rattle.dsr_ir.specs.declared.rules.Path.{Path}
-use Rattle.dsr_ir.specs.declared.rules.Span.{Span}
-use Rattle.dsr_ir.specs.declared.rules.Span.TheVariants as spans
 use Rattle.dsr_ir.specs.declared.updates.Write.{Write}
 use Rattle.dsr_repair_laws.proofs.EntryOnce.{is_formed}
 use Rattle.dsr_layout.proofs.HeldCells.{entry_within}
@@ -26,7 +22,7 @@ use Rattle.dsr_meaning.specs.Cells.{IsByteWidth, IsFieldCell, cell_value, placed
 use Rattle.dsr_meaning.specs.Counting.{IsIn}
 use Rattle.dsr_meaning.specs.Instances.{pool_of_premise}
 use Rattle.dsr_meaning.specs.Legal.{IsLegalLayout}
-use Rattle.dsr_meaning.specs.Typed.{Descends, RunsOver, premise_structure}
+use Rattle.dsr_meaning.specs.Typed.{Descends, premise_structure}
 use Rattle.dsr_meaning.specs.Writes.{AreBytes}
 use Rattle.dsr_repair_theory.specs.Entries.{AreSet, changes, changes_from, set_by}
 use Rattle.dsr_repair_theory.specs.Entries.AreSet.{done as set_none, made as set_one, skipped as left_out}
@@ -39,6 +35,7 @@ use Rattle.dsr_step_theory.specs.Puts.ArePut.{done, put}
 use Rattle.dsr_step_theory.specs.Steps.{CanWrite, written_cell, written_index, written_number}
 use Rattle.dsr_step_theory.specs.declared.steps.Step.{Step}
 use Rattle.dsr_report_laws.proofs.WrittenPaths.{IsOfRule, IsRulePath}
+use Rattle.dsr_repair_laws.proofs.MakingSpans.{indexed_some}
 
 -- ---- what is put are bytes
 
@@ -70,12 +67,6 @@ fits_64 : (width n : ℕ) → IsNarrow width → n < 2 ^ width → n < 2 ^ 64
 fits_64 width n small less = let wide : 2 ^ width ≤ 2 ^ 64 = pow_mono small.to in omega (arith, less, wide)
 
 -- ---- fields of rules are those of the pool's records
-
-array_some : (base : Structures) (span : Span) (indexed : Bool) (len : Option ExprShape) → MatchBool indexed (RunsOver base span len) (len ≡ None) → MatchBool indexed (IsSome len) (len ≡ None)
-array_some base span false len of = of
-array_some base (spans.Array place) true len of = of.0
-array_some base spans.Single true len of = absurd of
-array_some base (spans.Slots pool) true len of = absurd of
 
 rule_of_pool :
     (spec : Spec) (pool : ℕ) (premise : Option ℕ) (structure : ℕ) → IfSome premise (λ n. IsSomeAnd (slice_get spec.base.sets n) (λ s. s.except ≡ None)) → pool ≡ pool_of_premise spec.base premise
@@ -123,7 +114,7 @@ module _ (spec : Spec) (layout : Layout) (legal : IsLegalLayout layout) (step : 
         elem = elem;
         field = of.its.field;
         is_field = path_of_pool spec step.elem.pool write.path of;
-        indexed = array_some spec.base of.rule.span write.path.indexed of.its.field.len of.its.index;
+        indexed = indexed_some spec.base of.rule.span write.path.indexed of.its.field.len of.its.index;
         index = index_small write cell at can width;
         no_index = λ none. ap (λ b. if b then step.index else 0) none;
         old = fits_64 cell.width (cell_value old cell) width (value_fits old are cell form);

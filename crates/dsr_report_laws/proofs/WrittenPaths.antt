@@ -7,20 +7,15 @@ use Rattle.std.proofs.lemmas.Bool.{and_parts}
 use Rattle.std.proofs.lemmas.Option.{same_Some, slice_get_within}
 use Rattle.dsr_repair_theory.specs.Choices.{IsPlace}
 use Rattle.dsr_repair_laws.proofs.Compensating.{compensating, only_compensated}
-use Rattle.dsr_repair_laws.proofs.Forms.{row_form}
-use Rattle.dsr_repair_laws.proofs.GrownUpdates.{of_form}
 use Rattle.dsr_repair_laws.proofs.MakingRecords.{of_rule, own_source, place_named, start_record}
 use Rattle.dsr_repair_laws.proofs.MakingWrites.{of_guard, of_reference, of_value}
-use Rattle.dsr_repair_laws.proofs.RawUpdates.{IsStopChosen, raw_updates}
-use Rattle.dsr_repair_laws.proofs.TriedSteps.{IsTriedStep, at_place, chosen_kind, own_place, placed_at, stopped}
+use Rattle.dsr_repair_laws.proofs.RawUpdates.{IsStopChosen}
+use Rattle.dsr_repair_laws.proofs.TriedSteps.{IsTriedStep, chosen_kind, own_place, placed_at, stopped}
 use Rattle.dsr_repair_laws.proofs.TriedUpdates.{IsAdder, IsAdding, IsSetAt, IsSetting, IsSupplying}
-use Rattle.dsr_repair_laws.proofs.TypedLiterals.{IsTypedIn, typed_in}
 use Rattle.dsr_repair_laws.proofs.WrittenRecords.{var_pool}
 use Rattle.dsr_repair_laws.specs.Grown.{Compensates}
 use Rattle.dsr_ir.specs.Rules.{target_of}
 use Rattle.dsr_ir.specs.declared.constraints.Atom.TheVariants as atoms
-use Rattle.dsr_ir.specs.declared.constraints.Constraint.{Constraint}
-use Rattle.dsr_ir.specs.declared.constraints.Literal.{Literal}
 use Rattle.dsr_ir.specs.declared.constraints.Measure.{Measure}
 use Rattle.dsr_ir.specs.declared.constraints.Var.{Var}
 use Rattle.dsr_ir.specs.declared.declarations.Rel.{Rel}
@@ -34,23 +29,17 @@ use Rattle.dsr_ir.specs.declared.updates.Goal.{Goal}
 use Rattle.dsr_ir.specs.declared.updates.Pick.{Pick}
 use Rattle.dsr_ir.specs.declared.updates.Pick.TheVariants as picks
 use Rattle.dsr_ir.specs.declared.updates.Symbol.{Symbol}
-use Rattle.dsr_ir.specs.declared.updates.Template.{Template}
 use Rattle.dsr_ir.specs.declared.updates.Update.{Update}
 use Rattle.dsr_ir.specs.declared.updates.Write.{Write}
 use Rattle.dsr_meaning.proofs.Items.{in_either, in_filter, of_all, place_of}
 use Rattle.dsr_meaning.proofs.Options.{chained_from, some_and}
-use Rattle.dsr_meaning.specs.Consistency.{IsBinding}
 use Rattle.dsr_meaning.specs.Counting.{IsIn}
 use Rattle.dsr_meaning.specs.Instances.{pool_of_premise, premise_pool}
-use Rattle.dsr_meaning.specs.Models.{IsFact}
 use Rattle.dsr_meaning.specs.Truth.{head}
 use Rattle.dsr_meaning.specs.Typed.{IsTyped, IsTypedAtom, IsTypedGuard, IsTypedPath, IsTypedRule, pool_of_var}
-use Rattle.dsr_plan_theory.specs.Plans.{IsPlan, owner_at}
-use Rattle.dsr_plan_theory.specs.declared.choices.Choice.{Choice}
-use Rattle.dsr_repair_theory.specs.Turns.{IsDueStep}
+use Rattle.dsr_plan_theory.specs.Plans.{owner_at}
 use Rattle.dsr_step_laws.proofs.AllTrue.{first_true, in_others, target_written}
 use Rattle.dsr_step_laws.proofs.Together.{target_typed}
-use Rattle.dsr_step_theory.specs.Images.{IsImageOf}
 use Rattle.dsr_step_theory.specs.declared.steps.Step.{Step}
 use Rattle.dsr_update_theory.specs.Changes.{place_pool}
 use Rattle.dsr_update_theory.specs.Givers.{is_own, is_single}
@@ -235,44 +224,3 @@ module _ (spec : Spec) (layout : Layout) (bytes : List ℕ) (step : Step) (updat
     | inl first ↦ adder_declared s.template.goal first.adder
     | inr stop ↦ declared stop.removing.rule stop.removing.giver.rule_is
   ]
-
--- ---- a step that is due is by a template that is tried
-
-module _ (spec : Spec) (choice : Choice) (layout : Layout) (bytes : List ℕ) (step : Step) (update : Update) (image : IsImageOf spec layout bytes) (plan : IsPlan spec choice) (due : IsDueStep spec choice layout bytes step update) where
-  abbrev c : Constraint
-  c = due.due.constraint
-
-  abbrev literal : Literal
-  literal = due.literal
-
-  there : IsTypedIn spec c literal
-  there = typed_in spec image.typed step.constraint c step.conj step.literal literal due.due.binding_is.row_of.constraint_is due.due.literal_is.repaired.literal_is
-
-  pub bound : IsBinding (IsFact spec layout bytes) c.quant step.binding
-  bound =
-      let violated = due.due.binding_is.violated in
-      let same : violated.constraint ≡ c = same_Some violated.constraint c (sym violated.declared ∙ due.due.binding_is.row_of.constraint_is) in
-      subst (λ (x : Constraint). IsBinding (IsFact spec layout bytes) x.quant step.binding) same violated.is_binding
-
-  pub tried : IsTriedStep spec layout bytes step update
-  tried =
-      let owner = owner_at spec step.constraint c in
-      let form = row_form spec choice step.constraint c due.due.row step.conj step.literal literal due.template plan due.due.binding_is.row_of due.due.literal_is.repaired.literal_is due.due.literal_is.repaired.template_is in
-      let found = of_form owner literal due.template form step.update update (at_place spec layout bytes step.binding literal.atom due.template step.update update due.chosen.stopped due.chosen.update_is) in
-      record {
-        image = image;
-        constraint = c;
-        literal = literal;
-        there = there;
-        bound = bound;
-        known = form.known;
-        tells = form.tells;
-        raw = form.raw;
-        own = found.0;
-        own_at = found.1;
-        grown = found.2;
-        kind = raw_updates spec form.known c.quant literal form.tried there.literal_typed.negated form.are_tried form.raw form.is_tried step.update found.0 found.1;
-        template = due.template;
-        goal_same = ap (λ (t : Template). t.goal) form.is;
-        chosen = due.chosen;
-      }

@@ -39,7 +39,8 @@ pub fn readings_have_one_report()
         → report_text spec told ≡ report_text spec entries }
 {}
 
-/// Of such entries a report may tell one list alone: that with the first field of each name.
+/// Of all entries that differ in no more than fields that are named alike, a report may tell one
+/// list alone: that with the first field of each name.
 pub fn readings_are_one()
     ensures { (spec : Spec) (entries told other : List Entry) → IsTyped spec
         → AreReadAs spec entries told → AreReadAs spec entries other

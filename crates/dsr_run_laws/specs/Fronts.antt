@@ -8,8 +8,8 @@ use Rattle.dsr_repair_theory.specs.declared.entries.Entry.{Entry}
 
 -- these entries are the first of all, and the others tell a run from the bytes that they leave to
 -- the last
-pub record GoesOn (spec : Spec) (choice : Choice) (layout : Layout) (first : List Entry) (middle : List ℕ)
-    (all : List Entry) (last : List ℕ) : Type 0 where
+pub record GoesOn (spec : Spec) (choice : Choice) (layout : Layout) (first : List Entry)
+    (middle : List ℕ) (all : List Entry) (last : List ℕ) : Type 0 where
   pub rest : List Entry
   pub entries : all ≡ first ++ rest
   pub steps : IsPartRun spec choice layout middle rest last

@@ -32,7 +32,8 @@ pub fn turns_are_one()
 
 /// The step that is due leaves one list of bytes, and one entry tells it.
 pub fn due_entries_are_one()
-    ensures { (spec : Spec) (choice : Choice) (layout : Layout) (old a b : List ℕ) (entry other : Entry)
+    ensures { (spec : Spec) (choice : Choice) (layout : Layout) (old a b : List ℕ)
+        (entry other : Entry)
         → IsPlan spec choice → IsImageOf spec layout old
         → IsDueEntry spec choice layout old entry a → IsDueEntry spec choice layout old other b
         → (entry ≡ other) × (a ≡ b) }
@@ -58,14 +59,17 @@ pub fn runs_are_one()
 
 /// No part of a run changes a bit of a fixed field.
 pub fn part_runs_keep_fixed_fields()
-    ensures { (spec : Spec) (choice : Choice) (layout : Layout) (old new : List ℕ) (entries : List Entry)
+    ensures { (spec : Spec) (choice : Choice) (layout : Layout) (old new : List ℕ)
+        (entries : List Entry)
         → IsPlan spec choice → IsImageOf spec layout old
         → IsPartRun spec choice layout old entries new → FixedFieldsStay spec.base old new }
 {}
 
-/// What the steps of a run leave is an image with the layout that it had.
+/// What the steps of a part of a run leave is an image with the layout that the image had before.
 pub fn runs_keep_the_layout()
-    ensures { (spec : Spec) (choice : Choice) (layout : Layout) (old new : List ℕ) (entries : List Entry)
-        → IsPlan spec choice → IsImageOf spec layout old → IsPartRun spec choice layout old entries new
+    ensures { (spec : Spec) (choice : Choice) (layout : Layout) (old new : List ℕ)
+        (entries : List Entry)
+        → IsPlan spec choice → IsImageOf spec layout old
+        → IsPartRun spec choice layout old entries new
         → IsImageOf spec layout new }
 {}

@@ -39,3 +39,7 @@ first_beside base w ws together v is_in =
 -- and the others may stand together
 pub rest_together : (base : Structures) (w : Write) (ws : List Write) → MayStandTogether base (w ∷ ws) → MayStandTogether base ws
 rest_together base w ws together i j a b other = together (suc i) (suc j) a b (λ same. other (omega (arith, same)))
+
+-- one write stands beside none
+pub one_together : (base : Structures) (w : Write) → MayStandTogether base (w ∷ [])
+one_together base w = together_more base w [] (λ v among. absurd among) (nothing_together base)

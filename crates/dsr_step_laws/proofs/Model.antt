@@ -12,10 +12,11 @@ use Rattle.dsr_meaning.specs.Cells.{value_at}
 use Rattle.dsr_meaning.specs.Instances.{Gives}
 use Rattle.dsr_meaning.specs.Models.{Chain, IsDerived, IsDerivedBy, IsDeriver}
 use Rattle.dsr_meaning.specs.Models.Chain.{begin, follow}
-use Rattle.dsr_meaning.specs.Orders.{InstancePrecedes, Precedes}
+use Rattle.dsr_meaning.specs.Orders.{InstancePrecedes}
 use Rattle.dsr_meaning.specs.Truth.{head}
 use Rattle.dsr_step_laws.proofs.Given.{example, from_head, image, layout, marked, of_node, path_to, rules, slot}
 use Rattle.dsr_step_laws.proofs.Giving.{IsLed, at, element_same, head_fires, head_gives, index_none, instance_same, marked_fires, marked_gives, next_fires, next_gives, value_fires, value_gives}
+use Rattle.dsr_meaning.proofs.Ordered.{none_precedes_itself}
 
 -- ---- the facts and their instances
 
@@ -227,10 +228,6 @@ row_back in_marked = refl
 row_back to_itself = refl
 row_back value_of_first = refl
 row_back value_of_second = refl
-
-none_precedes_itself : (e : Element) → Precedes e e → ⊥
-none_precedes_itself e (inl less) = omega (arith, less)
-none_precedes_itself e (inr less) = omega (arith, less.1)
 
 no_instance_precedes_itself : (i : Instance) → InstancePrecedes i i → ⊥
 no_instance_precedes_itself i (inl less) = omega (arith, less)

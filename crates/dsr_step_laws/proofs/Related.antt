@@ -2,7 +2,6 @@
 use Rattle.std.proofs.Common.{◌≡◌, ◌<◌, ◌⊎◌, ℕ, zero, suc, nat_eq, true, false, List, [], ◌∷◌, None, Some, IfSome, inl, inr, refl, sym, ap, subst, arith}
 use Rattle.std.specs.Prelude.{IsTrue, ◌||◌}
 use Rattle.std.proofs.lemmas.Bool.{eqb-true}
-use Rattle.std.proofs.lemmas.Bool.Decides.{nat_tests}
 use Rattle.std.proofs.lemmas.Option.{slice_get_cases}
 use Rattle.dsr_schema.proofs.Descending.{ancestors_step, line, no_ancestors}
 use Rattle.dsr_ir.specs.declared.declarations.Structures.{Structures}
@@ -10,6 +9,7 @@ use Rattle.dsr_meaning.specs.Counting.{IsIn}
 use Rattle.dsr_meaning.specs.Lists.{any_of}
 use Rattle.dsr_meaning.specs.Typed.{AreTyped, Descends, ancestors}
 use Rattle.dsr_update_theory.specs.Changes.{are_related, descends}
+use Rattle.dsr_meaning.proofs.Items.{number_found}
 
 -- a number that passes as equal to some is in the list
 pub some_is : (n : ℕ) (ns : List ℕ) → any_of (nat_eq n) ns ≡ true → IsIn n ns
@@ -20,18 +20,6 @@ some_is n (m ∷ ms) e =
       | false ↦ λ _ h. inr (some_is n ms h)
     ] refl e
 
--- and one that is there passes
-is_some : (n : ℕ) (ns : List ℕ) → IsIn n ns → any_of (nat_eq n) ns ≡ true
-is_some n [] is_in = absurd is_in
-is_some n (m ∷ ms) (inl same) =
-    let is : nat_eq n m ≡ true = grind (arith, nat_tests, same) in
-    ap (λ b. b || any_of (nat_eq n) ms) is
-is_some n (m ∷ ms) (inr later) =
-    elim (nat_eq n m) as (λ b. (b || any_of (nat_eq n) ms) ≡ true) [
-      | true ↦ refl
-      | false ↦ is_some n ms later
-    ]
-
 -- what the test says
 pub related_lines : (base : Structures) (a b : ℕ) → IsTrue (are_related base a b) → Descends base.structures a b ⊎ Descends base.structures b a
 related_lines base a b e =
@@ -41,11 +29,11 @@ related_lines base a b e =
     ] refl e
 
 pub lines_related : (base : Structures) (a b : ℕ) → Descends base.structures a b ⊎ Descends base.structures b a → IsTrue (are_related base a b)
-lines_related base a b (inl down) = ap (λ t. t || descends base.structures b a) (is_some b (a ∷ ancestors base.structures a) down)
+lines_related base a b (inl down) = ap (λ t. t || descends base.structures b a) (number_found b (a ∷ ancestors base.structures a) down)
 lines_related base a b (inr up) =
     elim (descends base.structures a b) as (λ t. (t || descends base.structures b a) ≡ true) [
       | true ↦ refl
-      | false ↦ is_some a (b ∷ ancestors base.structures b) up
+      | false ↦ number_found a (b ∷ ancestors base.structures b) up
     ]
 
 module _ (base : Structures) (typed : AreTyped base) where

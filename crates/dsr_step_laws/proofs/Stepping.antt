@@ -38,7 +38,7 @@ unmarked = set image 5 0
 
 -- ---- the steps that lead to them; each write changes its byte, so it isn't skipped
 
-zero_one : ◌≡◌ {A = ℕ} 0 1 → ⊥
+pub zero_one : ◌≡◌ {A = ℕ} 0 1 → ⊥
 zero_one same = omega (arith, same)
 
 zero_three : ◌≡◌ {A = ℕ} 0 3 → ⊥

@@ -25,10 +25,10 @@ use Rattle.dsr_step_laws.proofs.Items.{all_such, are_different, differ, each_is}
 
 -- ---- structures
 
-refers_named : (name : List ℕ) → HasName (scalar name (Refers 1))
+pub refers_named : (name : List ℕ) → HasName (scalar name (Refers 1))
 refers_named name gap = absurd cc
 
-number_named : (name : List ℕ) → HasName (scalar name (Number 0))
+pub number_named : (name : List ℕ) → HasName (scalar name (Number 0))
 number_named name gap = absurd cc
 
 -- a field of one byte, which isn't fixed
@@ -248,7 +248,7 @@ few_things P only once (x ∷ y ∷ rest) all =
     let is_y : only ≡ y = once y (all.only y (inr (inl refl))) in
     absurd (all.distinct.0 (inl (sym is_x ∙ is_y)))
 
-few_atoms : (name : List ℕ) (quant : Quant) (atom : Atom) (negated : Bool) (n : ℕ)
+pub few_atoms : (name : List ℕ) (quant : Quant) (atom : Atom) (negated : Bool) (n : ℕ)
     → AreMany (HasAtom (constraint_of name quant atom negated)) n → n ≤ 8
 few_atoms name quant atom negated n many =
     let c = constraint_of name quant atom negated in
@@ -274,7 +274,7 @@ constraint_typed name quant atom negated quant_is atom_is may = record {
   few_atoms = few_atoms name quant atom negated;
 }
 
-never : {A : Type 0} → IsTrue false → A
+pub never : {A : Type 0} → IsTrue false → A
 never h = absurd cc
 
 -- 1 fits the field that gives the values of V

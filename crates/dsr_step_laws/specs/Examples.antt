@@ -27,4 +27,5 @@ pub record Example (goal : Goal) : Type 0 where
   pub tried : AreRawOf spec applied.violated.constraint step.conj step.literal templates
   pub listed : IsIn template templates
   pub goal_is : template.goal ≡ goal
-  pub changed : (fact : Fact) × (IsGained spec layout old new fact ⊎ IsLost spec layout old new fact)
+  pub changed :
+      (fact : Fact) × (IsGained spec layout old new fact ⊎ IsLost spec layout old new fact)

@@ -10,8 +10,8 @@ pub fn each_goal_has_an_application()
     ensures { (goal : Goal) → Example goal }
 {}
 
-/// For exactly one record there are two: an update that supplies one, and one that takes one of
-/// several away.
+/// For the goal of exactly one record two updates are applied: one that supplies a record, and one
+/// that takes one of several away.
 pub fn exactly_one_has_applications_of_both_kinds()
     ensures supplied { (e : Example ExactlyOne) × (e.step.update ≡ 0) }
     ensures trimmed { (e : Example ExactlyOne) × (e.step.update ≢ 0) }

@@ -1,4 +1,5 @@
-//! What holds once a step was made, and that for each goal an update is applied: laws on steps and on applications.
+//! What holds once a step was made, and that for each goal an update is applied: laws on steps and
+//! on applications.
 //!
 //! The functions do nothing when they run. Each carries its law as its contract.
 #![tactic(auto)]

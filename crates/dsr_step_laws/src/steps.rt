@@ -49,7 +49,8 @@ pub fn values_are_set()
 /// The number that makes a test false doesn't meet it.
 pub fn picked_numbers_fail()
     ensures { (spec : Spec) (layout : Layout) (step : Step) (field : FieldRef) (f : Field)
-        (test : Test) (pick : Pick) (number : ℕ) → IsLegalLayout layout → pick_false f test ≡ Some pick
+        (test : Test) (pick : Pick) (number : ℕ) → IsLegalLayout layout
+        → pick_false f test ≡ Some pick
         → picked_number spec layout step field pick ≡ Some number
         → Meets layout (referred_pool spec field) test number → ⊥ }
 {}

@@ -30,4 +30,5 @@ IsOfHead spec e write =
 
 -- each bit of each fixed field of the head stays
 abbrev pub FixedFieldsStay : Structures → List ℕ → List ℕ → Type 0
-FixedFieldsStay base old new = (field : ℕ) → IfSome (fixed_cell base field) (λ cell. HasSameBits cell old new)
+FixedFieldsStay base old new =
+    (field : ℕ) → IfSome (fixed_cell base field) (λ cell. HasSameBits cell old new)

@@ -39,7 +39,8 @@ reset_number layout Gap = None
 -- so many entries of the field get the value
 abbrev pub entry_puts : Layout → Element → FieldRef → ℕ → ℕ → List (Cell × ℕ)
 entry_puts layout e place count value =
-    filter_map (λ i. option_map (λ cell. (cell, value)) (cell_of layout e place i)) (range_with_len 0 count)
+    filter_map (λ i. option_map (λ cell. (cell, value)) (cell_of layout e place i))
+    (range_with_len 0 count)
 
 -- each entry of the field that is declared at the place is reset
 abbrev pub field_puts : Layout → Element → FieldRef → Field → List (Cell × ℕ)
@@ -52,14 +53,16 @@ field_puts layout e place field =
 abbrev pub structure_puts : Structures → Layout → Element → ℕ → List (Cell × ℕ)
 structure_puts base layout e structure =
     option_map_or
-    (λ s. each_at (λ k field. field_puts layout e (record { structure = structure; field = k }) field) 0 s.fields)
+    (λ s. each_at
+    (λ k field. field_puts layout e (record { structure = structure; field = k }) field) 0 s.fields)
     (slice_get base.structures structure) []
 
 -- each field of the structure of the record's pool, those of its ancestors among them
 abbrev pub record_puts : Structures → Layout → Element → List (Cell × ℕ)
 record_puts base layout e =
     option_map_or
-    (λ d. flat_map (structure_puts base layout e) (d.structure ∷ ancestors base.structures d.structure))
+    (λ d. flat_map (structure_puts base layout e)
+    (d.structure ∷ ancestors base.structures d.structure))
     (pool_at base e.pool) []
 
 -- The record is reset: its bytes become 0, and then its fields get their reset values. The order

@@ -30,13 +30,15 @@ code_of layout e = option_map (λ n. n.code + e.slot * n.step) (pool_numbers lay
 -- the code of no slot of the pool to which the field refers
 abbrev pub none_of : Spec → Layout → FieldRef → Option ℕ
 none_of spec layout field =
-    option_and_then (λ pool. option_map (λ n. n.none) (pool_numbers layout pool)) (referred_pool spec field)
+    option_and_then (λ pool. option_map (λ n. n.none) (pool_numbers layout pool))
+    (referred_pool spec field)
 
 -- the number that is picked for a field
 abbrev pub picked_number : Spec → Layout → Step → FieldRef → Pick → Option ℕ
 picked_number spec layout step field (Num n) = Some n
 picked_number spec layout step field NoneCode = none_of spec layout field
-picked_number spec layout step field (CodeOf v) = option_and_then (code_of layout) (element_of step.binding v)
+picked_number spec layout step field (CodeOf v) =
+    option_and_then (code_of layout) (element_of step.binding v)
 picked_number spec layout step field Fresh = option_and_then (code_of layout) step.fresh
 picked_number spec layout step field (SizeOf measure) = Some step.number
 
@@ -60,25 +62,33 @@ IsWanted spec layout write number value =
     (Meets layout (referred_pool spec write.path.field) want.0 value → ⊥))
 
 -- the writes are made in order, each of which is skipped where what it wants holds already
-pub data AreWritten (spec : Spec) (layout : Layout) (step : Step) : List Write → List ℕ → List ℕ → Type 0 where
+pub data AreWritten (spec : Spec) (layout : Layout) (step : Step) :
+    List Write → List ℕ → List ℕ → Type 0 where
   done : {bytes : List ℕ} → AreWritten spec layout step [] bytes bytes
   skipped :
       {rest : List Write} {old new : List ℕ} → (write : Write) (cell : Cell) (number : ℕ)
-      → written_cell layout step write ≡ Some cell → written_number spec layout step write ≡ Some number
-      → IsWanted spec layout write number (cell_value old cell) → AreWritten spec layout step rest old new
+      → written_cell layout step write ≡ Some cell
+      → written_number spec layout step write ≡ Some number
+      → IsWanted spec layout write number (cell_value old cell)
+      → AreWritten spec layout step rest old new
       → AreWritten spec layout step (write ∷ rest) old new
   made :
       {rest : List Write} {old middle new : List ℕ} → (write : Write) (cell : Cell) (number : ℕ)
-      → written_cell layout step write ≡ Some cell → written_number spec layout step write ≡ Some number
+      → written_cell layout step write ≡ Some cell
+      → written_number spec layout step write ≡ Some number
       → (IsWanted spec layout write number (cell_value old cell) → ⊥) → IsPut cell number old middle
-      → AreWritten spec layout step rest middle new → AreWritten spec layout step (write ∷ rest) old new
+      → AreWritten spec layout step rest middle new
+      → AreWritten spec layout step (write ∷ rest) old new
 
 -- ---- a whole step
 
 -- the fresh record is reset, and then the update's writes are made
-pub record IsStepped (spec : Spec) (layout : Layout) (step : Step) (update : Update) (old new : List ℕ) : Type 0 where
+pub record IsStepped (spec : Spec) (layout : Layout) (step : Step) (update : Update)
+    (old new : List ℕ) : Type 0 where
   pub between : List ℕ
-  pub reset : MatchOption step.fresh (between ≡ old) (λ e. ArePut (reset_puts spec.base layout e) old between)
+  pub reset :
+      MatchOption step.fresh (between ≡ old)
+      (λ e. ArePut (reset_puts spec.base layout e) old between)
   pub written : AreWritten spec layout step update.writes between new
 
 -- ---- what a step must be so that it can be made
@@ -96,7 +106,8 @@ IsSlot layout e = IsSomeAnd (pool_numbers layout e.pool) (λ n. e.slot < n.count
 
 -- the layout is one of the specification, for an image of so many bytes, of which
 -- there are no more than there may be, and each write can be made
-pub record CanStep (spec : Spec) (layout : Layout) (step : Step) (update : Update) (bytes : ℕ) : Type 0 where
+pub record CanStep (spec : Spec) (layout : Layout) (step : Step) (update : Update)
+    (bytes : ℕ) : Type 0 where
   pub typed : IsTyped spec
   pub image : List ℕ
   pub layout_is : IsLayoutOf spec image layout

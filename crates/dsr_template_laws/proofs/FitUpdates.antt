@@ -3,7 +3,6 @@ use Rattle.std.proofs.Common.{◌≡◌, ◌≢◌, ◌<◌, ◌∙◌, ℕ, zer
 use Rattle.std.specs.List.{filter_map}
 use Rattle.std.specs.Option.{option_and_then, option_map_or}
 use Rattle.std.proofs.lemmas.Bool.{and_parts}
-use Rattle.std.proofs.lemmas.Option.{same_Some, none-some}
 use Rattle.dsr_repair_theory.specs.Choices.{IsFresh, IsFreshFrom}
 use Rattle.dsr_effect_laws.specs.Fitting.{IsFitWrite, IsPickFor}
 use Rattle.dsr_repair_laws.proofs.Compensating.{compensating}
@@ -23,8 +22,6 @@ use Rattle.dsr_ir.specs.declared.constraints.Measure.{Measure}
 use Rattle.dsr_ir.specs.declared.constraints.Quant.{Quant}
 use Rattle.dsr_ir.specs.declared.constraints.Var.{Var}
 use Rattle.dsr_ir.specs.declared.declarations.Field.{Field}
-use Rattle.dsr_ir.specs.declared.declarations.Kind.{Kind}
-use Rattle.dsr_ir.specs.declared.declarations.Kind.TheVariants as kinds
 use Rattle.dsr_ir.specs.declared.declarations.Rel.{Rel}
 use Rattle.dsr_ir.specs.declared.declarations.Structures.{Structures}
 use Rattle.dsr_ir.specs.declared.layouts.Layout.{Layout}
@@ -44,7 +41,7 @@ use Rattle.dsr_layout.specs.InRange.{IsRecordOf}
 use Rattle.dsr_meaning.specs.Counting.{IsIn}
 use Rattle.dsr_meaning.specs.Instances.{kind_pool, referred_pool}
 use Rattle.dsr_meaning.specs.Models.{IsFact}
-use Rattle.dsr_meaning.specs.Typed.{IsPoolNumber, IsTypedAtom, IsTypedKind, IsTypedPath, IsTypedRule, pool_of_var}
+use Rattle.dsr_meaning.specs.Typed.{IsPoolNumber, IsTypedAtom, IsTypedPath, IsTypedRule, pool_of_var}
 use Rattle.dsr_step_laws.proofs.AllTrue.{in_others, target_written}
 use Rattle.dsr_step_laws.proofs.ReferenceWrites.{plain_write, reference_written}
 use Rattle.dsr_step_laws.proofs.Together.{target_typed}
@@ -60,13 +57,9 @@ use Rattle.dsr_template_laws.proofs.FitWrites.{fit_guard, fit_plain, true_made, 
 use Rattle.dsr_template_laws.proofs.TriedApplications.{legal, own_among, tried_step}
 use Rattle.dsr_meaning.proofs.Items.{in_either, in_filter, of_all}
 use Rattle.dsr_meaning.proofs.Options.{chained_from, some_and}
+use Rattle.dsr_repair_laws.proofs.MakingEntries.{referred_number}
 
 -- ---- references
-
-kind_number : (base : Structures) (f : Field) (kind : Kind) (pool : ℕ) → IsTypedKind base f kind → kind_pool kind ≡ Some pool → IsPoolNumber base pool
-kind_number base f (kinds.Number init) pool typed e = absurd (none-some pool e)
-kind_number base f (kinds.Refers p) pool typed e = subst (IsPoolNumber base) (same_Some p pool e) typed
-kind_number base f kinds.Gap pool typed e = absurd (none-some pool e)
 
 -- a record of a declared pool is a slot
 slot_of : (layout : Layout) (base : Structures) (pool : ℕ) (e : Element) → IsPoolNumber base pool → IsRecordOf layout pool e → IsSlot layout e
@@ -176,7 +169,7 @@ module _ (a : Application) (t : IsTriedAt (owner_of a) a.applied.literal a.templ
         (λ pool refers.
         let kind = kind_of r.rule r.path its pool refers in
         let own = field_found a.spec.base r.path.field its.field its.is_field.declared in
-        let declared = kind_number a.spec.base its.field its.field.kind pool ((a.applied.image.typed.base.structures r.path.field.structure own.structure own.structure_is).fields r.path.field.field its.field own.field_is).kind kind in
+        let declared = referred_number a.spec.base its.field its.field.kind pool ((a.applied.image.typed.base.structures r.path.field.structure own.structure own.structure_is).fields r.path.field.field its.field own.field_is).kind kind in
         let pair : IsTypedAtom a.spec quant (atoms.Pair r.v r.w r.rel) = subst (IsTypedAtom a.spec quant) r.atom_is s.there.literal_typed.atom in
         let rel = some_and (slice_get a.spec.base.rels r.rel) (λ (q : Rel). IsSome q.target × (pool_of_var a.spec.base quant r.v ≡ Some q.source) × (pool_of_var a.spec.base quant r.w ≡ q.target)) pair in
         let read = target_read a.spec a.applied.image.typed r.rule r.rel r.rule.inc r.path of.inc r.adding_is.giver.gives r.target_is in

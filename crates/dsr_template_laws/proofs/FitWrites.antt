@@ -1,17 +1,15 @@
 -- A write of a guard or of a path of a typed rule is fit: its path is typed, and what is picked may stand in its field.
-use Rattle.std.proofs.Common.{◌≡◌, ◌≢◌, ◌∙◌, ℕ, Bool, true, false, List, [], ◌∷◌, inl, inr, if◌then◌else◌, Option, None, Some, IsSome, MatchBool, refl, sym, ap, subst}
+use Rattle.std.proofs.Common.{◌≡◌, ◌≢◌, ◌∙◌, ℕ, Bool, true, false, List, [], ◌∷◌, inl, inr, if◌then◌else◌, None, Some, IsSome, MatchBool, refl, sym, ap, subst}
 use Rattle.std.specs.Option.{option_and_then}
 use Rattle.std.proofs.lemmas.Option.{same_Some, none-some}
 use Rattle.dsr_repair_laws.proofs.MakingCan.{IsMade}
 use Rattle.dsr_repair_laws.proofs.MakingWrites.{of_guard}
-use Rattle.dsr_ir.specs.Exprs.{ExprShape}
 use Rattle.dsr_ir.specs.declared.declarations.Field.{Field}
 use Rattle.dsr_ir.specs.declared.declarations.Structures.{Structures}
 use Rattle.dsr_ir.specs.declared.layouts.Layout.{Layout}
 use Rattle.dsr_ir.specs.declared.rules.Guard.{Guard}
 use Rattle.dsr_ir.specs.declared.rules.Path.{Path}
 use Rattle.dsr_ir.specs.declared.rules.Rule.{Rule}
-use Rattle.dsr_ir.specs.declared.rules.Span.{Span}
 use Rattle.dsr_ir.specs.declared.rules.Span.TheVariants as spans
 use Rattle.dsr_ir.specs.declared.rules.Test.{Test}
 use Rattle.dsr_ir.specs.declared.rules.Test.TheVariants as tests
@@ -38,13 +36,7 @@ use Rattle.dsr_meaning.specs.Instances.{declared_field}
 use Rattle.dsr_update_theory.specs.Templates.{all_true, value_write}
 use Rattle.dsr_meaning.proofs.Options.{chained_from, failed_from, mapped_from}
 use Rattle.dsr_meaning.proofs.Items.{of_all}
-
--- an index runs over arrays alone
-indexed_some : (base : Structures) (span : Span) (indexed : Bool) (len : Option ExprShape) → MatchBool indexed (RunsOver base span len) (len ≡ None) → MatchBool indexed (IsSome len) (len ≡ None)
-indexed_some base span false len of = of
-indexed_some base (spans.Array place) true len of = of.0
-indexed_some base spans.Single true len of = absurd of
-indexed_some base (spans.Slots pool) true len of = absurd of
+use Rattle.dsr_repair_laws.proofs.MakingSpans.{indexed_some}
 
 -- of a rule without index no path has one
 pub unindexed : (base : Structures) (rule : Rule) (path : Path) → rule.span ≡ spans.Single → IsTypedPath base rule path → path.indexed ≡ false

@@ -4,7 +4,7 @@ use Rattle.std.proofs.Common.{◌≡◌, ℕ, List, [], Some, refl, ap, subst, s
 use Rattle.std.specs.Prelude.{MatchOption}
 use Rattle.dsr_repair_laws.proofs.Forms.{listed_form}
 use Rattle.dsr_repair_laws.proofs.GrownUpdates.{as_tried, of_form}
-use Rattle.dsr_repair_laws.proofs.KnownSets.{told}
+use Rattle.dsr_plan_laws.proofs.KnownSets.{told}
 use Rattle.dsr_ir.specs.declared.constraints.Literal.{Literal}
 use Rattle.dsr_ir.specs.declared.updates.Template.{Template}
 use Rattle.dsr_ir.specs.declared.updates.Update.{Update}

@@ -8,7 +8,6 @@ use Rattle.dsr_step_laws.proofs.GivenSymbols.{giver_of}
 use Rattle.dsr_effect_laws.proofs.FactChanges.{not_gained, not_lost}
 use Rattle.dsr_effect_laws.proofs.Writes.{IsLeftFrom, left_from}
 use Rattle.dsr_effect_laws.specs.Fitting.{IsFitStep}
-use Rattle.dsr_repair_laws.proofs.FormItems.{giver_in}
 use Rattle.dsr_repair_laws.proofs.MakingRecords.{place_named}
 use Rattle.dsr_ir.specs.declared.constraints.Atom.TheVariants as atoms
 use Rattle.dsr_ir.specs.declared.constraints.Atom.{Atom}
@@ -52,6 +51,7 @@ use Rattle.dsr_template_laws.proofs.KnownMembers.{last}
 use Rattle.dsr_template_laws.proofs.MadeAsJudged.{fit, made}
 use Rattle.dsr_template_laws.proofs.TriedApplications.{own_among, tried_step}
 use Rattle.dsr_meaning.proofs.Options.{and_some, some_and}
+use Rattle.dsr_plan_laws.proofs.KnownSets.{giver_in}
 
 -- the number with which it is compared is one that the comparison allows
 reached : (op : Op) → reaches_bound op ≡ true → (n : ℕ) → Compares op n n

@@ -16,14 +16,17 @@ use Rattle.dsr_update_theory.specs.Givers.{IsGiver}
 use Rattle.dsr_template_laws.specs.Judging.{Application}
 
 -- the instance is an active one of a rule that gives facts of the symbol
-pub record IsActiveFor (spec : Spec) (layout : Layout) (bytes : List ℕ) (symbol : Symbol) (i : Instance) : Type 0 where
+pub record IsActiveFor (spec : Spec) (layout : Layout) (bytes : List ℕ) (symbol : Symbol)
+    (i : Instance) : Type 0 where
   pub rule : Rule
   pub giver : IsGiver spec symbol i.rule rule
   pub active : IsActive spec layout bytes i
 
 -- each such instance was one before, and one that was isn't any more
-pub record HasFewer (spec : Spec) (layout : Layout) (old new : List ℕ) (symbol : Symbol) : Type 0 where
-  pub none_new : (i : Instance) → IsActiveFor spec layout new symbol i → IsActiveFor spec layout old symbol i
+pub record HasFewer (spec : Spec) (layout : Layout) (old new : List ℕ)
+    (symbol : Symbol) : Type 0 where
+  pub none_new :
+      (i : Instance) → IsActiveFor spec layout new symbol i → IsActiveFor spec layout old symbol i
   pub stopped : Instance
   pub was : IsActiveFor spec layout old symbol stopped
   pub no_more : IsActiveFor spec layout new symbol stopped → ⊥
@@ -33,7 +36,8 @@ pub record HasFewer (spec : Spec) (layout : Layout) (old new : List ℕ) (symbol
 abbrev pub Helps : Spec → Layout → Template → Step → List ℕ → List ℕ → Literal → Type 0
 Helps spec layout template step old new literal =
     LiteralHolds (IsFact spec layout new) step.binding literal
-    ⊎ (TakesAway template.goal step.update × HasFewer spec layout old new (atom_symbol literal.atom))
+    ⊎ (TakesAway template.goal step.update
+    × HasFewer spec layout old new (atom_symbol literal.atom))
 
 abbrev pub IsHelped : Application → Type 0
 IsHelped a = Helps a.spec a.layout a.template a.step a.old a.new a.applied.literal

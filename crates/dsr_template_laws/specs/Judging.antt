@@ -25,7 +25,8 @@ pub record Application : Type 0 where
 
 -- the constraint for which the step is made
 abbrev pub owner_by : Spec → Step → Constraint → Owner
-owner_by spec step constraint = record { spec = spec; number = step.constraint; constraint = constraint }
+owner_by spec step constraint =
+    record { spec = spec; number = step.constraint; constraint = constraint }
 
 abbrev pub owner_of : Application → Owner
 owner_of a = owner_by a.spec a.step a.applied.violated.constraint

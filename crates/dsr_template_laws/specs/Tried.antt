@@ -12,7 +12,8 @@ use Rattle.dsr_template_laws.specs.Judging.{Application, change_in, owner_of}
 
 -- the update, by its place in the template, is one of a template that is tried for the literal,
 -- perhaps compensated
-pub record IsTriedAt (owner : Owner) (its : Literal) (template : Template) (n : ℕ) (update : Update) : Type 0 where
+pub record IsTriedAt (owner : Owner) (its : Literal) (template : Template) (n : ℕ)
+    (update : Update) : Type 0 where
   pub known : KnownSets
   pub tells : TellsKnown owner.spec owner.constraint.quant known
   pub tried : List Template

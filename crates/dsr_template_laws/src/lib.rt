@@ -27,7 +27,8 @@ ghost use Rattle.dsr_update_theory.specs.declared.effects.Direction.TheVariants.
 pub fn indexed_writes_stand_alone()
     ensures { (owner : Owner) → IsTyped owner.spec → (literal : Literal)
         → IsTypedLiteral owner.spec owner.constraint.quant literal
-        → (template : Template) (n : ℕ) (update : Update) → IsTriedAt owner literal template n update
+        → (template : Template) (n : ℕ) (update : Update)
+        → IsTriedAt owner literal template n update
         → (write : Write) → IsIn write update.writes → write.path.indexed ≡ true
         → (update.writes ≡ write ∷ []) ⊎ (update.place ≡ Head) }
 {}
@@ -37,28 +38,36 @@ pub fn indexed_writes_stand_alone()
 /// template that is tried for the literal, compensated or not, and can be made as it is judged.
 pub fn tried_updates_change_what_is_judged()
     ensures gains { (a : Application) → IsTried a
-        → (fact : Fact) → IsGained a.spec a.layout a.old a.new fact → Lies (change_in a) a.step Gain fact }
+        → (fact : Fact) → IsGained a.spec a.layout a.old a.new fact
+        → Lies (change_in a) a.step Gain fact }
     ensures losses { (a : Application) → IsTried a
-        → (fact : Fact) → IsLost a.spec a.layout a.old a.new fact → Lies (change_in a) a.step Loss fact }
+        → (fact : Fact) → IsLost a.spec a.layout a.old a.new fact
+        → Lies (change_in a) a.step Loss fact }
 {}
 
-/// So it is with each update of a listed template.
+/// Each fact that the model gains or loses where an update of a listed template is applied lies in
+/// the table of the update's effect, under its symbol, with a tag that allows its record.
 pub fn listed_updates_change_what_is_judged()
     ensures gains { (a : Application) (number : ℕ) → IsListed a number
-        → (fact : Fact) → IsGained a.spec a.layout a.old a.new fact → Lies (change_in a) a.step Gain fact }
+        → (fact : Fact) → IsGained a.spec a.layout a.old a.new fact
+        → Lies (change_in a) a.step Gain fact }
     ensures losses { (a : Application) (number : ℕ) → IsListed a number
-        → (fact : Fact) → IsLost a.spec a.layout a.old a.new fact → Lies (change_in a) a.step Loss fact }
+        → (fact : Fact) → IsLost a.spec a.layout a.old a.new fact
+        → Lies (change_in a) a.step Loss fact }
 {}
 
-/// Where such an update of a template that is tried serves what it is for, the literal is true
-/// afterwards, or the update takes a fact away, no instance of the rules of the literal's symbol
-/// becomes active, and one that was isn't any more.
+/// Where an update of a template that is tried, compensated or not, can be made as it is judged and
+/// serves what it is for, the literal is true after it was applied, or the update takes a fact
+/// away, no instance of the rules of the literal's symbol becomes active, and one that was isn't
+/// any more.
 pub fn tried_updates_help()
     ensures { (a : Application) → IsTried a
         → MayServe a.template.goal a.applied.literal.atom a.step.update (change_in a) → IsHelped a }
 {}
 
-/// So it is with each update of a listed template.
+/// After an update of a listed template was applied the literal is true, or the update takes a fact
+/// away, no instance of the rules of the literal's symbol becomes active, and one that was isn't
+/// any more.
 pub fn listed_updates_help()
     ensures { (a : Application) (number : ℕ) → IsListed a number → IsHelped a }
 {}

@@ -69,7 +69,8 @@ is_written c field = is_some (write_to c.update.writes field)
 -- counts as touched, and nothing is known of its value
 abbrev pub is_foreign : Change → FieldRef → Bool
 is_foreign c field =
-    any_of (λ w. not (are_related c.spec.base field.structure w.path.field.structure)) c.update.writes
+    any_of (λ w. not (are_related c.spec.base field.structure w.path.field.structure))
+    c.update.writes
 
 -- the field's value at W may be another one afterwards
 abbrev pub is_touched : Change → FieldRef → Bool

@@ -31,7 +31,8 @@ is_fresh_pick _ = false
 
 -- the field gets the code of the fresh record
 abbrev pub gets_fresh : Change → FieldRef → Bool
-gets_fresh c field = option_map_or (λ w. is_fresh_pick w.pick) (write_to c.update.writes field) false
+gets_fresh c field =
+    option_map_or (λ w. is_fresh_pick w.pick) (write_to c.update.writes field) false
 
 abbrev pub is_gain : Direction → Bool
 is_gain Gain = true
@@ -43,7 +44,8 @@ tag_at_w c rule direction (Own set) = Written
 tag_at_w c rule direction (OwnPair rel path) = Written
 tag_at_w c rule direction (Slot set pool) = if is_at_entry c rule then Entry else Any
 tag_at_w c rule direction (SlotPair rel pool path) = if is_at_entry c rule then Entry else Any
-tag_at_w c rule direction (Target set path) = if is_gain direction && gets_fresh c path.field then Fresh else Any
+tag_at_w c rule direction (Target set path) =
+    if is_gain direction && gets_fresh c path.field then Fresh else Any
 
 -- of an instance at F
 abbrev pub tag_at_f : Inc → Tag
@@ -58,11 +60,15 @@ tag_passed inc tag = if is_own inc then tag else Any
 -- what the instances of the rule at W and at F may gain or lose
 pub data MayChange (c : Change) (rule : Rule) : Direction → Tag → Type 0 where
   gain_at_w :
-      IsTouchedAtW c rule → (IsBlockedAtW c rule false → ⊥) → MayChange c rule Gain (tag_at_w c rule Gain rule.inc)
+      IsTouchedAtW c rule → (IsBlockedAtW c rule false → ⊥)
+      → MayChange c rule Gain (tag_at_w c rule Gain rule.inc)
   loss_at_w :
-      IsTouchedAtW c rule → (StaysAtW c rule → ⊥) → MayChange c rule Loss (tag_at_w c rule Loss rule.inc)
-  gain_at_f : IsTouchedAtF c rule → (IsBlockedAtF c rule → ⊥) → MayChange c rule Gain (tag_at_f rule.inc)
-  loss_at_f : IsTouchedAtF c rule → (StaysAtF c rule → ⊥) → MayChange c rule Loss (tag_at_f rule.inc)
+      IsTouchedAtW c rule → (StaysAtW c rule → ⊥)
+      → MayChange c rule Loss (tag_at_w c rule Loss rule.inc)
+  gain_at_f :
+      IsTouchedAtF c rule → (IsBlockedAtF c rule → ⊥) → MayChange c rule Gain (tag_at_f rule.inc)
+  loss_at_f :
+      IsTouchedAtF c rule → (StaysAtF c rule → ⊥) → MayChange c rule Loss (tag_at_f rule.inc)
 
 -- the rule has no instance at W, or at F, where that joins the premise
 abbrev pub IsLeftOut : Change → Rule → Direction → Tag → Type 0
@@ -78,11 +84,13 @@ other_direction Loss = Gain
 -- their premise does, and for a complement what its set may, the other way round.
 pub data InTable (c : Change) : Direction → Symbol → Tag → Type 0 where
   touched :
-      (rule : Rule) (direction : Direction) (tag : Tag) → IsIn rule c.spec.rules → MayChange c rule direction tag
+      (rule : Rule) (direction : Direction) (tag : Tag) → IsIn rule c.spec.rules
+      → MayChange c rule direction tag
       → InTable c direction (symbol_of rule.inc) tag
   passed :
       (rule : Rule) (premise : ℕ) (direction : Direction) (tag : Tag) → IsIn rule c.spec.rules
-      → rule.premise ≡ Some premise → InTable c direction (Set premise) tag → (IsLeftOut c rule direction tag → ⊥)
+      → rule.premise ≡ Some premise → InTable c direction (Set premise) tag
+      → (IsLeftOut c rule direction tag → ⊥)
       → InTable c direction (symbol_of rule.inc) (tag_passed rule.inc tag)
   swapped :
       (set base : ℕ) (direction : Direction) (tag : Tag) → base_of c.spec set ≡ Some base
@@ -113,4 +121,5 @@ tags_of Loss effect = effect.losses
 -- the symbol may change so
 abbrev pub changes : Structures → Effect → Direction → Symbol → Tag → Bool
 changes base effect direction symbol tag =
-    option_map_or (has_tag tag) (slice_get (tags_of direction effect) (symbol_number base symbol)) false
+    option_map_or (has_tag tag)
+    (slice_get (tags_of direction effect) (symbol_number base symbol)) false

@@ -26,7 +26,8 @@ pub data ConstraintFact : Type 0 where
 -- one set is the complement of the other
 abbrev pub is_complement : Spec → ℕ → ℕ → Bool
 is_complement spec set base =
-    option_map_or (λ s. option_map_or (nat_eq base) s.except false) (slice_get spec.base.sets set) false
+    option_map_or (λ s. option_map_or (nat_eq base) s.except false)
+    (slice_get spec.base.sets set) false
 
 abbrev pub are_complements : Spec → ℕ → ℕ → Bool
 are_complements spec a b = is_complement spec a b || is_complement spec b a

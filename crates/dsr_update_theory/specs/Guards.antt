@@ -66,6 +66,7 @@ abbrev pub guard_write : Structures → Bool → Guard → Option Write
 guard_write base wanted guard =
     option_and_then
     (λ f. if f.fixed then None
-    else option_map (λ pick. record { path = guard.path; pick = pick; wants = Some (guard.test, wanted) })
+    else option_map
+    (λ pick. record { path = guard.path; pick = pick; wants = Some (guard.test, wanted) })
     (pick_wanted wanted f guard.test))
     (declared_field base guard.path.field)

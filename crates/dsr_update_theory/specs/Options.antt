@@ -20,7 +20,8 @@ open_pool f = if f.fixed then None else kind_pool f.kind
 -- the write of what is picked to a path, where the path's field is a reference that may be written
 abbrev pub reference_write : Structures → Pick → Path → Option Write
 reference_write base pick path =
-    option_and_then (λ f. option_map (λ pool. record { path = path; pick = pick; wants = None }) (open_pool f))
+    option_and_then
+    (λ f. option_map (λ pool. record { path = path; pick = pick; wants = None }) (open_pool f))
     (declared_field base path.field)
 
 -- a reference that is the target is written none

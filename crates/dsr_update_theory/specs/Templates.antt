@@ -139,7 +139,8 @@ abbrev pub relates_by : Structures → KnownSets → Var → Var → ℕ → Rul
 relates_by base known v w k rule =
     if is_own rule.inc && serves known v rule
     then listed (option_map (adding goals.AddTuple k v None)
-    (option_and_then (λ path. target_writes base (picks.CodeOf w) path rule.guards) (target_of rule.inc)))
+    (option_and_then (λ path. target_writes base (picks.CodeOf w) path rule.guards)
+    (target_of rule.inc)))
     else []
 
 -- the pool to which a field refers
@@ -177,7 +178,8 @@ set_supplies spec known quant set =
 abbrev pub target_supplies : Spec → KnownSets → Var → ℕ → List Template
 target_supplies spec known v rel =
     each_giver spec (symbols.Rel rel)
-    (λ k rule. if is_own rule.inc && is_some (option_and_then (λ r. r.target) (slice_get spec.base.rels rel))
+    (λ k rule.
+    if is_own rule.inc && is_some (option_and_then (λ r. r.target) (slice_get spec.base.rels rel))
     then supplies_by spec.base known v k rule else [])
 
 -- what can supply what is counted; sources can't be supplied
@@ -193,9 +195,11 @@ supplies spec known quant (Into rel v) = []
 -- is to be removed
 abbrev pub removal_place : Option Var → Rule → Place
 removal_place (Some First) rule =
-    if is_own rule.inc then places.Of First else (if is_some rule.premise then places.Deriver else places.Head)
+    if is_own rule.inc then places.Of First
+    else (if is_some rule.premise then places.Deriver else places.Head)
 removal_place (Some Second) rule =
-    if is_own rule.inc then places.Of Second else (if is_some rule.premise then places.Deriver else places.Head)
+    if is_own rule.inc then places.Of Second
+    else (if is_some rule.premise then places.Deriver else places.Head)
 removal_place v rule = if is_some rule.premise then places.Deriver else places.Head
 
 -- the entry that is written
@@ -278,7 +282,8 @@ is_into _ = false
 -- each supply with each trim, the supplies varying slowest
 abbrev pub with_trims : List Template → List Template → List Template
 with_trims supplied trims =
-    flat_map (λ s. map (λ t. record { goal = goals.ExactlyOne; updates = s.updates ++ t.updates }) trims)
+    flat_map
+    (λ s. map (λ t. record { goal = goals.ExactlyOne; updates = s.updates ++ t.updates }) trims)
     supplied
 
 -- ---- values
@@ -290,7 +295,8 @@ pick_of (bounds.Size measure) = picks.SizeOf measure
 -- the write of a value to a path whose field isn't fixed
 abbrev pub value_write : Structures → Pick → Path → Option Write
 value_write base pick path =
-    option_and_then (λ f. if f.fixed then None else Some (record { path = path; pick = pick; wants = None }))
+    option_and_then
+    (λ f. if f.fixed then None else Some (record { path = path; pick = pick; wants = None }))
     (declared_field base path.field)
 
 -- a rule that gives the record with a number is set there; one that gives slots of a pool with
@@ -298,7 +304,8 @@ value_write base pick path =
 abbrev pub setting : Structures → Var → Pick → ℕ → Rule → Inc → Option Template
 setting base v pick k rule (OwnPair rel path) =
     if is_single rule.span
-    then option_map (λ write. adding goals.SetValue k v None (write ∷ [])) (value_write base pick path)
+    then option_map (λ write. adding goals.SetValue k v None (write ∷ []))
+    (value_write base pick path)
     else None
 setting base v pick k rule (SlotPair rel pool path) =
     if is_some rule.premise then None
@@ -324,7 +331,8 @@ settings base v pick _ = []
 -- the templates for a size: too many are trimmed, none are supplied, and for exactly one both
 abbrev pub AreSized : Spec → KnownSets → Quant → Measure → Op → ℕ → List Template → Type 0
 AreSized spec known quant measure Le k templates = AreTrims spec measure templates
-AreSized spec known quant measure Ge (suc zero) templates = templates ≡ supplies spec known quant measure
+AreSized spec known quant measure Ge (suc zero) templates =
+    templates ≡ supplies spec known quant measure
 AreSized spec known quant measure Eq zero templates = AreTrims spec measure templates
 AreSized spec known quant measure Eq (suc zero) templates =
     (trims : List Template) × AreTrims spec measure trims
@@ -373,4 +381,5 @@ literal_at c conj literal =
 abbrev pub AreRawOf : Spec → Constraint → ℕ → ℕ → List Template → Type 0
 AreRawOf spec c conj literal templates =
     MatchOption (literal_at c conj literal) (templates ≡ [])
-    (λ l. (known : KnownSets) → TellsKnown spec c.quant known → AreRaw spec known c.quant l templates)
+    (λ l. (known : KnownSets) → TellsKnown spec c.quant known
+    → AreRaw spec known c.quant l templates)

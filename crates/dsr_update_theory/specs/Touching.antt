@@ -85,7 +85,8 @@ abbrev pub reset_value : Change → FieldRef → Option CellValue
 reset_value c place =
     option_and_then
     (λ d. if descends c.spec.base.structures d.structure place.structure
-    then option_and_then (λ field. reset_of field.kind) (declared_field c.spec.base place) else None)
+    then option_and_then (λ field. reset_of field.kind) (declared_field c.spec.base place)
+    else None)
     (fresh_pool c)
 
 abbrev pub IsSureAtF : Change → Bool → Guard → Type 0
@@ -96,7 +97,8 @@ IsSureAtF c wanted guard = IsSomeAnd (reset_value c guard.path.field) (ComesOut 
 -- some guard is of the kind, or the target is
 abbrev pub HasGuardOrTarget : Rule → (Guard → Type 0) → (Path → Type 0) → Type 0
 HasGuardOrTarget rule OfGuard OfTarget =
-    ((guard : Guard) × IsIn guard rule.guards × OfGuard guard) ⊎ IsSomeAnd (target_of rule.inc) OfTarget
+    ((guard : Guard) × IsIn guard rule.guards × OfGuard guard)
+    ⊎ IsSomeAnd (target_of rule.inc) OfTarget
 
 -- no instance fires at W, since a guard is surely false there, or the target is left none
 abbrev pub IsBlockedAtW : Change → Rule → Bool → Type 0
@@ -106,7 +108,8 @@ IsBlockedAtW c rule joins =
 
 abbrev pub IsBlockedAtF : Change → Rule → Type 0
 IsBlockedAtF c rule =
-    HasGuardOrTarget rule (IsSureAtF c false) (λ path. reset_value c path.field ≡ Some NoneReference)
+    HasGuardOrTarget rule (IsSureAtF c false)
+    (λ path. reset_value c path.field ≡ Some NoneReference)
 
 -- ---- which instances that fired before fire afterwards, and give the same
 

@@ -51,7 +51,8 @@ IsPicked field (picks.SizeOf measure) value = MayHold field value
 -- the same, or any value of the field with which a wanted test comes out as wanted
 abbrev pub MayLeaveWanted : Field → Pick → Option (Test × Bool) → CellValue → Type 0
 MayLeaveWanted field pick None value = IsPicked field pick value
-MayLeaveWanted field pick (Some (test, wanted)) value = MayHold field value × ComesOut wanted test value
+MayLeaveWanted field pick (Some (test, wanted)) value =
+    MayHold field value × ComesOut wanted test value
 
 -- the written cell may hold the value afterwards: the write of a removal is always made, another
 -- one is skipped where what it wants holds already

@@ -19,8 +19,8 @@ use Rattle.dsr_graph.specs.Graphs.{IsOwnerIn, ways_of}
 use Rattle.dsr_graph.specs.declared.graphs.Graph.{Graph}
 use Rattle.dsr_graph_theory.specs.Owners.{Owner}
 use Rattle.dsr_placement.proofs.Counted.{few_ways}
-use Rattle.dsr_compensate.proofs.Standing.{place_below}
 use Rattle.std.proofs.lemmas.Fmt.{decimal_injective}
+use Rattle.std.proofs.lemmas.Option.{slice_get_within}
 use Rattle.dsr_plan_theory.specs.Plans.{IsListedAt, owner_at}
 use Rattle.dsr_plan_theory.specs.declared.choices.Way.{Way}
 use Rattle.dsr_plan_theory.specs.declared.choices.Way.TheVariants.{Test, By}
@@ -35,7 +35,7 @@ module _ (graph : Graph) (n : ℕ) (owner : Owner) (in_graph : IsOwnerIn graph n
   few_listed : (number : ℕ) (template : Template) → IsListedAt owner conj literal number template → number ≤ 64
   few_listed number template its =
       let there = found_there graph n owner in_graph conj literal number template its in
-      let less = place_below (ways_of graph n conj literal) (number - 1) template there in
+      let less = slice_get_within (ways_of graph n conj literal) (number - 1) template there in
       let few = few_ways graph n owner in_graph conj literal in
       omega (arith, less, few)
 

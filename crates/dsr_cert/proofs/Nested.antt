@@ -5,10 +5,10 @@ use Rattle.dsr_cert.proofs.Appended.{each_more, each_next}
 use Rattle.dsr_cert.proofs.Joined.{long, part_joined, stands_back, stands_front}
 use Rattle.dsr_cert.specs.Certificates.{certificate_lines, ended, first_line, last_line, rows_lines}
 use Rattle.dsr_cert.specs.declared.faults.CertFault.TheVariants as faults
-use Rattle.dsr_graph.proofs.Paired.{item_beyond, item_there}
-use Rattle.dsr_compensate.proofs.Standing.{item_got, place_below}
+use Rattle.dsr_graph.proofs.Paired.{item_beyond}
 use Rattle.dsr_plan_theory.specs.declared.choices.Row.{Row}
 use Rattle.std.proofs.lemmas.Bool.Decides.{nat_tests}
+use Rattle.std.proofs.lemmas.Option.{slice_get_within, slice_get-get_or}
 use Rattle.dsr_cert.specs.Forms.{Form, Heading, Ending, IsWrongIn, OfLiteral, beyond, constraints_forms, forms, malformed, no_template}
 use Rattle.dsr_cert.specs.declared.faults.CertFault.{CertFault}
 use Rattle.dsr_cert.specs.Parts.{IsFirstFrom, IsPart, NoneWrong, Stands}
@@ -19,6 +19,7 @@ use Rattle.dsr_ir.specs.declared.constraints.Literal.{Literal}
 use Rattle.dsr_ir.specs.declared.declarations.Spec.{Spec}
 use Rattle.dsr_meaning.specs.Lists.{each_at}
 use Rattle.dsr_update_theory.specs.Templates.{literal_at}
+use Rattle.dsr_meaning.proofs.Items.{item_there}
 
 module _ {S T : Type 0} (f : ℕ → S → List T) where
   -- what an item gives stands behind what those before it give
@@ -79,7 +80,7 @@ next_step f xs i x less is at next behind now further =
 
 -- an item of a list that is another's
 pub got_there : {T : Type 0} (xs ys : List T) (k : ℕ) → xs ≡ ys → k < length xs → (d : T) → slice_get ys k ≡ Some (get_or xs k d)
-got_there xs ys k same less d = subst (λ zs. slice_get zs k ≡ Some (get_or xs k d)) same (item_got xs k d less)
+got_there xs ys k same less d = subst (λ zs. slice_get zs k ≡ Some (get_or xs k d)) same (slice_get-get_or xs k d less)
 
 -- ---- all forms
 
@@ -137,9 +138,9 @@ module _ (spec : Spec) where
       many = many_forms next next_is
 
       not_beyond : (k : ℕ) (fault : CertFault) → length (forms spec) ≤ k → IsWrongIn spec lines k fault → ⊥
-      not_beyond _ _ far (malformed k form is not_formed) = let near = place_below (forms spec) k form is in omega (arith, near, far)
-      not_beyond _ _ far (beyond k line none is) = let near = place_below lines k line is in let all = many in omega (arith, near, far, le, all)
-      not_beyond _ _ far (no_template k n conj literal line is ended_is none) = let near = place_below (forms spec) k (OfLiteral n conj literal) is in omega (arith, near, far)
+      not_beyond _ _ far (malformed k form is not_formed) = let near = slice_get_within (forms spec) k form is in omega (arith, near, far)
+      not_beyond _ _ far (beyond k line none is) = let near = slice_get_within lines k line is in let all = many in omega (arith, near, far, le, all)
+      not_beyond _ _ far (no_template k n conj literal line is ended_is none) = let near = slice_get_within (forms spec) k (OfLiteral n conj literal) is in omega (arith, near, far)
 
       by : (b : Bool) → nat_lt k (length (forms spec)) ≡ b → ⊥
       by true e = whole.right k fault (omega arith) (grind (arith, nat_tests)) wrong

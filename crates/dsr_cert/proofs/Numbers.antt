@@ -1,6 +1,7 @@
 -- The numbers of flaws are below the limits of a specification.
 use Rattle.std.proofs.Common.{◌≡◌, ◌≤◌, ◌<◌, ℕ, true, false, nat_eq, [], ◌∷◌, Some, slice_get, refl, arith}
 use Rattle.std.specs.Prelude.{if◌then◌else◌}
+use Rattle.std.proofs.lemmas.Option.{slice_get_within}
 use Rattle.dsr_cert.specs.Flaws.{Flaw, Uncovered, Unlisted, Falsifying, Breaking, Relying, HasWay, rank}
 use Rattle.dsr_cert.specs.Searches.{BeginsWith, IsFlawUnder, kind_of}
 use Rattle.dsr_cert.specs.declared.flaws.Wrong.{Wrong}
@@ -12,7 +13,6 @@ use Rattle.dsr_meaning.proofs.Firing.{found_fits}
 use Rattle.dsr_meaning.specs.Typed.{IsTyped, IsTypedConj, IsTypedConstraint, constraint_limit}
 use Rattle.dsr_placement.proofs.Marks.{parts_of}
 use Rattle.dsr_plan_theory.specs.declared.choices.Choice.{Choice}
-use Rattle.dsr_compensate.proofs.Standing.{place_below}
 use Rattle.dsr_update_theory.specs.Templates.{literal_at}
 
 pub limit : (version : ℕ) → constraint_limit version ≤ 128
@@ -31,7 +31,7 @@ kind_high wrongs.Breaking = omega arith
 module _ (spec : Spec) (typed : IsTyped spec) where
   pub number_below : (n : ℕ) (c : Constraint) → slice_get spec.constraints n ≡ Some c → n < 128
   number_below n c is =
-      let less = place_below spec.constraints n c is in
+      let less = slice_get_within spec.constraints n c is in
       let few = typed.few_constraints in
       let most = limit spec.base.version in
       omega (arith, less, few, most)
@@ -40,7 +40,7 @@ module _ (spec : Spec) (typed : IsTyped spec) where
   conj_below n c conj literal its is there =
       let sound = found_fits (IsTypedConstraint spec) spec.constraints n c typed.constraints is in
       let parts = parts_of c conj literal its there in
-      let less = place_below c.conjs conj parts.0 parts.1 in
+      let less = slice_get_within c.conjs conj parts.0 parts.1 in
       let few = sound.few_conjs in
       omega (arith, less, few)
 
@@ -49,7 +49,7 @@ module _ (spec : Spec) (typed : IsTyped spec) where
       let sound = found_fits (IsTypedConstraint spec) spec.constraints n c typed.constraints is in
       let parts = parts_of c conj literal its there in
       let fits = found_fits (IsTypedConj spec c.quant) c.conjs conj parts.0 sound.conjs parts.1 in
-      let less = place_below parts.0.literals literal its parts.2 in
+      let less = slice_get_within parts.0.literals literal its parts.2 in
       let few = fits.few_literals in
       omega (arith, less, few)
 

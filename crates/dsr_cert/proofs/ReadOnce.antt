@@ -3,6 +3,7 @@ use Rattle.std.proofs.Common.{◌≡◌, ◌≤◌, ◌<◌, ◌+◌, ◌-◌, �
 use Rattle.std.specs.Prelude.{codes, decimal, nat_eq, option_and_then}
 use Rattle.std.proofs.lemmas.Fmt.{decimal_injective}
 use Rattle.std.proofs.lemmas.List.{length-append}
+use Rattle.std.proofs.lemmas.Option.{slice_get_within}
 use Rattle.bstr.specs.Text.{lines_of}
 use Rattle.dsr_cert.proofs.Naming.{test_numbers}
 use Rattle.dsr_cert.proofs.Numbers.{limit}
@@ -22,7 +23,6 @@ use Rattle.dsr_plan_theory.specs.declared.choices.Choice.{Choice}
 use Rattle.dsr_plan_theory.specs.declared.choices.Row.{Row}
 use Rattle.dsr_plan_theory.specs.declared.choices.Way.{Way}
 use Rattle.dsr_plan_theory.specs.declared.choices.Way.TheVariants.{Test, By}
-use Rattle.dsr_compensate.proofs.Standing.{place_below}
 use Rattle.dsr_update_theory.specs.Templates.{literal_at}
 
 -- ---- lists that are made part by part
@@ -86,7 +86,7 @@ module _ (owner : Owner) where
   module _ (conj literal : ℕ) where
     few : (number : ℕ) (template : Template) → IsListedAt owner conj literal number template → number < 2 ^ 64
     few number template its =
-        let less = place_below its.templates (number - 1) template its.template_is in
+        let less = slice_get_within its.templates (number - 1) template its.template_is in
         let most = few_listed owner conj literal its.templates its.listed in
         omega (arith, less, most)
 

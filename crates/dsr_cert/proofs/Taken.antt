@@ -25,7 +25,7 @@ use Rattle.dsr_plan_theory.specs.declared.choices.Way.TheVariants.{By}
 use Rattle.dsr_placement.proofs.Once.{breaks_if}
 use Rattle.dsr_update_theory.specs.Templates.{literal_at}
 
-one_item : {T : Type 0} (o : Option T) (a b : T) → o ≡ Some a → o ≡ Some b → a ≡ b
+pub one_item : {T : Type 0} (o : Option T) (a b : T) → o ≡ Some a → o ≡ Some b → a ≡ b
 one_item o a b is too = let both = sym is ∙ too in cc
 
 not_less : (a b : ℕ) → (a < b → ⊥) → b ≤ a

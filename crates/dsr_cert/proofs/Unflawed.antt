@@ -1,14 +1,15 @@
 -- A choice that fits and has no flaw is a plan.
-use Rattle.std.proofs.Common.{◌≡◌, ◌≤◌, ◌<◌, ◌-◌, ℕ, zero, suc, true, false, nat_lt, List, [], ◌∷◌, Option, None, Some, length, slice_get, refl, sym, ap, ◌∙◌, arith}
+use Rattle.std.proofs.Common.{◌≡◌, ◌<◌, ◌-◌, ℕ, true, false, nat_lt, List, [], ◌∷◌, Option, None, Some, length, slice_get, refl, sym, ap, ◌∙◌, arith}
 use Rattle.std.specs.Prelude.{option_and_then}
 use Rattle.std.proofs.lemmas.Bool.Decides.{nat_tests}
+use Rattle.std.proofs.lemmas.Option.{slice_get_within}
 use Rattle.dsr_graph_theory.specs.Breaks.{Falsifies}
 use Rattle.dsr_cert.proofs.Stable.{covers_stable}
 use Rattle.dsr_cert.proofs.Taken.{listed_way, way_of}
 use Rattle.dsr_cert.specs.Certificates.{Fits, FitsRow}
 use Rattle.dsr_cert.specs.Flaws.{Uncovered, Falsifying, Breaking, Relying, HasNoFlaw, HasWay}
 use Rattle.dsr_cert.specs.Searches.{NoneUnder}
-use Rattle.dsr_graph.proofs.Paired.{item_beyond, item_there, paired_beyond, paired_got}
+use Rattle.dsr_graph.proofs.Paired.{beyond_item, item_beyond, paired_beyond, paired_got}
 use Rattle.dsr_graph.proofs.Telling.{falsifies_told}
 use Rattle.dsr_graph.specs.Graphs.{IsGraphOf, falsified_in}
 use Rattle.dsr_graph.specs.declared.graphs.Graph.{Graph}
@@ -24,28 +25,19 @@ use Rattle.dsr_plan_theory.specs.declared.choices.Row.{Row}
 use Rattle.dsr_plan_theory.specs.declared.choices.Way.{Way}
 use Rattle.dsr_plan_theory.specs.declared.choices.Way.TheVariants.{Test, By}
 use Rattle.dsr_update_theory.specs.Templates.{literal_at}
+use Rattle.dsr_meaning.proofs.Items.{item_there}
 
 -- ---- a row that fits
 
 abbrev Fit : ℕ → Conj → List Way → Type 0
 Fit conj its ways = length ways ≡ length its.literals
 
-beyond : {T : Type 0} (xs : List T) (n : ℕ) → slice_get xs n ≡ None → length xs ≤ n
-beyond [] n none = omega arith
-beyond (x ∷ xs) zero none = absurd cc
-beyond (x ∷ xs) (suc n) none = let rest = beyond xs n none in omega (arith, rest)
-
-below : {T : Type 0} (xs : List T) (n : ℕ) (x : T) → slice_get xs n ≡ Some x → n < length xs
-below [] n x is = absurd cc
-below (y ∷ xs) zero x is = omega arith
-below (y ∷ xs) (suc n) x is = let rest = below xs n x is in omega (arith, rest)
-
 module _ (constraint : Constraint) (row : Row) (fits : FitsRow constraint row) (conj literal : ℕ) where
   way_there : (its : Literal) → literal_at constraint conj literal ≡ Some its → (way : Way) × (way_at row conj literal ≡ Some way)
   way_there its is =
       let parts = parts_of constraint conj literal its is in
       let ways = paired_got Fit constraint.conjs row.ways conj parts.0 fits parts.1 in
-      let less = below parts.0.literals literal its parts.2 in
+      let less = slice_get_within parts.0.literals literal its parts.2 in
       let many = ways.2 in
       let way = item_there ways.0 literal (omega (arith, less, many)) in
       (way.0, ap (option_and_then (λ ws. slice_get ws literal)) ways.1 ∙ way.1)
@@ -56,7 +48,7 @@ module _ (constraint : Constraint) (row : Row) (fits : FitsRow constraint row) (
     by None is = ap (option_and_then (λ ws. slice_get ws literal)) (paired_beyond Fit constraint.conjs row.ways conj fits is)
     by (Some its) is =
         let ways = paired_got Fit constraint.conjs row.ways conj its fits is in
-        let past = beyond its.literals literal (sym (ap (option_and_then (λ c. slice_get c.literals literal)) is) ∙ none) in
+        let past = beyond_item its.literals literal (sym (ap (option_and_then (λ c. slice_get c.literals literal)) is) ∙ none) in
         let many = ways.2 in
         ap (option_and_then (λ ws. slice_get ws literal)) ways.1 ∙ item_beyond ways.0 literal (omega (arith, past, many))
 

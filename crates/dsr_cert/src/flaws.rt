@@ -11,10 +11,10 @@ ghost use Rattle.dsr_meaning.specs.Typed.{IsTyped};
 ghost use Rattle.dsr_plan_theory.specs.Plans.{Covers, IsListedAt};
 
 use crate::faults::CertFault;
-use dsr_graph::{Graph, breaks, falsifies, relies, ways};
+use dsr_graph::{Graph, Position, breaks, falsifies, relies, ways};
 use dsr_ir::{Constraint, Literal, NoMemory, Seq, Spec, Template};
-use dsr_placement::{Position, covers};
-use dsr_plan_theory::{Choice, Row, Way};
+use dsr_placement::covers;
+use dsr_plan_theory::{Choice, Row, Way, way_place};
 use std::alloc::Global;
 
 // How many constraints, conjunctions and literals there are at most.
@@ -71,7 +71,7 @@ fn is_listed(graph: &Graph, at: Position, number: u32, template: &Template) -> b
     if number == 0 {
         return false;
     }
-    match ways(graph, at.constraint, at.conj, at.literal).get(number as usize - 1) {
+    match ways(graph, at).get(way_place(number) as usize) {
         Some(listed) => *listed == *template,
         None => false,
     }
@@ -180,8 +180,8 @@ impl<'a> Chosen<'a> {
         let Some(taken) = self.taken(at) else {
             return false;
         };
-        let way = taken.number.saturating_sub(1);
-        falsifies(self.graph, at.constraint, at.conj, at.literal, way).is_some()
+        let way = way_place(taken.number);
+        falsifies(self.graph, at, way).is_some()
     }
 
     // Whether it breaks the other constraint, whose level isn't higher.
@@ -198,8 +198,8 @@ impl<'a> Chosen<'a> {
         if !self.is_not_above(other, at.constraint) {
             return false;
         }
-        let way = taken.number.saturating_sub(1);
-        breaks(self.graph, at.constraint, at.conj, at.literal, way, other).is_some()
+        let way = way_place(taken.number);
+        breaks(self.graph, at, way, other).is_some()
     }
 
     // Whether there are rows of both, and the level of the first isn't higher.

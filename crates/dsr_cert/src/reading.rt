@@ -19,10 +19,9 @@ use crate::faults::CertFault;
 use crate::lines::{Said, behind, line_at, number_below, what_is_said};
 use crate::writing::{push_name, push_position};
 use bstr::ByteSlice;
-use dsr_graph::{Graph, ways};
+use dsr_graph::{Graph, Position, ways};
 use dsr_ir::{Conj, Constraint, Literal, NoMemory, Seq, Spec, Template, TryClone};
-use dsr_placement::Position;
-use dsr_plan_theory::{Choice, Row, Way};
+use dsr_plan_theory::{Choice, Row, Way, way_place};
 use std::alloc::Global;
 
 // The levels that are read are below this.
@@ -117,7 +116,7 @@ impl<'a> Reader<'a> {
         if number == 0 {
             return None;
         }
-        match ways(self.graph, at.constraint, at.conj, at.literal).get(number as usize - 1) {
+        match ways(self.graph, at).get(way_place(number) as usize) {
             Some(template) => Some((number, template)),
             None => None,
         }

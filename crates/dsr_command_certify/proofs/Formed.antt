@@ -5,10 +5,11 @@ use Rattle.dsr_meaning.specs.Lists.{each_at}
 use Rattle.dsr_cert.proofs.Saying.{same_ended}
 use Rattle.dsr_graph.proofs.Paired.{made_item}
 use Rattle.dsr_command_certify.proofs.Feedless.{AreFeedless, IsFeedless}
-use Rattle.dsr_command_certify.proofs.Items.{made_none, same_item}
+use Rattle.dsr_command_certify.proofs.Items.{made_none}
 use Rattle.dsr_cert.specs.Certificates.{ended}
 use Rattle.dsr_cert.specs.Forms.{Form, Heading, OfConstraint, OfLiteral, Ending, IsNoTemplate, IsOfForm, IsWrongIn, beyond, forms, malformed, no_template}
 use Rattle.dsr_cert.specs.declared.faults.CertFault.{CertFault}
+use Rattle.dsr_cert.proofs.Taken.{one_item}
 
 module _ (spec : Spec) where
   -- the line of a literal doesn't name a template that isn't there
@@ -62,7 +63,7 @@ module _ (spec : Spec) where
   right_at [] [] are k form is = absurd cc
   right_at [] (line ∷ ls) are k form is = absurd are
   right_at (f ∷ fs) [] are k form is = absurd are
-  right_at (f ∷ fs) (line ∷ ls) are zero form is = record { line = line; line_is = refl; right = subst (λ x. IsRight x line) (same_item (Some f) f form refl is) are.0 }
+  right_at (f ∷ fs) (line ∷ ls) are zero form is = record { line = line; line_is = refl; right = subst (λ x. IsRight x line) (one_item (Some f) f form refl is) are.0 }
   right_at (f ∷ fs) (line ∷ ls) are (suc k) form is = let r = right_at fs ls are.1 k form is in record { line = r.line; line_is = r.line_is; right = r.right }
 
   right_past : (fs : List Form) (ls : List (List ℕ)) → AreRight fs ls → (k : ℕ) → slice_get fs k ≡ None → slice_get ls k ≡ None
@@ -85,5 +86,5 @@ module _ (spec : Spec) where
         absurd cc
     none_wrong _ _ (no_template k n conj literal line is line_is missing) =
         let r = right_at (forms spec) ls are k (OfLiteral n conj literal) is in
-        let same : line ≡ r.line = same_ended line r.line (same_item (slice_get (map ended ls) k) (ended line) (ended r.line) line_is (there k (OfLiteral n conj literal) r)) in
+        let same : line ≡ r.line = same_ended line r.line (one_item (slice_get (map ended ls) k) (ended line) (ended r.line) line_is (there k (OfLiteral n conj literal) r)) in
         r.right.named (subst (IsNoTemplate spec n conj literal) same missing)

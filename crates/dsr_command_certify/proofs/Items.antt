@@ -1,8 +1,5 @@
 -- Items of lists, by their places.
-use Rattle.std.proofs.Common.{◌≡◌, ◌∙◌, ℕ, zero, suc, List, [], ◌∷◌, Option, None, Some, length, map, slice_get, refl, sym}
-
-pub same_item : {T : Type 0} (o : Option T) (a b : T) → o ≡ Some a → o ≡ Some b → a ≡ b
-same_item o a b is too = let both = sym is ∙ too in cc
+use Rattle.std.proofs.Common.{◌≡◌, ℕ, zero, suc, List, [], ◌∷◌, None, length, map, slice_get, refl}
 
 pub past_end : {T : Type 0} (xs : List T) → slice_get xs (length xs) ≡ None
 past_end [] = refl

@@ -7,6 +7,7 @@ use Rattle.std.proofs.lemmas.Bool.{false≢true}
 use Rattle.std.proofs.lemmas.Fmt.{decimal_is_IsNumeral, first_decimal}
 use Rattle.std.proofs.lemmas.List.Elements.{All-cons, All-nil}
 use Rattle.std.proofs.lemmas.Str.Parse.{digit_from_value}
+use Rattle.std.proofs.lemmas.Option.{slice_get_within}
 use Rattle.dsr_ir.specs.declared.constraints.Conj.{Conj}
 use Rattle.dsr_ir.specs.declared.constraints.Constraint.{Constraint}
 use Rattle.dsr_ir.specs.declared.constraints.Literal.{Literal}
@@ -32,12 +33,11 @@ use Rattle.dsr_command_certify.specs.Verified.{IsCertificate, IsReadOnce}
 use Rattle.dsr_cert.proofs.Naming.{test_numbers}
 use Rattle.dsr_cert.proofs.ReadOnce.{choice_once}
 use Rattle.dsr_cert.proofs.Saying.{cancel_front}
-use Rattle.dsr_compensate.proofs.Standing.{place_below}
-use Rattle.dsr_command_certify.proofs.Items.{same_item}
 use Rattle.dsr_command_certify.specs.LowLevels.{HasLowLevels}
 use Rattle.dsr_command_certify.specs.Said.{MayBeSaid}
 use Rattle.dsr_command_certify.proofs.Feedless.{IsFeedless, decimal_feedless, feedless_joined, lines_are, name_feedless}
 use Rattle.dsr_command_certify.proofs.Formed.{AreRight, IsRight, each_right, none_wrong, right_feedless, right_joined}
+use Rattle.dsr_cert.proofs.Taken.{one_item}
 
 -- ---- numbers of templates
 
@@ -93,10 +93,10 @@ module _ (spec : Spec) (spelled : HasSpelledNames spec) where
     there : (number : ℕ) (template : Template) → IsNamed (owner_at spec n constraint) conj literal its number template → IsNoTemplate spec n conj literal (way_line conj literal (By number template)) → ⊥
     there number template may none = by none.not_there where
       same : none.constraint ≡ constraint
-      same = same_item (slice_get spec.constraints n) none.constraint constraint none.constraint_is at
+      same = one_item (slice_get spec.constraints n) none.constraint constraint none.constraint_is at
 
       same_its : none.its ≡ its
-      same_its = same_item (literal_at constraint conj literal) none.its its (ap (λ c. literal_at c conj literal) (sym same) ∙ none.literal_is) its_is
+      same_its = one_item (literal_at constraint conj literal) none.its its (ap (λ c. literal_at c conj literal) (sym same) ∙ none.literal_is) its_is
 
       same_digits : none.digits ≡ decimal number
       same_digits = sym (cancel_front (codes "way ") (decimal number) none.digits (cancel_front (before_way conj literal) (numbered (decimal number)) (numbered none.digits) none.line_is))
@@ -113,7 +113,7 @@ module _ (spec : Spec) (spelled : HasSpelledNames spec) where
     }
     way_right (By number template) may =
         let from_one = may.listed.from_one in
-        let below = place_below may.listed.templates (number - 1) template may.listed.template_is in
+        let below = slice_get_within may.listed.templates (number - 1) template may.listed.template_is in
         let few = few_listed (owner_at spec n constraint) conj literal may.listed.templates may.listed.listed in
         record {
           of_form = way n conj literal (decimal number) (numeral number (omega (arith, from_one)) (omega (arith, below, few)));
@@ -190,7 +190,7 @@ module _ (spec : Spec) (choice : Choice) (plan : IsPlan spec choice) where
     named = λ n constraint row row_of conj literal its w its_is w_is.
         let found = (plan.ways n constraint row row_of).ways conj literal its its_is in
         names_way (owner_at spec n constraint) conj literal its w
-        (subst (IsWayFor (owner_at spec n constraint) conj literal its) (same_item (way_at row conj literal) found.0 w found.1 w_is) found.2);
+        (subst (IsWayFor (owner_at spec n constraint) conj literal its) (one_item (way_at row conj literal) found.0 w found.1 w_is) found.2);
   }
 
 pub plan_valid : (spec : Spec) → HasSpelledNames spec → (choice : Choice) → IsPlan spec choice → HasLowLevels spec choice → IsCertificate spec (certificate_text spec choice)

@@ -1,22 +1,18 @@
 -- Faults of certificates, as text.
 use Rattle.std.specs.Prelude.{◌+◌, ◌++◌, ℕ, List, [], codes, decimal}
-use Rattle.dsr_answers.specs.Texts.{constraint_name}
+use Rattle.dsr_command_plan.specs.StuckTexts.{named}
 use Rattle.dsr_cert.specs.declared.faults.CertFault.{CertFault}
 use Rattle.dsr_cert.specs.declared.faults.CertFault.TheVariants.{Text, Coverage, NotATemplate, Falsifies, Edge, Reliance, NoMemory}
 use Rattle.dsr_ir.specs.declared.declarations.Spec.{Spec}
 use Rattle.dsr_script.specs.Scripts.{Answer}
 use Rattle.dsr_script.specs.declared.status.Verdict.TheVariants as verdicts
 
--- a word with a constraint's name behind it
-abbrev pub named : List ℕ → Spec → ℕ → List ℕ
-named word spec constraint = word ++ constraint_name spec constraint
-
--- and with a conjunction and a literal of it, counted from 1
+-- a word, a constraint's name, and the numbers of a conjunction and a literal, counted from 1
 abbrev pub literal_text : List ℕ → Spec → ℕ → ℕ → ℕ → List ℕ
 literal_text word spec constraint conj literal =
     named word spec constraint ++ codes " " ++ decimal (conj + 1) ++ codes "." ++ decimal (literal + 1)
 
--- with two names
+-- a word with the names of two constraints
 abbrev pub two_text : List ℕ → Spec → ℕ → ℕ → List ℕ
 two_text word spec first second = named word spec first ++ named (codes " ") spec second
 

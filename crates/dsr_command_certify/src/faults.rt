@@ -4,20 +4,12 @@ ghost use Rattle.dsr_cert.specs.declared.faults.CertFault.TheVariants as faults;
 ghost use Rattle.dsr_command_certify.specs.Faults as said;
 ghost use Rattle.dsr_script.specs.Moves.{shown};
 
-use dsr_answers::{constraint_name, push, push_number};
+use dsr_answers::{push, push_number};
 use dsr_cert::CertFault;
+use dsr_command_plan::push_named;
 use dsr_ir::{NoMemory, Spec};
 use dsr_script::{Told, Verdict};
 use std::alloc::Global;
-
-// Appends a word with a constraint's name behind it.
-fn push_named(text: &mut Vec<u8>, word: &[u8], spec: &Spec, constraint: u32) -> Result<(), NoMemory>
-    ensures { OnOk result (text.new.items ≡ text.old.items
-        ++ said.named word.now spec.now constraint) }
-{
-    push(text, word)?;
-    push(text, constraint_name(spec, constraint))
-}
 
 // Appends a word, a constraint's name, and the numbers of a conjunction and a literal, counted from
 // 1.

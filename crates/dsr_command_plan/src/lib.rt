@@ -8,4 +8,4 @@ mod stuck;
 
 pub use levels::{accepted, level_count};
 pub use plans::{Found, find, plan};
-pub use stuck::refused;
+pub use stuck::{push_named, refused};

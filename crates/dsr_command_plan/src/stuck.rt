@@ -11,9 +11,15 @@ use dsr_plan_theory::{StuckEnd, StuckMember, StuckSet, StuckWay};
 use dsr_script::{Told, Verdict};
 use std::alloc::Global;
 
-// Appends a word with a constraint's name behind it.
-fn push_named(text: &mut Vec<u8>, word: &[u8], spec: &Spec, constraint: u32) -> Result<(), NoMemory>
-    ensures { OnOk result (text.new.items ≡ text.old.items ++ said.named word.now spec.now constraint) }
+/// Appends a word with a constraint's name behind it.
+pub fn push_named(
+    text: &mut Vec<u8>,
+    word: &[u8],
+    spec: &Spec,
+    constraint: u32,
+) -> Result<(), NoMemory>
+    ensures { OnOk result (text.new.items ≡ text.old.items
+        ++ said.named word.now spec.now constraint) }
 {
     push(text, word)?;
     push(text, constraint_name(spec, constraint))

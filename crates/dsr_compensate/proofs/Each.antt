@@ -1,11 +1,11 @@
 -- What holds of each item of a list, by its place, one after the other.
 use Rattle.std.proofs.Common.{◌≡◌, ◌<◌, ◌≤◌, ◌+◌, ◌++◌, ℕ, zero, suc, true, false, nat_eq, List, [], ◌∷◌, Some, length, take, get_or, slice_get, refl, sym, ap, subst, ◌∙◌, arith}
 use Rattle.std.proofs.lemmas.Bool.Decides.{nat_tests}
-use Rattle.dsr_compensate.proofs.Standing.{item_got, place_below}
+use Rattle.std.proofs.lemmas.Option.{slice_get_within, slice_get-get_or}
 
 -- the item with a place is there
 pub item_at : {T : Type 0} (xs : List T) (n : ℕ) (x : T) → n < length xs → x ≡ get_or xs n x → slice_get xs n ≡ Some x
-item_at xs n x less is = item_got xs n x less ∙ ap Some (sym is)
+item_at xs n x less is = slice_get-get_or xs n x less ∙ ap Some (sym is)
 
 -- items of two lists that are joined
 pub got_front : {T : Type 0} (xs ys : List T) (m : ℕ) → m < length xs → slice_get (xs ++ ys) m ≡ slice_get xs m
@@ -43,5 +43,5 @@ module _ {T : Type 0} (P : ℕ → T → Type 0) (xs : List T) where
 
   pub each_ends : (n : ℕ) → length xs ≤ n → EachBefore n → (m : ℕ) (x : T) → slice_get xs m ≡ Some x → P m x
   each_ends n past before m x there =
-      let less = place_below xs m x there in
+      let less = slice_get_within xs m x there in
       before m x (omega (arith, past, less)) there

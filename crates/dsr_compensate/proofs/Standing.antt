@@ -1,22 +1,13 @@
 -- Writes that stand together, one after the other.
-use Rattle.std.proofs.Common.{◌≡◌, ◌≢◌, ◌<◌, ◌≤◌, ◌+◌, ◌||◌, ℕ, zero, suc, Bool, true, false, nat_eq, IsTrue, List, [], ◌∷◌, length, take, get_or, slice_get, Some, refl, sym, ap, subst, ◌∙◌, arith}
+use Rattle.std.proofs.Common.{◌≡◌, ◌≢◌, ◌<◌, ◌≤◌, ◌+◌, ◌||◌, ℕ, zero, suc, Bool, true, false, nat_eq, IsTrue, List, [], ◌∷◌, length, take, slice_get, Some, refl, sym, ap, subst, ◌∙◌, arith}
 use Rattle.std.proofs.lemmas.Bool.Decides.{nat_tests}
+use Rattle.std.proofs.lemmas.Option.{slice_get_within, same_Some}
+-- under these names they are cited above
+pub use Rattle.std.proofs.lemmas.Option.{slice_get_within as place_below, slice_get-get_or as item_got}
 use Rattle.dsr_ir.specs.declared.declarations.Structures.{Structures}
 use Rattle.dsr_ir.specs.declared.updates.Write.{Write}
 use Rattle.dsr_update_theory.specs.Changes.{are_related, descends}
 use Rattle.dsr_update_theory.specs.Together.{MayStandBeside, MayStandTogether}
-
--- an item that is there has its place
-pub place_below : {T : Type 0} (xs : List T) (n : ℕ) (x : T) → slice_get xs n ≡ Some x → n < length xs
-place_below [] n x e = absurd cc
-place_below (y ∷ xs) zero x e = omega arith
-place_below (y ∷ xs) (suc n) x e = let less = place_below xs n x e in omega (arith, less)
-
--- the item with a place is there
-pub item_got : {T : Type 0} (xs : List T) (n : ℕ) (d : T) → n < length xs → slice_get xs n ≡ Some (get_or xs n d)
-item_got [] n d less = absurd (omega (arith, less))
-item_got (y ∷ xs) zero d less = refl
-item_got (y ∷ xs) (suc n) d less = item_got xs n d (omega (arith, less))
 
 -- among the first ones it has the same place
 pub item_in_front : {T : Type 0} (xs : List T) (n k : ℕ) → k < n → slice_get (take n xs) k ≡ slice_get xs k
@@ -30,9 +21,6 @@ front_short : {T : Type 0} (n : ℕ) (xs : List T) → length (take n xs) ≤ n
 front_short zero xs = omega arith
 front_short (suc n) [] = omega arith
 front_short (suc n) (x ∷ xs) = let rest = front_short n xs in omega (arith, rest)
-
-some_is : {T : Type 0} (x y : T) → Some x ≡ Some y → x ≡ y
-some_is x y e = cc
 
 or_turned : (a b : Bool) → IsTrue (a || b) → IsTrue (b || a)
 or_turned true true e = refl
@@ -65,7 +53,7 @@ module _ (base : Structures) (writes : List Write) where
       elim (nat_eq i n) as (λ t. nat_eq i n ≡ t → MayStandBeside base a b) [
         | true ↦ λ e.
             let same : i ≡ n = grind (arith, nat_tests) in
-            let w_is : w ≡ a = some_is w a (sym here ∙ (ap (slice_get writes) (sym same) ∙ i_is)) in
+            let w_is : w ≡ a = same_Some w a (sym here ∙ (ap (slice_get writes) (sym same) ∙ i_is)) in
             let less : j < n = omega (arith, same, apart, j_below) in
             subst (λ x. MayStandBeside base x b) w_is (joins j b (item_in_front writes n j less ∙ j_is))
         | false ↦ λ e.
@@ -73,7 +61,7 @@ module _ (base : Structures) (writes : List Write) where
             elim (nat_eq j n) as (λ t. nat_eq j n ≡ t → MayStandBeside base a b) [
               | true ↦ λ f.
                   let same : j ≡ n = grind (arith, nat_tests) in
-                  let w_is : w ≡ b = some_is w b (sym here ∙ (ap (slice_get writes) (sym same) ∙ j_is)) in
+                  let w_is : w ≡ b = same_Some w b (sym here ∙ (ap (slice_get writes) (sym same) ∙ j_is)) in
                   beside_turned base b a (subst (λ x. MayStandBeside base x a) w_is (joins i a (item_in_front writes n i i_less ∙ i_is)))
               | false ↦ λ f. before i j a b apart i_less (grind (arith, nat_tests)) i_is j_is
             ] refl
@@ -81,13 +69,13 @@ module _ (base : Structures) (writes : List Write) where
 
   pub together_ends : (n : ℕ) → length writes ≤ n → AreTogetherBefore n → MayStandTogether base writes
   together_ends n past before i j a b apart i_is j_is =
-      let i_less = place_below writes i a i_is in
-      let j_less = place_below writes j b j_is in
+      let i_less = slice_get_within writes i a i_is in
+      let j_less = slice_get_within writes j b j_is in
       before i j a b apart (omega (arith, past, i_less)) (omega (arith, past, j_less)) i_is j_is
 
   pub together_joins : (n : ℕ) (w : Write) → slice_get writes n ≡ Some w → MayStandTogether base writes → MayJoin n w
   together_joins n w here together place other there =
-      let below = place_below (take n writes) place other there in
+      let below = slice_get_within (take n writes) place other there in
       let short = front_short n writes in
       let less : place < n = omega (arith, below, short) in
       let apart : n ≢ place = λ e. absurd (omega (arith, less, e)) in

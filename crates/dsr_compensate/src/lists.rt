@@ -1,23 +1,15 @@
 // The templates that are listed for a literal.
-ghost use Rattle.std.specs.Prelude.{◌≡◌, All, IfOk};
+ghost use Rattle.std.specs.Prelude.{All, IfOk};
 ghost use Rattle.dsr_compensate.specs.Taking.{IsJudged, templates_of};
 ghost use Rattle.dsr_graph_theory.specs.Lists.{AreListedOf};
 ghost use Rattle.dsr_compensate.specs.Owned.{IsSound, owner_of};
-ghost use Rattle.dsr_update_theory.specs.Templates as templates;
 
 use crate::judging::Judged;
 use crate::owner::Owner;
 use crate::passes::{all_compensable, take_all};
-use dsr_ir::{Constraint, Literal, NoMemory};
+use dsr_ir::NoMemory;
+use dsr_schema::literal_at;
 use std::alloc::Global;
-
-// The literal with these numbers.
-fn literal_at(constraint: &Constraint, conj: u32, literal: u32) -> Option<Literal>
-    ensures { result ≡ templates.literal_at constraint.now conj literal }
-{
-    let conj = constraint.conjs.items().get(conj as usize)?;
-    conj.literals.items().get(literal as usize).copied()
-}
 
 /// The templates that are listed for the literal with these numbers of the constraint, at most 64,
 /// each with what its updates may change; none where there is no such literal.

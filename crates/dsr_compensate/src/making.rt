@@ -13,8 +13,9 @@ ghost use Rattle.dsr_update_theory.specs.Touching.{named_by};
 ghost use Rattle.dsr_update_theory.specs.Together.{MayStandBeside, MayStandTogether};
 
 use crate::owner::Owner;
-use dsr_effect::{are_related, avoided_sets, place_pool, pool_at};
+use dsr_effect::{are_related, avoided_sets, place_pool};
 use dsr_ir::{Place, Structures, Update, Var, Write};
+use dsr_schema::pool_at;
 
 // Whether the writes are of different fields, whose structures are related.
 fn may_stand_beside(base: &Structures, write: &Write, other: &Write) -> bool

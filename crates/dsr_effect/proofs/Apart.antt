@@ -5,14 +5,12 @@ use Rattle.dsr_facts.proofs.Marking.{marked_from, marked_here, marked_still, non
 use Rattle.dsr_facts.specs.Marks.{IsMarked}
 use Rattle.dsr_effect.specs.Contexts.{IsApartFrom}
 use Rattle.dsr_ir.specs.declared.constraints.Quant.{Quant}
-use Rattle.dsr_ir.specs.declared.constraints.Var.{Var}
 use Rattle.dsr_ir.specs.declared.constraints.Var.TheVariants.{Head}
 use Rattle.dsr_ir.specs.declared.declarations.Spec.{Spec}
-use Rattle.dsr_update_theory.specs.KnownSets.{IsKnown}
-use Rattle.dsr_update_theory.specs.KnownSets.IsKnown.{quantified, source, target, base}
 use Rattle.dsr_meaning.specs.Counting.{IsIn}
 use Rattle.dsr_meaning.proofs.Lists.{in_front_or_last, last_in}
 use Rattle.dsr_meaning.proofs.Items.{in_left}
+use Rattle.dsr_goal.proofs.Tellings.{never_head}
 
 -- a pair of the set with a known one stands in the list
 abbrev pub IsPaired : (ℕ → Bool) → List (ℕ × ℕ) → ℕ → Type 0
@@ -64,16 +62,9 @@ module _ (known : ℕ → Bool) (pairs more : List (ℕ × ℕ)) (pair : ℕ × 
     );
   }
 
--- the head is known to be a member of no set
-never_head : (spec : Spec) (quant : Quant) (v : Var) (set : ℕ) → v ≡ Head → IsKnown spec quant v set → ⊥
-never_head spec quant v set e (quantified s q) = absurd cc
-never_head spec quant v set e (source rel s q given) = absurd cc
-never_head spec quant v set e (target rel s q given) = absurd cc
-never_head spec quant v set e (base w s below known given) = never_head spec quant v s e known
-
 -- so nothing is apart from it
 pub head_apart : (spec : Spec) (quant : Quant) (exclusive : List (ℕ × ℕ)) (set : ℕ) → IsMarked (replicate 64 false) set ↔ IsApartFrom spec quant exclusive Head set
-head_apart spec quant exclusive set = (λ marked. absurd (none_marked 64 set marked), λ apart. absurd (never_head spec quant Head apart.0 refl apart.1))
+head_apart spec quant exclusive set = (λ marked. absurd (none_marked 64 set marked), λ apart. absurd (never_head apart.1 refl))
 
 pub nothing_apart : (set : ℕ) → IsMarked (replicate 64 false) set ↔ ⊥
 nothing_apart set = (λ marked. none_marked 64 set marked, λ bad. absurd bad)

@@ -1,5 +1,5 @@
 -- Sets are marked until none follows from the marked ones.
-use Rattle.std.proofs.Common.{◌≡◌, ◌<◌, ◌≤◌, ◌+◌, ◌↔◌, ◌∙◌, inl, inr, ℕ, zero, suc, Bool, true, false, List, [], ◌∷◌, length, get_or, set, replicate, Option, None, Some, IfSome, IsSome, IsSomeAnd, MatchBool, min, slice_get, refl, sym, ap, subst, arith}
+use Rattle.std.proofs.Common.{◌≡◌, ◌<◌, ◌≤◌, ◌+◌, ◌↔◌, ◌∙◌, inl, inr, ℕ, suc, Bool, true, false, List, [], ◌∷◌, length, get_or, set, replicate, None, Some, IfSome, IsSome, IsSomeAnd, MatchBool, min, slice_get, refl, sym, ap, subst, arith}
 use Rattle.std.specs.Option.{option_and_then}
 use Rattle.std.proofs.lemmas.Bool.{cases_lt}
 use Rattle.std.proofs.lemmas.List.{length-set}
@@ -7,7 +7,6 @@ use Rattle.std.proofs.lemmas.Option.{same_Some, slice_get_within}
 use Rattle.dsr_effect.specs.AvoidedMarks.{AreAvoided, AreNamed, AreStillMarked, IsClosed, IsGivenAvoided, unmarked}
 use Rattle.dsr_facts.proofs.Following.{fewer_open}
 use Rattle.dsr_facts.specs.Marks.{IsMarked}
-use Rattle.dsr_ir.specs.declared.declarations.SetDecl.{SetDecl}
 use Rattle.dsr_ir.specs.declared.declarations.Spec.{Spec}
 use Rattle.dsr_ir.specs.declared.rules.Rule.{Rule}
 use Rattle.dsr_ir.specs.declared.updates.Symbol.TheVariants.{Set}
@@ -18,6 +17,10 @@ use Rattle.dsr_meaning.specs.Typed.{IsTyped, IsTypedRule}
 use Rattle.dsr_update_theory.specs.Avoided.{IsAvoided}
 use Rattle.dsr_update_theory.specs.Avoided.IsAvoided.{named, given}
 use Rattle.dsr_update_theory.specs.Givers.{IsGiver}
+use Rattle.dsr_facts.proofs.Listing.{item_in}
+use Rattle.dsr_meaning.proofs.Options.{some_of}
+use Rattle.dsr_meaning.proofs.Items.{item_there}
+use Rattle.dsr_facts.proofs.Givers.{within}
 
 -- ---- the named sets
 
@@ -26,11 +29,6 @@ pub record IsNaming (avoid : List ℕ) (marks : List Bool) (i : ℕ) : Type 0 wh
   pub places : length marks ≡ 64
   pub sound : (n : ℕ) → IsMarked marks n → IsIn n avoid
   pub so_far : (k : ℕ) → k < i → get_or avoid k 0 < 64 → IsMarked marks (get_or avoid k 0)
-
-in_at : (xs : List ℕ) (i : ℕ) → i < length xs → IsIn (get_or xs i 0) xs
-in_at [] i less = absurd (omega (arith, less))
-in_at (x ∷ xs) zero less = inl refl
-in_at (x ∷ xs) (suc i) less = inr (in_at xs i (omega (arith, less)))
 
 place_of : (xs : List ℕ) (x : ℕ) → IsIn x xs → (k : ℕ) × (k < length xs) × (get_or xs k 0 ≡ x)
 place_of [] x h = absurd h
@@ -49,7 +47,7 @@ naming_more avoid marks i less small far = record {
   places = length-set marks (get_or avoid i 0) true ∙ far.places;
   sound = λ n h. elim (marked_from marks (get_or avoid i 0) n h) [
     | inl old ↦ far.sound n old
-    | inr same ↦ subst (λ m. IsIn m avoid) (sym same) (in_at avoid i less)
+    | inr same ↦ subst (λ m. IsIn m avoid) (sym same) (item_in avoid i less)
   ];
   so_far = λ k before fits. elim (cases_lt k i) [
     | inl old ↦ marked_still marks (get_or avoid i 0) (get_or avoid k 0) (far.so_far k old fits)
@@ -150,29 +148,15 @@ marking_ends spec start marks false i all far = λ n small found.
 
 -- ---- all rounds
 
-some_of : (o : Option ℕ) → IsSome o → (n : ℕ) × (o ≡ Some n)
-some_of None h = absurd cc
-some_of (Some n) h = (n, refl)
-
-found_below : (sets : List SetDecl) (n : ℕ) → n < length sets → (d : SetDecl) × (slice_get sets n ≡ Some d)
-found_below [] n less = absurd (omega (arith, less))
-found_below (d ∷ sets) zero less = (d, refl)
-found_below (d ∷ sets) (suc n) less = found_below sets n (omega (arith, less))
-
-some_within : (sets : List SetDecl) (P : SetDecl → Type 0) (n : ℕ) → IsSomeAnd (slice_get sets n) P → n < length sets
-some_within [] P n h = absurd h
-some_within (d ∷ sets) P zero h = omega arith
-some_within (d ∷ sets) P (suc n) h = omega (arith, some_within sets P n h)
-
 premise_declared : (spec : Spec) → IsTyped spec → (k : ℕ) (rule : Rule) (premise : ℕ) → slice_get spec.rules k ≡ Some rule → rule.premise ≡ Some premise → premise < length spec.base.sets
 premise_declared spec typed k rule premise rule_is is =
-    some_within spec.base.sets (λ s. s.except ≡ None) premise
+    within (λ s. s.except ≡ None) spec.base.sets premise
     (subst (λ o. IfSome o (λ n. IsSomeAnd (slice_get spec.base.sets n) (λ s. s.except ≡ None))) is (found_fits (IsTypedRule spec.base) spec.rules k rule typed.rules rule_is).premise)
 
 all_marked : (spec : Spec) (avoid : List ℕ) (marks : List Bool) → IsTyped spec → AreNamed avoid marks → IsClosed spec marks → (n : ℕ) → n < length spec.base.sets → IsAvoided spec avoid n → IsMarked marks n
 all_marked spec avoid marks typed names closed n declared (named _ among) = names n (omega (arith, declared, typed.base.few_symbols)) among
 all_marked spec avoid marks typed names closed n declared (given _ plain each before) =
-    let at = found_below spec.base.sets n declared in
+    let at = item_there spec.base.sets n declared in
     closed n (omega (arith, declared, typed.base.few_symbols)) (record {
       declared = at.0;
       declared_is = at.1;

@@ -1,22 +1,8 @@
 -- Marks that are set one after the other, each by what its item tells.
-use Rattle.std.proofs.Common.{◌≡◌, ◌≢◌, ◌<◌, ◌≤◌, ◌+◌, ◌↔◌, ℕ, zero, suc, Bool, true, false, nat_eq, IsTrue, List, [], ◌∷◌, length, get_or, set, slice_get, Option, Some, refl, sym, ap, subst, ◌∙◌, arith}
+use Rattle.std.proofs.Common.{◌≡◌, ◌≢◌, ◌<◌, ◌+◌, ◌↔◌, ℕ, Bool, true, false, nat_eq, IsTrue, List, length, get_or, set, slice_get, Option, Some, refl, sym, ap, subst, ◌∙◌, arith}
 use Rattle.std.proofs.lemmas.Bool.Decides.{nat_tests}
 use Rattle.std.proofs.lemmas.List.{get_or-set_same, get_or-set_other, length-set}
-
--- an item that is there has its place
-pub place_below : {T : Type 0} (xs : List T) (n : ℕ) (x : T) → slice_get xs n ≡ Some x → n < length xs
-place_below [] n x e = absurd cc
-place_below (y ∷ xs) zero x e = omega arith
-place_below (y ∷ xs) (suc n) x e = let less = place_below xs n x e in omega (arith, less)
-
--- the item with a place is there
-pub item_at : {T : Type 0} (xs : List T) (n : ℕ) (x : T) → n < length xs → x ≡ get_or xs n x → slice_get xs n ≡ Some x
-item_at [] n x less is = absurd (omega (arith, less))
-item_at (y ∷ xs) zero x less is = ap Some (sym is)
-item_at (y ∷ xs) (suc n) x less is = item_at xs n x (omega (arith, less)) is
-
-some_is : {T : Type 0} (x y : T) → Some x ≡ Some y → x ≡ y
-some_is x y e = cc
+use Rattle.std.proofs.lemmas.Option.{same_Some}
 
 -- those before the place are marked as they are
 abbrev pub AreMarkedBefore : {T : Type 0} → (T → Type 0) → List T → List Bool → ℕ → Type 0
@@ -28,7 +14,7 @@ mark_more {T} P xs marks n x b less here decides before m y below there =
     elim (nat_eq m n) as (λ t. nat_eq m n ≡ t → IsTrue (get_or (set marks n b) m false) ↔ P y) [
       | true ↦ λ e.
           let same : m ≡ n = grind (arith, nat_tests) in
-          let is : x ≡ y = some_is x y (sym here ∙ (ap (slice_get xs) (sym same) ∙ there)) in
+          let is : x ≡ y = same_Some x y (sym here ∙ (ap (slice_get xs) (sym same) ∙ there)) in
           subst (λ t. IsTrue t ↔ P y) (sym (ap (λ k. get_or (set marks n b) k false) same ∙ get_or-set_same marks n b false less))
           (subst (λ z. IsTrue b ↔ P z) is decides)
       | false ↦ λ e.

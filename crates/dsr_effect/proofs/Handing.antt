@@ -4,6 +4,7 @@ use Rattle.std.proofs.Math.Bool.{beq, or-false}
 use Rattle.std.proofs.lemmas.List.{set-get_or}
 use Rattle.std.proofs.lemmas.List.Elements.{All-head, All-tail, All-more}
 use Rattle.std.proofs.lemmas.List.Sums.{sum_by-set}
+use Rattle.std.proofs.lemmas.Bool.{and_parts, and_from}
 use Rattle.dsr_effect.specs.Rows.{IsBetween, IsHandedOn, has_row_tag, is_open, is_some, joined, no_tags, only, open_tags, passed_tags, tag_after}
 use Rattle.dsr_effect.specs.Rows.IsHandedOn.{begins, goes}
 use Rattle.dsr_effect.specs.Settling.{AreHandedOn, AreKept, IsDone, count_missing, handed_on, missing, row_at}
@@ -14,16 +15,9 @@ use Rattle.dsr_update_theory.specs.declared.effects.Tag.{Tag}
 use Rattle.dsr_update_theory.specs.declared.effects.Tag.TheVariants.{Written, Entry, Fresh, Any}
 use Rattle.dsr_update_theory.specs.declared.effects.Tags.{Tags}
 use Rattle.dsr_meaning.proofs.Items.{of_all}
+use Rattle.dsr_effect.proofs.ListItems.{at_in}
 
 -- ---- truth
-
-both : (a b : Bool) → a && b ≡ true → (a ≡ true) × (b ≡ true)
-both true b e = (refl, e)
-both false b e = absurd cc
-
-both_true : (a b : Bool) → a ≡ true → b ≡ true → a && b ≡ true
-both_true true b e f = f
-both_true false b e f = absurd cc
 
 either : (a b : Bool) → a || b ≡ true → (a ≡ true) ⊎ (b ≡ true)
 either true b e = inl refl
@@ -98,15 +92,15 @@ from (r ∷ rows) (suc k) more (suc row) tag h = elim (from rows k more row tag 
 -- ---- what a flow hands on
 
 open_has : (flow : Flow) (tags : Tags) (tag : Tag) → has_tag tag tags ≡ true → is_open flow tag ≡ true → has_tag tag (open_tags flow tags) ≡ true
-open_has flow tags Written h open_is = both_true _ _ h open_is
+open_has flow tags Written h open_is = and_from _ _ h open_is
 open_has flow tags Entry h open_is = h
-open_has flow tags Fresh h open_is = both_true _ _ h open_is
+open_has flow tags Fresh h open_is = and_from _ _ h open_is
 open_has flow tags Any h open_is = h
 
 open_from : (flow : Flow) (tags : Tags) (tag : Tag) → has_tag tag (open_tags flow tags) ≡ true → (has_tag tag tags ≡ true) × (is_open flow tag ≡ true)
-open_from flow tags Written h = both _ _ h
+open_from flow tags Written h = and_parts _ _ h
 open_from flow tags Entry h = (h, refl)
-open_from flow tags Fresh h = both _ _ h
+open_from flow tags Fresh h = and_parts _ _ h
 open_from flow tags Any h = (h, refl)
 
 has_some : (tags : Tags) (tag : Tag) → has_tag tag tags ≡ true → is_some tags ≡ true
@@ -208,9 +202,9 @@ are_same a b = beq a.written b.written && (beq a.entry b.entry && (beq a.fresh b
 
 joined_same : (a b : Tags) → are_same (joined a b) a ≡ true → joined a b ≡ a
 joined_same a b e =
-    let w = both (beq (a.written || b.written) a.written) _ e in
-    let n = both (beq (a.entry || b.entry) a.entry) _ w.1 in
-    let f = both (beq (a.fresh || b.fresh) a.fresh) _ n.1 in
+    let w = and_parts (beq (a.written || b.written) a.written) _ e in
+    let n = and_parts (beq (a.entry || b.entry) a.entry) _ w.1 in
+    let f = and_parts (beq (a.fresh || b.fresh) a.fresh) _ n.1 in
     rw (bit_same a.written b.written w.0, bit_same a.entry b.entry n.0, bit_same a.fresh b.fresh f.0, bit_same a.any b.any f.1) refl
 
 some_differs : (p q r s : Bool) → p && (q && (r && s)) ≡ false → 1 ≤ cond p 0 1 + cond q 0 1 + cond r 0 1 + cond s 0 1
@@ -273,11 +267,6 @@ pub record IsHanding (flows : List Flow) (start rows : List Tags) (grew : Bool) 
   pub sound : AreHandedOn flows start rows
   pub kept : AreKept start rows
   pub progress : MatchBool grew (missing rows < missing start) ((rows ≡ start) × All (IsDone rows) (take i flows))
-
-at_in : {A : Type 0} (xs : List A) (i : ℕ) (d : A) → i < length xs → IsIn (get_or xs i d) xs
-at_in [] i d lt = absurd (omega (arith, lt))
-at_in (x ∷ xs) zero d lt = inl refl
-at_in (x ∷ xs) (suc i) d lt = inr (at_in xs i d (omega (arith, lt)))
 
 pub handing_begins : (flows : List Flow) (start : List Tags) → IsHanding flows start start false 0
 handing_begins flows start = record {

@@ -1,4 +1,3 @@
-pub mod Descending
 pub mod Guards
 pub mod RangeTests
 pub mod NumberTests

@@ -1,19 +1,13 @@
 -- Items of lists: of two that are joined, and the one at which a loop is.
-use Rattle.std.proofs.Common.{◌≡◌, ◌<◌, ◌+◌, ◌++◌, ◌⊎◌, ℕ, zero, suc, List, [], ◌∷◌, All, length, take, get_or, inl, inr, refl, sym, ap, subst, ◌∙◌, arith}
-use Rattle.std.specs.Prelude.{slice_get, IsSomeAnd}
+use Rattle.std.proofs.Common.{◌≡◌, ◌<◌, ◌+◌, ◌++◌, ℕ, zero, suc, List, [], ◌∷◌, All, length, take, get_or, inl, inr, refl, sym, ap, subst, ◌∙◌, arith}
 use Rattle.std.proofs.lemmas.List.Elements.{All-cons, All-head, All-nil, All-tail}
 use Rattle.std.proofs.lemmas.List.{take_more}
 use Rattle.dsr_meaning.specs.Counting.{IsIn}
-
--- one that is found has a place
-pub within : {A : Type 0} (P : A → Type 0) (xs : List A) (k : ℕ) → IsSomeAnd (slice_get xs k) P → k < length xs
-within P [] k h = absurd h
-within P (x ∷ xs) zero h = omega arith
-within P (x ∷ xs) (suc k) h = let less = within P xs k h in omega (arith, less)
+pub use Rattle.dsr_facts.proofs.Givers.{within}
 
 -- ---- the item at which a loop is
 
-at_in : {A : Type 0} (xs : List A) (i : ℕ) (d : A) → i < length xs → IsIn (get_or xs i d) xs
+pub at_in : {A : Type 0} (xs : List A) (i : ℕ) (d : A) → i < length xs → IsIn (get_or xs i d) xs
 at_in [] i d lt = absurd (omega (arith, lt))
 at_in (x ∷ xs) zero d lt = inl refl
 at_in (x ∷ xs) (suc i) d lt = inr (at_in xs i d (omega (arith, lt)))

@@ -17,8 +17,8 @@ use Rattle.dsr_meaning.proofs.Firing.{found_fits}
 use Rattle.dsr_update_theory.specs.Effects.{IsDeclared}
 use Rattle.dsr_update_theory.specs.declared.effects.Direction.{Direction}
 use Rattle.dsr_update_theory.specs.declared.effects.Direction.TheVariants.{Gain, Loss}
-use Rattle.dsr_effect.proofs.ListItems.{within}
 use Rattle.dsr_meaning.proofs.Items.{of_all}
+use Rattle.dsr_facts.proofs.Givers.{within}
 
 pub row_below : (base : Structures) (direction : Direction) (symbol : Symbol) → IsDeclared base symbol → row_number base direction symbol < symbol_count base + symbol_count base
 row_below base Gain (Set set) lt = omega (arith, lt)

@@ -19,11 +19,12 @@ ghost use Rattle.dsr_meaning.specs.Typed.{IsTyped, IsTypedQuant};
 
 use crate::avoided::avoided_sets;
 use crate::changes::Change;
-use crate::fields::{foreign_structures, place_pool, pool_at};
+use crate::fields::{foreign_structures, place_pool};
 use crate::rows::effect_of;
 use dsr_facts::{Facts, MOST_SETS};
 use dsr_goal::Known;
 use dsr_ir::{Goal, NoMemory, Place, Pool, Quant, Spec, Update, Var};
+use dsr_schema::pool_at;
 use dsr_update_theory::Effect;
 use std::alloc::Global;
 

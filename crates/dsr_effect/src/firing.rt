@@ -6,12 +6,11 @@ ghost use Rattle.dsr_update_theory.specs.Values.{NoneReference, reset_of};
 ghost use Rattle.dsr_update_theory.specs.Touching.{IsBlockedAtF, IsQuiet, IsSureAtF, StaysAtF, StaysAtW};
 
 use crate::changes::Change;
-use crate::fields::descends;
 use crate::readings::Reading;
 use crate::values::reset_comes_out;
 use dsr_facts::has_guards;
-use dsr_goal::declared_field;
 use dsr_ir::{FieldRef, Goal, Guard, Kind, Path, Rule, Span};
+use dsr_schema::{declared_field, descends};
 
 impl<'a> Change<'a> {
     // The kind of a field that is reset in the fresh record.
@@ -97,7 +96,8 @@ impl<'a> Change<'a> {
         reading.unmoved || self.is_quiet(rule)
     }
 
-    /// The same at the fresh record.
+    /// Whether no instance of the rule at the fresh record gives something before that it doesn't
+    /// give afterwards.
     pub fn stays_at_f(&self, rule: &Rule) -> bool
         requires told { IsTold self.now }
         ensures { Decides result (StaysAtF (change_of self.now) rule.now) }

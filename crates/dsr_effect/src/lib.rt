@@ -18,5 +18,5 @@ mod values;
 
 pub use avoided::avoided_sets;
 pub use context::{Context, effect};
-pub use fields::{are_related, place_pool, pool_at};
+pub use fields::{are_related, place_pool};
 pub use rows::{may_change, tags_of};

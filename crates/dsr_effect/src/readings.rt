@@ -7,8 +7,8 @@ ghost use Rattle.dsr_update_theory.specs.Touching.{IsSure, LeavesNone};
 
 use crate::changes::Change;
 use crate::values::Values;
-use dsr_goal::declared_field;
 use dsr_ir::{FieldRef, Goal, Guard, Path, Rule, Test, Write};
+use dsr_schema::declared_field;
 
 /// What becomes of what a rule reads in the record that is written, or of a part of that.
 #[derive(Clone, Copy)]
@@ -17,7 +17,8 @@ pub struct Reading {
     pub touched: bool,
     /// Some guard surely fails, or the target is left none.
     pub blocked: bool,
-    /// The same where the record is a new one of the rule's.
+    /// Some guard surely fails, or the target is left none, where the record is a new one of the
+    /// rule's.
     pub blocked_joining: bool,
     /// Each value that may be another one is that of a guard which surely holds.
     pub unmoved: bool,

@@ -36,7 +36,7 @@ pub fn only(tag: Tag) -> Tags
     }
 }
 
-/// The tags of either.
+/// The tags that are in one of the two, or in both.
 pub fn joined(a: Tags, b: Tags) -> Tags
     ensures { result ≡ rows.joined a b }
 {
@@ -48,7 +48,7 @@ pub fn joined(a: Tags, b: Tags) -> Tags
     }
 }
 
-/// Whether there is a tag.
+/// Whether there is any tag among these.
 pub fn is_some(tags: Tags) -> bool
     ensures { result ≡ rows.is_some tags }
 {

@@ -4,7 +4,6 @@ ghost use Rattle.dsr_effect.specs.Told.{ChangesAtF, ChangesAtW, IsReading, IsTol
 ghost use Rattle.dsr_meaning.specs.Counting.{IsIn};
 ghost use Rattle.dsr_update_theory.specs.Effects as said;
 ghost use Rattle.dsr_update_theory.specs.Effects.{MayChange, has_tag};
-ghost use Rattle.dsr_update_theory.specs.Givers as givers;
 ghost use Rattle.dsr_update_theory.specs.Touching.{IsKeptApartBy, IsTouchedAtF, IsTouchedAtW};
 ghost use Rattle.dsr_update_theory.specs.declared.effects.Tag.{Tag as TagOf};
 ghost use Rattle.dsr_update_theory.specs.declared.effects.Direction.TheVariants.{Gain};
@@ -13,16 +12,10 @@ use crate::avoided::is_marked;
 use crate::changes::Change;
 use crate::readings::Reading;
 use crate::tags::{NO_TAGS, joined, only};
+use dsr_goal::is_own;
 use dsr_ir::{FieldRef, Inc, Pick, Place, Rule};
 use dsr_layout::premise_pool;
 use dsr_update_theory::{Direction, Tag, Tags};
-
-/// Whether the record itself is the member or the source.
-pub fn is_own(inc: &Inc) -> bool
-    ensures { result ≡ givers.is_own inc.now }
-{
-    matches!(inc, Inc::Own(_) | Inc::OwnPair(_, _))
-}
 
 /// What an update does to a rule, for gains, losses and what is handed on alike.
 #[derive(Clone, Copy)]

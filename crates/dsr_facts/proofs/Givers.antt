@@ -5,7 +5,6 @@ use Rattle.std.specs.List.{AllWithin, HoldsAt, filter, find}
 use Rattle.std.proofs.lemmas.Bool.{false≢true}
 use Rattle.std.proofs.lemmas.Option.{same_Some}
 use Rattle.dsr_ir.specs.Rules.{gives}
-use Rattle.dsr_ir.specs.declared.declarations.SetDecl.{SetDecl}
 use Rattle.dsr_ir.specs.declared.declarations.Spec.{Spec}
 use Rattle.dsr_ir.specs.declared.rules.Rule.{Rule}
 use Rattle.dsr_ir.specs.declared.updates.Symbol.{Symbol}
@@ -121,10 +120,11 @@ below_by_rule spec set base rule false found premise decides = λ other below.
 
 -- ---- sets are declared
 
-within : (sets : List SetDecl) (P : SetDecl → Type 0) (n : ℕ) → IsSomeAnd (slice_get sets n) P → n < length sets
-within [] P n h = absurd h
-within (s ∷ sets) P zero h = omega arith
-within (s ∷ sets) P (suc n) h = omega (arith, within sets P n h)
+-- one that is found has a place
+pub within : {A : Type 0} (P : A → Type 0) (xs : List A) (k : ℕ) → IsSomeAnd (slice_get xs k) P → k < length xs
+within P [] k h = absurd h
+within P (x ∷ xs) zero h = omega arith
+within P (x ∷ xs) (suc k) h = let less = within P xs k h in omega (arith, less)
 
 rule_typed : (spec : Spec) → IsTyped spec → (symbol : Symbol) (k : ℕ) (rule : Rule) → IsGiver spec symbol k rule → IsTypedRule spec.base rule
 rule_typed spec typed symbol k rule giver = found_fits (IsTypedRule spec.base) spec.rules k rule typed.rules giver.rule_is
@@ -133,10 +133,10 @@ pub members_declared : (spec : Spec) → IsTyped spec → (symbol : Symbol) (set
 members_declared spec typed symbol set given =
     let rule = given.some.1 in
     let premise = (given.each given.some.0 rule given.some.2).premise_is in
-    within spec.base.sets _ set (subst (λ o. IfSome o (λ n. IsSomeAnd (slice_get spec.base.sets n) (λ s. s.except ≡ None))) premise (rule_typed spec typed symbol given.some.0 rule given.some.2).premise)
+    within _ spec.base.sets set (subst (λ o. IfSome o (λ n. IsSomeAnd (slice_get spec.base.sets n) (λ s. s.except ≡ None))) premise (rule_typed spec typed symbol given.some.0 rule given.some.2).premise)
 
 pub targets_declared : (spec : Spec) → IsTyped spec → (symbol : Symbol) (set : ℕ) → IsGivenBy spec symbol (GivesTargetsTo spec set) → set < length spec.base.sets
 targets_declared spec typed symbol set given =
     let to = given.each given.some.0 given.some.1 given.some.2 in
     let inc = subst (IsTypedInc spec.base to.1) to.3.gives_it (rule_typed spec typed (Set set) to.0 to.1 to.2).inc in
-    within spec.base.sets _ set inc.1
+    within _ spec.base.sets set inc.1

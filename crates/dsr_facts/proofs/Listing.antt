@@ -22,7 +22,7 @@ none_listed marks = record {
   rising = λ k less. absurd (omega (arith, less));
 }
 
-item_in : (xs : List ℕ) (k : ℕ) → k < length xs → IsIn (get_or xs k 0) xs
+pub item_in : (xs : List ℕ) (k : ℕ) → k < length xs → IsIn (get_or xs k 0) xs
 item_in [] k less = absurd (omega (arith, less))
 item_in (x ∷ xs) zero less = inl refl
 item_in (x ∷ xs) (suc k) less = inr (item_in xs k (omega (arith, less)))

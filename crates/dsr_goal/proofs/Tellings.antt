@@ -11,7 +11,7 @@ use Rattle.dsr_goal.specs.Knowing.{known_by}
 use Rattle.dsr_goal.specs.declared.known.Known.{Known}
 
 -- nothing is known of the head
-never_head : {spec : Spec} {quant : Quant} {v : Var} {set : ℕ} → IsKnown spec quant v set → v ≡ Head → ⊥
+pub never_head : {spec : Spec} {quant : Quant} {v : Var} {set : ℕ} → IsKnown spec quant v set → v ≡ Head → ⊥
 never_head (quantified set q) e = cc
 never_head (source rel set q given) e = cc
 never_head (target rel set q given) e = cc

@@ -1,22 +1,11 @@
 // Fields of a specification, and what is written to them.
-ghost use Rattle.std.specs.Prelude.{◌≡◌, option_map};
+ghost use Rattle.std.specs.Prelude.{◌≡◌};
 ghost use Rattle.dsr_meaning.specs.Instances as meaning;
 ghost use Rattle.dsr_update_theory.specs.Options as options;
 ghost use Rattle.dsr_update_theory.specs.Templates as templates;
 
-use dsr_ir::{Field, FieldRef, Kind, Path, Pick, Structures, Write};
-
-/// The field that is declared at a place.
-pub fn declared_field(base: &Structures, field: FieldRef) -> Option<&Field>
-    ensures { option_map (λ f. f.now) result ≡ meaning.declared_field base.now field }
-{
-    base.structures
-        .items()
-        .get(field.structure as usize)?
-        .fields
-        .items()
-        .get(field.field as usize)
-}
+use dsr_ir::{FieldRef, Kind, Path, Pick, Structures, Write};
+use dsr_schema::declared_field;
 
 // The pool to which a kind of field refers.
 fn kind_pool(kind: Kind) -> Option<u32>

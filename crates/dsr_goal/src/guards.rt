@@ -5,21 +5,8 @@ ghost use Rattle.dsr_meaning.specs.Placeable.{IsLegalWidth};
 ghost use Rattle.dsr_meaning.specs.Typed.{AreTyped};
 ghost use Rattle.dsr_update_theory.specs.Guards as guards;
 
-use crate::fields::declared_field;
 use dsr_ir::{Field, Guard, Op, Pick, Structures, Test, Width, Write};
-
-// The bits of an entry.
-fn width_bits(width: Width) -> u64
-    ensures { result ≡ cells.width_bits width }
-{
-    match width {
-        Width::U8 => 8,
-        Width::U16 => 16,
-        Width::U32 => 32,
-        Width::U64 => 64,
-        Width::Bits(count) => u64::from(count),
-    }
-}
+use dsr_schema::{declared_field, width_bits};
 
 // Whether a number fits an entry.
 fn fits(width: Width, number: u64) -> bool

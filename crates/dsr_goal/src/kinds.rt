@@ -11,14 +11,14 @@ pub fn is_single(span: Span) -> bool
     matches!(span, Span::Single)
 }
 
-/// Whether the record itself is the member or the source.
+/// Whether the record of an instance itself is the member or the source that the rule gives.
 pub fn is_own(inc: &Inc) -> bool
     ensures { result ≡ rules.is_own inc.now }
 {
     matches!(inc, Inc::Own(_) | Inc::OwnPair(_, _))
 }
 
-/// Whether the slot at the index is.
+/// Whether the slot at the index is the member or the source that the rule gives.
 pub fn is_slot(inc: &Inc) -> bool
     ensures { result ≡ rules.is_slot inc.now }
 {

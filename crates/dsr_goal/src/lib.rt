@@ -16,8 +16,8 @@ mod removing;
 mod supplies;
 mod values;
 
-pub use fields::declared_field;
 pub use guards::guard_write;
+pub use kinds::is_own;
 pub use known::Known;
 pub use raw_templates::{raw, raw_of};
 pub use removing::counted_symbol;

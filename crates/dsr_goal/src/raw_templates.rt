@@ -1,23 +1,15 @@
 // The updates that are tried for a literal of a constraint, before any is left out.
 ghost use Rattle.std.specs.Prelude.{◌≡◌, IfOk};
 ghost use Rattle.dsr_meaning.specs.Typed.{IsTyped};
-ghost use Rattle.dsr_update_theory.specs.Templates as templates;
 ghost use Rattle.dsr_update_theory.specs.Templates.{AreRawOf, TellsKnown};
 ghost use Rattle.dsr_goal.specs.Knowing.{known_by};
 ghost use Rattle.dsr_goal.specs.Raws.{AreRawAt};
 
 use crate::known::Known;
 use crate::literals::of_literal;
-use dsr_ir::{Constraint, Literal, NoMemory, Spec, Template};
+use dsr_ir::{Constraint, NoMemory, Spec, Template};
+use dsr_schema::literal_at;
 use std::alloc::Global;
-
-// The literal with these numbers of the constraint.
-fn literal_at(constraint: &Constraint, conj: u32, literal: u32) -> Option<Literal>
-    ensures { result ≡ templates.literal_at constraint.now conj literal }
-{
-    let conj = constraint.conjs.items().get(conj as usize)?;
-    conj.literals.items().get(literal as usize).copied()
-}
 
 /// The updates that are tried for the literal with these numbers of the constraint, of whose
 /// variables this is known; none where there is no such literal.

@@ -2,7 +2,7 @@
 use Rattle.std.proofs.Common.{◌≡◌, ◌↔◌, ◌++◌, ◌&&◌, ℕ, IsTrue, Bool, true, false, nat_eq, All, List, [], ◌∷◌, Option, None, Some, IfSome, slice_get, refl, sym, ap, subst, ◌∙◌, arith}
 use Rattle.std.specs.Prelude.{if◌then◌else◌}
 use Rattle.std.specs.List.{flat_map}
-use Rattle.std.proofs.lemmas.Bool.{false≢true}
+use Rattle.std.proofs.lemmas.Bool.{false≢true, and_parts}
 use Rattle.std.proofs.lemmas.Bool.Decides.{nat_tests}
 use Rattle.std.proofs.lemmas.List.Elements.{All-head, All-tail}
 use Rattle.dsr_graph_theory.specs.Breaks.{Breaks, IsFirstReason, MayBreakBy, MayFalsify, SomeUpdate, first, later, none}
@@ -31,11 +31,6 @@ no_causes Once literals is = refl
 no_causes (Each set) literals is = absurd (false≢true is)
 no_causes (Pairs rel) literals is = absurd (false≢true is)
 
-both_true : (a b : Bool) → (a && b) ≡ true → (a ≡ true) × (b ≡ true)
-both_true true true e = (refl, refl)
-both_true true false e = absurd (false≢true e)
-both_true false b e = absurd (false≢true e)
-
 -- the constraint with its own number is itself
 pub same_once : (owner : Owner) (n : ℕ) (its : Constraint) → slice_get owner.spec.constraints owner.number ≡ Some owner.constraint → slice_get owner.spec.constraints n ≡ Some its → (nat_eq owner.number n && is_once owner.constraint.quant) ≡ (nat_eq owner.number n && is_once its.quant)
 same_once owner n its own there =
@@ -62,7 +57,7 @@ module _ (owner other : Owner) (template : Template) where
   -- its own updates break nothing where there is one binding
   pub own_once : (nat_eq owner.number other.number && is_once other.constraint.quant) ≡ true → Breaks owner other template None
   own_once both =
-      let parts = both_true (nat_eq owner.number other.number) (is_once other.constraint.quant) both in
+      let parts = and_parts (nat_eq owner.number other.number) (is_once other.constraint.quant) both in
       subst (λ causes. IsFirstReason Such causes None)
       (sym (ap (λ b. causes_by b other.constraint.quant (literals_of other.constraint)) parts.0 ∙ no_causes other.constraint.quant (literals_of other.constraint) parts.1))
       none

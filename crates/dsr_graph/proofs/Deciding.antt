@@ -1,16 +1,14 @@
 -- What is known of variables, and what is excused.
 use Rattle.std.proofs.Common.{◌≡◌, ◌↔◌, ◌&&◌, ℕ, Bool, true, false, not, eqb, IsTrue, Decides, List, refl, sym, ap, subst, ◌∙◌}
-use Rattle.std.proofs.lemmas.Bool.{false≢true}
+use Rattle.std.proofs.lemmas.Bool.{false≢true, and_parts}
 use Rattle.std.proofs.lemmas.Bool.Decides.{Decides-eqb}
 use Rattle.std.specs.Prelude.{MatchBool}
 use Rattle.dsr_graph_theory.specs.Excuses.{AreDifferentRecords, AreTargetsApart, HappensOnlyAt, IsExcusedAt, IsExcusedAtEntry, IsExcusedAtPlace}
 use Rattle.dsr_graph_theory.specs.Excuses.IsExcusedAt.{at_entry, at_place}
 use Rattle.dsr_graph_theory.specs.declared.causes.Reason.{Reason}
 use Rattle.dsr_ir.specs.declared.constraints.Quant.TheVariants.{Pairs}
-use Rattle.dsr_ir.specs.declared.constraints.Quant.{Quant}
 use Rattle.dsr_ir.specs.declared.constraints.Var.{Var}
 use Rattle.dsr_ir.specs.declared.constraints.Var.TheVariants.{Head, First, Second}
-use Rattle.dsr_ir.specs.declared.declarations.Spec.{Spec}
 use Rattle.dsr_graph.specs.Told.{different_by}
 use Rattle.dsr_graph.specs.declared.variables.Different.{Different}
 use Rattle.dsr_graph_theory.specs.Owners.{Owner}
@@ -18,9 +16,9 @@ use Rattle.dsr_meaning.specs.Counting.{IsIn}
 use Rattle.dsr_update_theory.specs.Changes.{Change}
 use Rattle.dsr_update_theory.specs.Facts.{apart, exclusive}
 use Rattle.dsr_update_theory.specs.KnownSets.{IsKnown}
-use Rattle.dsr_update_theory.specs.KnownSets.IsKnown.{quantified, source, target, base}
 use Rattle.dsr_update_theory.specs.Templates.{KnownSets, TellsKnown}
 use Rattle.dsr_update_theory.specs.declared.effects.Tag.TheVariants.{Written, Entry}
+use Rattle.dsr_goal.proofs.Tellings.{never_head}
 
 -- whether a search finds an item
 pub found_if : {T : Type 0} (xs ys : List T) (x : T) (r : Bool) → MatchBool (not r) (IsIn x xs → ⊥) (IsIn x xs) → xs ≡ ys → IsTrue r ↔ IsIn x ys
@@ -40,13 +38,6 @@ different_if owner other pairs known others v at r same exclusive_is tells tells
   λ different. decides.1 ((different.set, different.other_set), subst (IsIn (different.set, different.other_set)) (sym exclusive_is) different.exclusive, (tells v different.set).1 different.known, (tells_other at different.other_set).1 (subst (λ s. IsKnown s other.constraint.quant at different.other_set) (sym same) different.other_known)),
 )
 
--- the head isn't known to be a member
-never_head : {spec : Spec} {quant : Quant} {v : Var} {set : ℕ} → IsKnown spec quant v set → v ≡ Head → ⊥
-never_head (quantified set is) e = cc
-never_head (source rel set is given) e = cc
-never_head (target rel set is given) e = cc
-never_head (base v set below higher given) e = never_head higher e
-
 -- whether two variables are so, of whichever it is asked
 pub different_all : (owner other : Owner) (d : Different) → IsTrue d.first_first ↔ AreDifferentRecords owner other First First → IsTrue d.first_second ↔ AreDifferentRecords owner other First Second → IsTrue d.second_first ↔ AreDifferentRecords owner other Second First → IsTrue d.second_second ↔ AreDifferentRecords owner other Second Second → (v at : Var) → IsTrue (different_by d v at) ↔ AreDifferentRecords owner other v at
 different_all owner other d ff fs sf ss First First = ff
@@ -57,14 +48,10 @@ different_all owner other d ff fs sf ss Head at = (λ no. absurd (false≢true n
 different_all owner other d ff fs sf ss First Head = (λ no. absurd (false≢true no), λ its. absurd (never_head its.other_known refl))
 different_all owner other d ff fs sf ss Second Head = (λ no. absurd (false≢true no), λ its. absurd (never_head its.other_known refl))
 
-both : (p q : Bool) → (p && q) ≡ true → (p ≡ true) × (q ≡ true)
-both true q e = (refl, e)
-both false q e = absurd (false≢true e)
-
 -- what a test of two numbers each says
 pub pair_decides : (a b : ℕ × ℕ) → Decides (eqb a.0 b.0 && eqb a.1 b.1) (a ≡ b)
 pair_decides a b = (
-  λ e. let h = both (eqb a.0 b.0) (eqb a.1 b.1) e in λ i. ((Decides-eqb a.0 b.0).0 h.0 i, (Decides-eqb a.1 b.1).0 h.1 i),
+  λ e. let h = and_parts (eqb a.0 b.0) (eqb a.1 b.1) e in λ i. ((Decides-eqb a.0 b.0).0 h.0 i, (Decides-eqb a.1 b.1).0 h.1 i),
   λ same. subst (λ p. (eqb a.0 p.0 && eqb a.1 p.1) ≡ true) same (subst (λ t. (t && eqb a.1 a.1) ≡ true) (sym ((Decides-eqb a.0 a.0).1 refl)) ((Decides-eqb a.1 a.1).1 refl)),
 )
 

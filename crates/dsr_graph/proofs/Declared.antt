@@ -4,7 +4,6 @@ use Rattle.std.specs.List.{flat_map}
 use Rattle.std.proofs.lemmas.List.Elements.{All-append, All-cons, All-head, All-nil, All-tail}
 use Rattle.dsr_graph_theory.specs.Causes.{atom_causes, bound_causes, constraint_causes, fewer_counted, literal_causes, literals_of, more_counted, quantifier_causes, size_causes, size_changes}
 use Rattle.dsr_graph_theory.specs.declared.causes.Cause.{Cause}
-use Rattle.dsr_effect.proofs.ListItems.{within}
 use Rattle.dsr_facts.proofs.Taking.{flat_more}
 use Rattle.std.proofs.lemmas.List.{get_or_default}
 use Rattle.dsr_graph.specs.Told.{IsOfDeclared}
@@ -25,6 +24,7 @@ use Rattle.dsr_ir.specs.declared.rules.Op.TheVariants as ops
 use Rattle.dsr_meaning.specs.Typed.{IsTypedAtom, IsTypedBound, IsTypedConj, IsTypedConstraint, IsTypedLiteral, IsTypedMeasure, IsTypedQuant}
 use Rattle.dsr_update_theory.specs.Effects.{IsDeclared}
 use Rattle.dsr_update_theory.specs.Templates.{counted_symbol}
+use Rattle.dsr_facts.proofs.Givers.{within}
 
 module _ (spec : Spec) where
   abbrev pub Declared : Cause → Type 0

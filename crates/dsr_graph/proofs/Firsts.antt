@@ -1,6 +1,7 @@
 -- Updates of a template, one after the other, as each is judged.
-use Rattle.std.proofs.Common.{◌≡◌, ◌<◌, ◌≤◌, ◌+◌, ℕ, zero, suc, true, false, nat_eq, List, [], ◌∷◌, Some, length, get_or, slice_get, refl, sym, ap, subst, ◌∙◌, arith}
+use Rattle.std.proofs.Common.{◌≡◌, ◌<◌, ◌≤◌, ◌+◌, ℕ, true, false, nat_eq, List, Some, length, get_or, slice_get, refl, sym, ap, subst, ◌∙◌, arith}
 use Rattle.std.proofs.lemmas.Bool.Decides.{nat_tests}
+use Rattle.std.proofs.lemmas.Option.{slice_get_within}
 use Rattle.dsr_graph_theory.specs.Breaks.{SomeUpdate}
 use Rattle.dsr_compensate.proofs.Each.{item_at}
 use Rattle.dsr_compensate.specs.Taking.{IsJudged}
@@ -8,16 +9,10 @@ use Rattle.dsr_compensate.specs.declared.judging.Judged.{Judged}
 use Rattle.dsr_ir.specs.declared.updates.Template.{Template}
 use Rattle.dsr_ir.specs.declared.updates.Update.{Update}
 use Rattle.dsr_graph_theory.specs.Owners.{IsJudgedAt, Owner, change_of, goal_at}
-use Rattle.dsr_compensate.proofs.Standing.{place_below}
 use Rattle.dsr_compensate.specs.Judged.{IsEffectOf}
 use Rattle.dsr_update_theory.specs.Changes.{Change}
 use Rattle.dsr_update_theory.specs.declared.effects.Effect.{Effect}
-
--- there is an item with each place below the length
-pub item_there : {T : Type 0} (xs : List T) (n : ℕ) → n < length xs → (x : T) × (slice_get xs n ≡ Some x)
-item_there [] n less = absurd (omega (arith, less))
-item_there (x ∷ xs) zero less = (x, refl)
-item_there (x ∷ xs) (suc n) less = item_there xs n (omega (arith, less))
+use Rattle.dsr_meaning.proofs.Items.{item_there}
 
 -- the update with this place as it is judged
 abbrev pub change_at : Owner → Template → ℕ → Update → Change
@@ -44,7 +39,7 @@ module _ (owner : Owner) (template : Template) (Such : Change → Type 0) where
 
   pub none_ends : (k : ℕ) → length template.updates ≤ k → NoneBefore k → SomeUpdate owner template Such → ⊥
   none_ends k past before some =
-      let less = place_below template.updates some.0 some.2.update some.2.update_is in
+      let less = slice_get_within template.updates some.0 some.2.update some.2.update_is in
       before some.0 some.1 (omega (arith, past, less)) some.2 some.3
 
 module _ (owner : Owner) (judged : Judged) (is : IsJudged owner judged) where

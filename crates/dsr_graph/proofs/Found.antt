@@ -1,8 +1,8 @@
 -- What is listed for a literal, as the graph keeps it.
-use Rattle.dsr_compensate.proofs.Standing.{place_below}
 use Rattle.std.proofs.Common.{◌≡◌, ◌<◌, arith, ℕ, List, [], Option, None, Some, slice_get, refl, sym, ap, subst, ◌∙◌}
 use Rattle.std.specs.Prelude.{IsSomeAnd, MatchOption, option_and_then}
 use Rattle.std.specs.Option.{option_map_or}
+use Rattle.std.proofs.lemmas.Option.{slice_get_within}
 use Rattle.dsr_graph.proofs.Paired.{paired_back, paired_beyond, paired_got}
 use Rattle.dsr_graph.specs.Graphs.{IsListingOf, IsNodeOf, IsOwnerIn, from_in, kinds_at, listing_at, owner_at, ways_of}
 use Rattle.dsr_graph.specs.Kinds.{AreAlike, AreNumberedBy, HasKind, IsRowOf}
@@ -82,7 +82,7 @@ module _ (owner : Owner) (node : Node) (is_node : IsNodeOf owner node) where
         let r = row_is conj its here in
         let few = r.few in
         let many = r.numbered.as_many in
-        let less = place_below (kinds_at node conj) place kind is in
+        let less = slice_get_within (kinds_at node conj) place kind is in
         omega (arith, few, many, less)
 
   no_kind : (conj place : ℕ) → literal_at owner.constraint conj place ≡ None → slice_get (kinds_at node conj) place ≡ None

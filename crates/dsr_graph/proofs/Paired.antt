@@ -2,19 +2,12 @@
 use Rattle.std.proofs.Common.{◌≡◌, ◌<◌, ◌≤◌, ◌+◌, ◌++◌, ℕ, zero, suc, true, false, nat_eq, List, [], ◌∷◌, None, Some, length, map, take, get_or, slice_get, refl, sym, ap, subst, ◌∙◌, arith}
 use Rattle.std.proofs.lemmas.Bool.Decides.{nat_tests}
 use Rattle.std.proofs.lemmas.List.{take_more}
+use Rattle.std.proofs.lemmas.Option.{slice_get_within, slice_get-get_or, same_Some}
 use Rattle.dsr_compensate.proofs.Each.{got_front, got_last, item_at, length_more, take_length}
 use Rattle.dsr_compensate.proofs.Later.{take_whole}
 use Rattle.dsr_graph.specs.Paired.{ArePaired}
-use Rattle.dsr_compensate.proofs.Standing.{item_got, item_in_front, place_below}
-
-same_item : {T : Type 0} (x y : T) → Some x ≡ Some y → x ≡ y
-same_item x y e = cc
-
--- there is an item with each place below the length, and none behind
-pub item_there : {T : Type 0} (xs : List T) (n : ℕ) → n < length xs → (x : T) × (slice_get xs n ≡ Some x)
-item_there [] n less = absurd (omega (arith, less))
-item_there (x ∷ xs) zero less = (x, refl)
-item_there (x ∷ xs) (suc n) less = item_there xs n (omega (arith, less))
+use Rattle.dsr_compensate.proofs.Standing.{item_in_front}
+use Rattle.dsr_meaning.proofs.Items.{item_there}
 
 pub item_beyond : {T : Type 0} (xs : List T) (n : ℕ) → length xs ≤ n → slice_get xs n ≡ None
 item_beyond [] n past = refl
@@ -28,8 +21,8 @@ beyond_item (x ∷ xs) (suc n) none = let rest = beyond_item xs n none in omega 
 
 take_item : {T : Type 0} (xs : List T) (i : ℕ) (x : T) → slice_get xs i ≡ Some x → take (i + 1) xs ≡ take i xs ++ x ∷ []
 take_item xs i x here =
-    let less = place_below xs i x here in
-    let is : get_or xs i x ≡ x = same_item (get_or xs i x) x (sym (item_got xs i x less) ∙ here) in
+    let less = slice_get_within xs i x here in
+    let is : get_or xs i x ≡ x = same_Some (get_or xs i x) x (sym (slice_get-get_or xs i x less) ∙ here) in
     take_more xs i x less ∙ ap (λ y. take i xs ++ y ∷ []) is
 
 module _ {A B : Type 0} (R : ℕ → A → B → Type 0) where
@@ -38,7 +31,7 @@ module _ {A B : Type 0} (R : ℕ → A → B → Type 0) where
 
   pub paired_more : (xs : List A) (ys : List B) (i : ℕ) (x : A) (y : B) → slice_get xs i ≡ Some x → R i x y → ArePaired R (take i xs) ys → ArePaired R (take (i + 1) xs) (ys ++ y ∷ [])
   paired_more xs ys i x y here its before =
-      let less = place_below xs i x here in
+      let less = slice_get_within xs i x here in
       let front = take_length i xs (omega (arith, less)) in
       let front_more = take_length (i + 1) xs (omega (arith, less)) in
       let longer = length_more ys y in
@@ -46,15 +39,15 @@ module _ {A B : Type 0} (R : ℕ → A → B → Type 0) where
       record {
         as_many = omega (arith, front, front_more, longer, many);
         are = λ n a b a_is b_is.
-            let below = place_below (take (i + 1) xs) n a a_is in
+            let below = slice_get_within (take (i + 1) xs) n a a_is in
             let n_less : n < i + 1 = omega (arith, below, front_more) in
             let a_there : slice_get xs n ≡ Some a = sym (item_in_front xs (i + 1) n n_less) ∙ a_is in
             elim (nat_eq n i) as (λ t. nat_eq n i ≡ t → R n a b) [
               | true ↦ λ e.
                   let same : n ≡ i = grind (arith, nat_tests) in
                   let last : n ≡ length ys = omega (arith, same, many, front) in
-                  let x_is : x ≡ a = same_item x a (sym here ∙ (ap (slice_get xs) (sym same) ∙ a_there)) in
-                  let y_is : y ≡ b = same_item y b (sym (got_last ys y) ∙ (ap (slice_get (ys ++ y ∷ [])) (sym last) ∙ b_is)) in
+                  let x_is : x ≡ a = same_Some x a (sym here ∙ (ap (slice_get xs) (sym same) ∙ a_there)) in
+                  let y_is : y ≡ b = same_Some y b (sym (got_last ys y) ∙ (ap (slice_get (ys ++ y ∷ [])) (sym last) ∙ b_is)) in
                   subst (λ k. R k a b) (sym same) (subst (λ z. R i z b) x_is (subst (R i x) y_is its))
               | false ↦ λ e.
                   let lower : n < i = grind (arith, nat_tests) in
@@ -82,14 +75,14 @@ module _ {A B : Type 0} (R : ℕ → A → B → Type 0) where
 
   pub paired_got : (xs : List A) (ys : List B) (n : ℕ) (x : A) → ArePaired R xs ys → slice_get xs n ≡ Some x → (y : B) × (slice_get ys n ≡ Some y) × R n x y
   paired_got xs ys n x its here =
-      let less = place_below xs n x here in
+      let less = slice_get_within xs n x here in
       let many = its.as_many in
       let found = item_there ys n (omega (arith, less, many)) in
       (found.0, found.1, its.are n x found.0 here found.1)
 
   pub paired_back : (xs : List A) (ys : List B) (n : ℕ) (y : B) → ArePaired R xs ys → slice_get ys n ≡ Some y → (x : A) × (slice_get xs n ≡ Some x) × R n x y
   paired_back xs ys n y its there =
-      let less = place_below ys n y there in
+      let less = slice_get_within ys n y there in
       let many = its.as_many in
       let found = item_there xs n (omega (arith, less, many)) in
       (found.0, found.1, its.are n found.0 y found.1 there)

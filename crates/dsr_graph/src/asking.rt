@@ -14,6 +14,14 @@ use crate::listings::{Listing, Outcome};
 use dsr_graph_theory::Reason;
 use dsr_ir::Template;
 
+/// A literal by its numbers: its constraint's, its conjunction's and its own there.
+#[derive(Clone, Copy)]
+pub struct Position {
+    pub constraint: u32,
+    pub conj: u32,
+    pub literal: u32,
+}
+
 // The kinds of the literals of the conjunction with this number.
 fn kinds(node: &Node, conj: u32) -> &[usize]
     ensures { result.now ≡ said.kinds_at node.now conj }
@@ -32,17 +40,19 @@ fn listing(node: &Node, conj: u32, literal: u32) -> Option<&Listing>
     node.listings.get(*kind)
 }
 
-fn listing_in(graph: &Graph, constraint: u32, conj: u32, literal: u32) -> Option<&Listing>
-    ensures { option_map (λ l. l.now) result ≡ said.listing_in graph.now constraint conj literal }
+fn listing_in(graph: &Graph, at: Position) -> Option<&Listing>
+    ensures { option_map (λ l. l.now) result
+        ≡ said.listing_in graph.now at.constraint at.conj at.literal }
 {
-    let node = graph.nodes.get(constraint as usize)?;
-    listing(node, conj, literal)
+    let node = graph.nodes.get(at.constraint as usize)?;
+    listing(node, at.conj, at.literal)
 }
 
-fn outcome(graph: &Graph, constraint: u32, conj: u32, literal: u32, way: u32) -> Option<&Outcome>
-    ensures { option_map (λ o. o.now) result ≡ said.outcome_in graph.now constraint conj literal way }
+fn outcome(graph: &Graph, at: Position, way: u32) -> Option<&Outcome>
+    ensures { option_map (λ o. o.now) result
+        ≡ said.outcome_in graph.now at.constraint at.conj at.literal way }
 {
-    let listing = listing_in(graph, constraint, conj, literal)?;
+    let listing = listing_in(graph, at)?;
     listing.outcomes.get(way as usize)
 }
 
@@ -56,16 +66,17 @@ fn templates(listing: Option<&Listing>) -> &[Template]
     }
 }
 
-/// The templates that are listed for the literal with these numbers, in their order; none where
-/// there is no such literal.
-pub fn ways(graph: &Graph, constraint: u32, conj: u32, literal: u32) -> &[Template]
-    ensures ways { result.now ≡ ways_of graph.now constraint conj literal }
-    ensures listed { (owner : OwnerOf) → IsOwnerIn graph.now constraint owner
-        → AreListedOf owner conj literal result.now }
-    ensures only { (owner : OwnerOf) (templates : List TemplateOf) → IsOwnerIn graph.now constraint owner
-        → AreListedOf owner conj literal templates → templates ≡ result.now }
+/// The templates that are listed for the literal, in their order; none where there is no such
+/// literal.
+pub fn ways(graph: &Graph, at: Position) -> &[Template]
+    ensures ways { result.now ≡ ways_of graph.now at.constraint at.conj at.literal }
+    ensures listed { (owner : OwnerOf) → IsOwnerIn graph.now at.constraint owner
+        → AreListedOf owner at.conj at.literal result.now }
+    ensures only { (owner : OwnerOf) (templates : List TemplateOf)
+        → IsOwnerIn graph.now at.constraint owner
+        → AreListedOf owner at.conj at.literal templates → templates ≡ result.now }
 {
-    templates(listing_in(graph, constraint, conj, literal))
+    templates(listing_in(graph, at))
 }
 
 // Why the template breaks the other constraint, if it does.
@@ -78,37 +89,23 @@ fn reason(outcome: &Outcome, other: u32) -> Option<Reason>
     }
 }
 
-fn broken_in(
-    graph: &Graph,
-    constraint: u32,
-    conj: u32,
-    literal: u32,
-    way: u32,
-    other: u32,
-) -> Option<Reason>
-    ensures { result ≡ said.broken_in graph.now constraint conj literal way other }
+fn broken_in(graph: &Graph, at: Position, way: u32, other: u32) -> Option<Reason>
+    ensures { result ≡ said.broken_in graph.now at.constraint at.conj at.literal way other }
 {
-    let outcome = outcome(graph, constraint, conj, literal, way)?;
+    let outcome = outcome(graph, at, way)?;
     reason(outcome, other)
 }
 
-/// Why the template with this number among the listed ones, counted from 0, breaks the other
-/// constraint; none where it doesn't.
-pub fn breaks(
-    graph: &Graph,
-    constraint: u32,
-    conj: u32,
-    literal: u32,
-    way: u32,
-    other: u32,
-) -> Option<Reason>
-    ensures told { result ≡ said.broken_in graph.now constraint conj literal way other }
+/// Why the template with this number among those that are listed for the literal, counted from 0,
+/// breaks the other constraint; none where it doesn't.
+pub fn breaks(graph: &Graph, at: Position, way: u32, other: u32) -> Option<Reason>
+    ensures told { result ≡ said.broken_in graph.now at.constraint at.conj at.literal way other }
     ensures breaks { (owner : OwnerOf) (template : TemplateOf) (its : ConstraintOf)
-        → IsWayOf graph.now constraint conj literal way owner template
+        → IsWayOf graph.now at.constraint at.conj at.literal way owner template
         → slice_get owner.spec.constraints other ≡ Some its
         → Breaks owner (owner_at owner.spec other its) template result }
 {
-    broken_in(graph, constraint, conj, literal, way, other)
+    broken_in(graph, at, way, other)
 }
 
 // Whether a literal of the kind may turn false.
@@ -151,23 +148,27 @@ fn kinds_in(graph: &Graph, constraint: u32, conj: u32) -> &[usize]
 }
 
 // The place of the first other literal that may turn false.
-fn falsified_in(graph: &Graph, constraint: u32, conj: u32, literal: u32, way: u32) -> Option<usize>
-    ensures { result ≡ said.falsified_in graph.now constraint conj literal way }
+fn falsified_in(graph: &Graph, at: Position, way: u32) -> Option<usize>
+    ensures { result ≡ said.falsified_in graph.now at.constraint at.conj at.literal way }
 {
-    let outcome = outcome(graph, constraint, conj, literal, way)?;
-    first_marked(outcome, literal as usize, kinds_in(graph, constraint, conj))
+    let outcome = outcome(graph, at, way)?;
+    first_marked(
+        outcome,
+        at.literal as usize,
+        kinds_in(graph, at.constraint, at.conj),
+    )
 }
 
-/// The first other literal of the conjunction that the template with this number may turn false;
-/// none where it may turn none so.
-pub fn falsifies(graph: &Graph, constraint: u32, conj: u32, literal: u32, way: u32) -> Option<u32>
-    ensures told { (owner : OwnerOf) → IsOwnerIn graph.now constraint owner
-        → result ≡ said.falsified_in graph.now constraint conj literal way }
+/// The first other literal of its conjunction that the literal's template with this number, counted
+/// from 0, may turn false; none where it may turn none so.
+pub fn falsifies(graph: &Graph, at: Position, way: u32) -> Option<u32>
+    ensures told { (owner : OwnerOf) → IsOwnerIn graph.now at.constraint owner
+        → result ≡ said.falsified_in graph.now at.constraint at.conj at.literal way }
     ensures falsifies { (owner : OwnerOf) (template : TemplateOf)
-        → IsWayOf graph.now constraint conj literal way owner template
-        → Falsifies owner conj literal template result }
+        → IsWayOf graph.now at.constraint at.conj at.literal way owner template
+        → Falsifies owner at.conj at.literal template result }
 {
-    match falsified_in(graph, constraint, conj, literal, way) {
+    match falsified_in(graph, at, way) {
         Some(place) => u32::try_from(place).ok(),
         None => None,
     }

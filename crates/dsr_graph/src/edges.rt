@@ -35,7 +35,7 @@ impl Edge {
         }
     }
 
-    /// Its reason.
+    /// Why the template breaks the constraint; none where it doesn't.
     pub fn reason(self) -> Option<Reason>
         ensures { result ≡ graphs.reason_of self }
     {

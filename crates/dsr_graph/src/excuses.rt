@@ -32,8 +32,8 @@ pub struct Excuses {
 }
 
 impl Excuses {
-    /// Of the constraint whose updates are made, which uses these facts, and the one that they may
-    /// break.
+    /// What is known of the constraint whose updates are made, which uses these facts, and the one
+    /// that they may break.
     pub fn new(facts: &Facts, owner: &Owner, other: &Owner) -> Excuses
         requires sound { IsSound owner.now }
         requires other_sound { IsSound other.now }

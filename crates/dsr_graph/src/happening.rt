@@ -13,7 +13,7 @@ use dsr_graph_theory::Reason;
 use dsr_ir::Structures;
 use dsr_update_theory::{Direction, Effect, Tags};
 
-/// The records at which the update may do so.
+/// The records at which an update may do what the reason says.
 pub fn tags_for(base: &Structures, effect: &Effect, reason: Reason) -> Tags
     requires typed { AreTyped base.now }
     requires declared { IsDeclared base.now (symbol_of reason) }
@@ -26,21 +26,21 @@ pub fn tags_for(base: &Structures, effect: &Effect, reason: Reason) -> Tags
     }
 }
 
-/// Whether it may do so at all.
+/// Whether there is a record at which an update may do it.
 pub fn is_some(tags: Tags) -> bool
     ensures { result ≡ told.is_some tags }
 {
     tags.written || tags.entry || tags.fresh || tags.any
 }
 
-/// Whether it does so at the record alone that is written, if at all.
+/// Whether an update does it at the record alone that is written, if at all.
 pub fn is_only_written(tags: Tags) -> bool
     ensures { result ≡ told.is_only_written tags }
 {
     !(tags.entry || tags.fresh || tags.any)
 }
 
-/// Whether it does so at the slot alone of the entry that is written, if at all.
+/// Whether an update does it at the slot alone of the entry that is written, if at all.
 pub fn is_only_entry(tags: Tags) -> bool
     ensures { result ≡ told.is_only_entry tags }
 {

@@ -17,7 +17,7 @@ mod listings;
 mod reasons;
 mod variables;
 
-pub use asking::{breaks, falsifies, relies, ways};
+pub use asking::{Position, breaks, falsifies, relies, ways};
 pub use building::graph;
 pub use causes::{constraint_causes, literal_causes};
 pub use excuses::Excuses;

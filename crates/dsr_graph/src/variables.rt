@@ -58,7 +58,8 @@ fn is_bound_once(facts: &Facts, owner: &Owner, var: Var) -> bool
 }
 
 impl BoundOnce {
-    /// Of the variables of the constraint.
+    /// For each variable of the constraint whether each record is bound to it in one binding at
+    /// most.
     pub fn new(facts: &Facts, owner: &Owner) -> BoundOnce
         requires sound { IsSound owner.now }
         requires facts { AreFactsOf (owner_of owner.now) facts.now }
@@ -72,7 +73,7 @@ impl BoundOnce {
         }
     }
 
-    /// Whether it is so of this variable.
+    /// Whether each record is bound to this variable in one binding at most.
     pub fn of(self, var: Var) -> bool
         ensures { result ≡ once_by self var }
     {
@@ -115,7 +116,8 @@ fn are_different(facts: &Facts, owner: &Owner, var: Var, other: &Owner, at: Var)
 }
 
 impl Different {
-    /// Of the variables of the two constraints, by the facts that the first one uses.
+    /// For each two variables of the two constraints whether their records are known to be
+    /// different, by the facts that the first constraint uses.
     pub fn new(facts: &Facts, owner: &Owner, other: &Owner) -> Different
         requires sound { IsSound owner.now }
         requires other_sound { IsSound other.now }
@@ -153,7 +155,8 @@ impl Different {
         }
     }
 
-    /// Whether it is so of these variables.
+    /// Whether the records of these variables, of the one and the other constraint, are known to be
+    /// different.
     pub fn of(self, var: Var, at: Var) -> bool
         ensures { result ≡ different_by self var at }
     {
@@ -165,7 +168,7 @@ impl Different {
     }
 }
 
-/// Whether what is a target of the one quantifier's relation is none of the other's.
+/// Whether no target of the one quantifier's relation is a target of the other quantifier's.
 pub fn are_targets_apart(facts: &Facts, owner: &Owner, other: &Owner) -> bool
     requires sound { IsSound owner.now }
     requires facts { AreFactsOf (owner_of owner.now) facts.now }

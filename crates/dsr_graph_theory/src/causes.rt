@@ -4,9 +4,9 @@ use dsr_ir::{Symbol, Var};
 /// What happens to a set or a relation by which a constraint may be broken.
 #[derive(Clone, Copy, PartialEq, Eq)]
 pub enum Reason {
-    /// It gains a member or a pair.
+    /// The set gains a member, or the relation a pair.
     Gain(Symbol),
-    /// It loses one.
+    /// It loses a member or a pair.
     Loss(Symbol),
 }
 
@@ -15,6 +15,6 @@ pub enum Reason {
 #[derive(Clone, Copy, PartialEq, Eq)]
 pub struct Cause {
     pub reason: Reason,
-    /// None where it is read of all records.
+    /// None where the set or the relation is read of all records.
     pub at: Option<Var>,
 }

@@ -8,7 +8,7 @@ use Rattle.dsr_ir.specs.declared.constraints.Literal.{Literal}
 use Rattle.dsr_graph_theory.proofs.FirstKept.{few_listed}
 use Rattle.dsr_graph_theory.specs.Owners.{Owner}
 use Rattle.dsr_placement.specs.Placing.{HasUsable, IsFirstUsable, IsUsableWay, IsWayAt}
-use Rattle.dsr_placement.specs.declared.sparing.Position.{Position}
+use Rattle.dsr_graph.specs.declared.asking.Position.{Position}
 use Rattle.dsr_plan_theory.specs.Stuck.{CanRepair, MustTest}
 use Rattle.dsr_update_theory.specs.Templates.{literal_at}
 

@@ -1,5 +1,5 @@
 -- What is left, one constraint after the other.
-use Rattle.std.proofs.Common.{◌≡◌, ◌<◌, ◌+◌, ℕ, zero, suc, Bool, true, false, nat_eq, List, [], ◌∷◌, Some, length, slice_get, refl, subst, arith}
+use Rattle.std.proofs.Common.{◌≡◌, ◌<◌, ◌+◌, ℕ, zero, suc, Bool, true, false, nat_eq, List, [], ◌∷◌, length, refl, subst, arith}
 use Rattle.std.proofs.lemmas.Bool.{false≢true}
 use Rattle.std.proofs.lemmas.Bool.Decides.{nat_tests}
 use Rattle.dsr_placement.specs.Placing.{IsLeft}
@@ -8,11 +8,6 @@ pub left_below : (left : List Bool) (n : ℕ) → IsLeft left n → n < length l
 left_below [] n is = absurd (false≢true is)
 left_below (x ∷ left) zero is = omega arith
 left_below (x ∷ left) (suc n) is = let less = left_below left n is in omega (arith, less)
-
-pub item_there : {T : Type 0} (xs : List T) (n : ℕ) → n < length xs → (x : T) × (slice_get xs n ≡ Some x)
-item_there [] n less = absurd (omega (arith, less))
-item_there (x ∷ xs) zero less = (x, refl)
-item_there (x ∷ xs) (suc n) less = item_there xs n (omega (arith, less))
 
 -- none of those so far, and not this one
 pub none_more : (P : ℕ → Type 0) (n : ℕ) → (P n → ⊥) → ((m : ℕ) → m < n → P m → ⊥) → (m : ℕ) → m < n + 1 → P m → ⊥

@@ -1,4 +1,3 @@
-pub mod SameAtoms
 pub mod Places
 pub mod Each
 pub mod Passing

@@ -12,7 +12,7 @@ use Rattle.dsr_ir.specs.declared.memory.NoMemory.{NoMemory}
 use Rattle.dsr_graph_theory.specs.Owners.{Owner}
 use Rattle.dsr_placement.proofs.Counted.{repair_of}
 use Rattle.dsr_placement.specs.Placing.{AreTests, IsReliedOnByNone, IsWayAt}
-use Rattle.dsr_placement.specs.declared.sparing.Position.{Position}
+use Rattle.dsr_graph.specs.declared.asking.Position.{Position}
 use Rattle.dsr_plan_theory.specs.Plans.{Covers}
 use Rattle.dsr_plan_theory.specs.Stuck.{IsHeld, MayBeFirst, MustTest, uncovered}
 use Rattle.dsr_graph.specs.Graphs.{IsOwnerIn}

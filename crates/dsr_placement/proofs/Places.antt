@@ -2,7 +2,7 @@
 use Rattle.std.proofs.Common.{◌≡◌, ◌<◌, ◌≤◌, ◌+◌, ◌++◌, ℕ, zero, suc, Bool, true, false, List, [], ◌∷◌, map, drop, get_or, length, slice_index_or, inl, inr, refl, sym, ap, subst, ◌∙◌, arith}
 use Rattle.std.specs.Prelude.{MatchBool, if◌then◌else◌, nat_lt}
 use Rattle.std.proofs.lemmas.Bool.Decides.{nat_tests}
-use Rattle.dsr_placement.proofs.SameAtoms.{atom_decides}
+use Rattle.dsr_graph.proofs.SameAtoms.{atom_decides}
 use Rattle.dsr_placement.specs.Atoms.{Keeps, place_of}
 use Rattle.dsr_ir.specs.contracts.constraints.AtomPartialEq.TheImpl as atom
 use Rattle.dsr_ir.specs.declared.constraints.Atom.{Atom}

@@ -12,7 +12,7 @@ use Rattle.dsr_ir.specs.declared.declarations.Spec.{Spec}
 use Rattle.dsr_ir.specs.declared.updates.Template.{Template}
 use Rattle.dsr_graph_theory.specs.Owners.{Owner}
 use Rattle.dsr_meaning.specs.Counting.{IsIn}
-use Rattle.dsr_placement.specs.declared.sparing.Position.{Position}
+use Rattle.dsr_graph.specs.declared.asking.Position.{Position}
 use Rattle.dsr_plan_theory.specs.Plans.{owner_at}
 use Rattle.dsr_plan_theory.specs.Stuck.{MustTest, SparesMembers}
 use Rattle.dsr_update_theory.specs.Templates.{literal_at}

@@ -7,7 +7,7 @@ ghost use Rattle.dsr_meaning.specs.Counting.{IsIn};
 use dsr_ir::{Atom, Conj, Constraint, NoMemory};
 use std::alloc::Global;
 
-/// The first place of the atom among these; their number where it is none of them.
+/// The first place of the atom among these atoms; how many they are where it is none of them.
 pub fn place_of(atoms: &[Atom], atom: &Atom) -> usize
     ensures { result ≡ said.place_of atoms.now atom.now }
 {

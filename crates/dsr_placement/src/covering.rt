@@ -9,7 +9,8 @@ use crate::truths::World;
 use dsr_ir::{Atom, Constraint, NoMemory, Seq};
 use std::alloc::Global;
 
-// Whether they are, whatever values the atoms from the place on have.
+// Whether the tests of some conjunction are passed, whatever values the atoms from the place on
+// have.
 fn covers_from(
     atoms: &[Atom],
     constraint: &Constraint,

@@ -11,5 +11,5 @@ mod truths;
 
 pub use covering::covers;
 pub use placing::{may_be_first, relies_left};
-pub use sparing::{Position, is_left};
+pub use sparing::is_left;
 pub use testing::way;

@@ -7,7 +7,7 @@ ghost use Rattle.dsr_graph_theory.specs.Owners.{Owner as OwnerOf};
 ghost use Rattle.dsr_placement.specs.Placing.{BreaksLeft, HasUsable, IsFirstUsable, IsLeft, IsUsable, IsUsableWay};
 ghost use Rattle.dsr_plan_theory.specs.Stuck.{SparesMembers};
 
-use dsr_graph::{Graph, breaks, falsifies, ways};
+use dsr_graph::{Graph, Position, breaks, falsifies, ways};
 
 // How many templates are listed for a literal at most.
 const MOST_WAYS: u32 = 64;
@@ -22,14 +22,6 @@ pub fn is_left(left: &[bool], number: u32) -> bool
     }
 }
 
-/// A literal by its numbers: its constraint's, its conjunction's and its own there.
-#[derive(Clone, Copy)]
-pub struct Position {
-    pub constraint: u32,
-    pub conj: u32,
-    pub literal: u32,
-}
-
 // Whether the constraint is left, and the template breaks it.
 fn breaks_left(graph: &Graph, at: Position, way: u32, left: &[bool], other: u32) -> bool
     ensures { (owner : OwnerOf) (template : TemplateOf) (its : ConstraintOf)
@@ -40,7 +32,7 @@ fn breaks_left(graph: &Graph, at: Position, way: u32, left: &[bool], other: u32)
     if !is_left(left, other) {
         return false;
     }
-    breaks(graph, at.constraint, at.conj, at.literal, way, other).is_some()
+    breaks(graph, at, way, other).is_some()
 }
 
 // Whether the template breaks none that is left.
@@ -59,7 +51,7 @@ fn spares(graph: &Graph, at: Position, way: u32, left: &[bool]) -> bool
     true
 }
 
-// Whether it also falsifies no other literal.
+// Whether the template falsifies no other literal, and breaks none that is left.
 fn is_usable(graph: &Graph, at: Position, way: u32, left: &[bool]) -> bool
     requires few { length left.now ≤ 2 ^ 32 }
     ensures { (owner : OwnerOf) (template : TemplateOf)
@@ -67,13 +59,14 @@ fn is_usable(graph: &Graph, at: Position, way: u32, left: &[bool]) -> bool
         → length left.now ≡ length owner.spec.constraints
         → Decides result (IsUsable owner (IsLeft left.now) at.conj at.literal template) }
 {
-    if falsifies(graph, at.constraint, at.conj, at.literal, way).is_some() {
+    if falsifies(graph, at, way).is_some() {
         return false;
     }
     spares(graph, at, way, left)
 }
 
-// Whether there is such a template, of so many, and it is one.
+// Whether the template with this number, counted from 0, is one of so many that are listed, and it
+// falsifies nothing and breaks none that is left.
 fn is_usable_below(graph: &Graph, at: Position, way: u32, count: usize, left: &[bool]) -> bool
     requires few { length left.now ≤ 2 ^ 32 }
     ensures { (owner : OwnerOf) → IsOwnerIn graph.now at.constraint owner
@@ -87,8 +80,8 @@ fn is_usable_below(graph: &Graph, at: Position, way: u32, count: usize, left: &[
     is_usable(graph, at, way, left)
 }
 
-/// The number of the first such template of the literal, counted from 0. At most `MOST_WAYS` are
-/// listed, so it counts to that, and asks of each number whether there is one.
+/// The number, counted from 0, of the literal's first template that falsifies nothing and breaks
+/// none that is left. At most `MOST_WAYS` are listed: each number up to that is asked.
 pub fn first_usable(graph: &Graph, at: Position, left: &[bool]) -> Option<u32>
     requires few { length left.now ≤ 2 ^ 32 }
     ensures { (owner : OwnerOf) → IsOwnerIn graph.now at.constraint owner
@@ -96,7 +89,7 @@ pub fn first_usable(graph: &Graph, at: Position, left: &[bool]) -> Option<u32>
         → MatchOption result (HasUsable graph.now owner (IsLeft left.now) at → ⊥)
         (IsFirstUsable graph.now owner (IsLeft left.now) at) }
 {
-    let count = ways(graph, at.constraint, at.conj, at.literal).len();
+    let count = ways(graph, at).len();
     for way in 0..MOST_WAYS {
         if is_usable_below(graph, at, way, count, left) {
             return Some(way);

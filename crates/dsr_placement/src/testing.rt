@@ -6,8 +6,8 @@ ghost use Rattle.dsr_placement.specs.Placing.{AreTests, AreTestsIn, IsConjIn, Is
 ghost use Rattle.dsr_plan_theory.specs.Stuck.{MustTest};
 ghost use Rattle.dsr_update_theory.specs.Templates.{literal_at};
 
-use crate::sparing::{Position, first_usable};
-use dsr_graph::Graph;
+use crate::sparing::first_usable;
+use dsr_graph::{Graph, Position};
 use dsr_ir::{Conj, Constraint, Literal, NoMemory, Seq};
 use std::alloc::Global;
 

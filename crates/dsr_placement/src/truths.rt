@@ -63,7 +63,7 @@ impl World<'_> {
         true
     }
 
-    /// Whether those of some conjunction do.
+    /// Whether the marked literals of some conjunction come out true.
     pub fn some_passes(&self, constraint: &Constraint, tests: &[Seq<bool>]) -> bool
         ensures { Decides result (SomeConjPasses constraint.now (said.IsTested tests.now)
             (said.truth_by self.now.atoms.now self.now.truths.now)) }

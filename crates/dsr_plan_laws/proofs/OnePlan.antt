@@ -4,7 +4,6 @@ use Rattle.std.proofs.Common.{◌≡◌, ◌≤◌, ◌<◌, ◌+◌, ◌-◌, �
 use Rattle.std.specs.Prelude.{option_and_then}
 use Rattle.std.proofs.lemmas.Bool.Decides.{nat_tests}
 use Rattle.std.proofs.lemmas.Option.{same_Some, slice_get_past, slice_get_within}
-use Rattle.dsr_ir.specs.declared.constraints.Conj.{Conj}
 use Rattle.dsr_ir.specs.declared.constraints.Constraint.{Constraint}
 use Rattle.dsr_ir.specs.declared.constraints.Literal.{Literal}
 use Rattle.dsr_ir.specs.declared.declarations.Spec.{Spec}
@@ -12,7 +11,6 @@ use Rattle.dsr_ir.specs.declared.updates.Template.{Template}
 use Rattle.dsr_graph_theory.specs.Breaks.{Relies}
 use Rattle.dsr_plan_laws.proofs.Unique.{listed_one}
 use Rattle.dsr_graph_theory.specs.Owners.{Owner}
-use Rattle.dsr_plan_theory.proofs.Descent.{item_there}
 use Rattle.dsr_plan_theory.proofs.Grown.{held_more, not_both, repair_fewer}
 use Rattle.dsr_plan_theory.specs.Plans.{AreWaysFor, Covers, IsListedAt, IsRowOf, IsTested, owner_at, way_at}
 use Rattle.dsr_plan_theory.specs.Stuck.{CanRepair, IsHeld, MayBeFirst, MustTest, SparesMembers}
@@ -22,6 +20,7 @@ use Rattle.dsr_plan_theory.specs.declared.choices.Row.{Row}
 use Rattle.dsr_plan_theory.specs.declared.choices.Way.{Way}
 use Rattle.dsr_plan_theory.specs.declared.choices.Way.TheVariants.{Test, By}
 use Rattle.dsr_update_theory.specs.Templates.{literal_at}
+use Rattle.dsr_meaning.proofs.Items.{item_there}
 
 -- ---- lists
 

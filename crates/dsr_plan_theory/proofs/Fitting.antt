@@ -5,11 +5,11 @@ use Rattle.std.proofs.lemmas.Bool.Decides.{nat_tests}
 use Rattle.std.proofs.lemmas.Option.{slice_get_past}
 use Rattle.dsr_ir.specs.declared.constraints.Conj.{Conj}
 use Rattle.dsr_graph_theory.specs.Owners.{Owner}
-use Rattle.dsr_plan_theory.proofs.Descent.{item_there}
 use Rattle.dsr_plan_theory.specs.Plans.{AreWaysFor, way_at}
 use Rattle.dsr_plan_theory.specs.declared.choices.Row.{Row}
 use Rattle.dsr_plan_theory.specs.declared.choices.Way.{Way}
 use Rattle.dsr_update_theory.specs.Templates.{literal_at}
+use Rattle.dsr_meaning.proofs.Items.{item_there}
 
 module _ (owner : Owner) (row : Row) (its : AreWaysFor owner row) (k : ℕ) (conj : Conj) (ways : List Way) (conj_is : slice_get owner.constraint.conjs k ≡ Some conj) (ways_are : slice_get row.ways k ≡ Some ways) where
   way_is : (n : ℕ) → way_at row k n ≡ slice_get ways n

@@ -10,7 +10,7 @@ mod laws;
 mod plans;
 mod refusals;
 
-pub use choices::{Choice, Row, Way};
+pub use choices::{Choice, Row, Way, way_number, way_place};
 pub use laws::stuck_sets_leave_no_plan;
 pub use plans::Plan;
 pub use refusals::{StuckEnd, StuckMember, StuckSet, StuckWay};

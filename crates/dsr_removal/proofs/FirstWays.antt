@@ -1,5 +1,6 @@
 -- The template that is taken for a literal, and taken ways where members are told in another way.
 use Rattle.std.proofs.Common.{◌≡◌, ◌≤◌, ◌+◌, ◌-◌, ◌∙◌, ℕ, Bool, List, Option, Some, None, IsTrue, length, map, slice_get, sym, ap, subst, arith}
+use Rattle.std.proofs.lemmas.Option.{slice_get_within, same_Some}
 use Rattle.dsr_graph_theory.specs.Breaks.{Falsifies}
 use Rattle.dsr_graph.proofs.Found.{ways_listed, ways_only}
 use Rattle.dsr_graph.specs.Graphs.{IsOwnerIn, ways_of}
@@ -8,7 +9,7 @@ use Rattle.dsr_ir.specs.declared.constraints.Literal.{Literal}
 use Rattle.dsr_ir.specs.declared.updates.Template.{Template}
 use Rattle.dsr_graph_theory.specs.Owners.{Owner}
 use Rattle.dsr_placement.specs.Placing.{IsLeft, IsUsableWay, IsWayAt}
-use Rattle.dsr_placement.specs.declared.sparing.Position.{Position}
+use Rattle.dsr_graph.specs.declared.asking.Position.{Position}
 use Rattle.dsr_plan_theory.proofs.Grown.{test_more}
 use Rattle.dsr_plan_theory.specs.Plans.{MayRepair, owner_at}
 use Rattle.dsr_plan_theory.specs.Stuck.{SparesMembers}
@@ -19,10 +20,6 @@ use Rattle.dsr_plan_theory.specs.declared.choices.Way.TheVariants.{Test, By}
 use Rattle.dsr_removal.proofs.Staying.{left_told}
 use Rattle.dsr_removal.specs.Rounds.{IsLeftAt, IsPlacedIn, is_late}
 use Rattle.dsr_removal.specs.Taking.{AreTakenWays, IsRowAt}
-use Rattle.dsr_compensate.proofs.Standing.{place_below}
-
-same_item : {T : Type 0} (x y : T) → Some x ≡ Some y → x ≡ y
-same_item x y e = cc
 
 module _ (graph : Graph) (at : Position) (owner : Owner) (in_graph : IsOwnerIn graph at.constraint owner) (Member : ℕ → Type 0) (literal : Literal) where
   usable_at : (number : ℕ) (template : Template) → MayRepair owner at.conj at.literal literal number template → SparesMembers owner Member template → IsUsableWay graph owner Member at (number - 1)
@@ -37,7 +34,7 @@ module _ (graph : Graph) (at : Position) (owner : Owner) (in_graph : IsOwnerIn g
   pub first_for : (way number : ℕ) (template : Template) → IsWayAt graph owner Member at literal way → number ≡ way + 1 → slice_get (ways_of graph at.constraint at.conj at.literal) way ≡ Some template → IsFirstFor owner Member at.conj at.literal literal number template
   first_for way number template its number_is there =
       let usable = its.first.usable in
-      let same : usable.template ≡ template = same_item usable.template template (sym usable.is_way.template_is ∙ there) in
+      let same : usable.template ≡ template = same_Some usable.template template (sym usable.is_way.template_is ∙ there) in
       let place : number - 1 ≡ way = omega (arith, number_is) in
       record {
         may = record {
@@ -58,7 +55,7 @@ module _ (graph : Graph) (at : Position) (owner : Owner) (in_graph : IsOwnerIn g
 
   pub no_such : (way : ℕ) → IsWayAt graph owner Member at literal way → length (ways_of graph at.constraint at.conj at.literal) ≤ way → ⊥
   no_such way its past =
-      let below = place_below (ways_of graph at.constraint at.conj at.literal) way its.first.usable.template its.first.usable.is_way.template_is in
+      let below = slice_get_within (ways_of graph at.constraint at.conj at.literal) way its.first.usable.template its.first.usable.is_way.template_is in
       omega (arith, below, past)
 
 -- ways by members that are told in another way

@@ -1,6 +1,7 @@
 -- The first of a kind is one, and a kind with a first one for each has none or a first one.
 use Rattle.std.proofs.Common.{◌≡◌, ◌<◌, ℕ, zero, suc, List, true, false, nat_lt, Option, None, Some, refl, sym, subst, ◌∙◌, arith}
 use Rattle.std.proofs.lemmas.Bool.Decides.{nat_tests}
+use Rattle.std.proofs.lemmas.Option.{same_Some}
 use Rattle.dsr_graph_theory.specs.Breaks.{Breaks, IsFirstReason, first, later, none}
 use Rattle.dsr_graph_theory.specs.declared.causes.Cause.{Cause}
 use Rattle.dsr_graph_theory.specs.declared.causes.Reason.{Reason}
@@ -50,11 +51,8 @@ reason_one (first cause such) (later cause_too not_such b) = absurd (not_such su
 reason_one (later cause not_such a) (first cause_too such) = absurd (not_such such)
 reason_one (later cause not_such a) (later cause_too not_too b) = reason_one a b
 
-some_is : {T : Type 0} (x y : T) → Some x ≡ Some y → x ≡ y
-some_is x y e = cc
-
 pub reason_for_one : (owner : Owner) (template : Template) (n : ℕ) (r s : Reason) → BreaksFor owner template n r → BreaksFor owner template n s → r ≡ s
 reason_for_one owner template n r s a b =
-    let other : a.other ≡ b.other = some_is a.other b.other (sym a.other_is ∙ b.other_is) in
+    let other : a.other ≡ b.other = same_Some a.other b.other (sym a.other_is ∙ b.other_is) in
     let moved = subst (λ o. Breaks owner (owner_at owner.spec n o) template (Some r)) other a.breaks in
-    some_is r s (reason_one moved b.breaks)
+    same_Some r s (reason_one moved b.breaks)

@@ -2,7 +2,7 @@
 use Rattle.std.proofs.Common.{◌≡◌, ◌∙◌, ℕ, zero, suc, Bool, true, false, IsTrue, List, Option, None, Some, map, slice_get, nat_le, refl, sym, ap, subst, arith}
 use Rattle.std.specs.Option.{option_map_or}
 use Rattle.std.proofs.lemmas.Bool.Decides.{nat_tests}
-use Rattle.dsr_graph.proofs.Paired.{item_there}
+use Rattle.std.proofs.lemmas.Option.{slice_get_within}
 use Rattle.dsr_ir.specs.declared.declarations.Spec.{Spec}
 use Rattle.dsr_meaning.specs.Counting.{IsIn}
 use Rattle.dsr_placement.specs.Placing.{IsLeft}
@@ -11,7 +11,7 @@ use Rattle.dsr_plan_theory.specs.Stuck.{IsStuck}
 use Rattle.dsr_removal.proofs.Staying.{entry, left_many, left_told}
 use Rattle.dsr_removal.specs.Placements.{AreLargest}
 use Rattle.dsr_removal.specs.Rounds.{AreSettled, IsLeftAt, is_late}
-use Rattle.dsr_compensate.proofs.Standing.{place_below}
+use Rattle.dsr_meaning.proofs.Items.{item_there}
 
 module _ (spec : Spec) (rounds : List (Option ℕ)) (count : ℕ) (settled : AreSettled spec rounds count) where
   module _ (Member : ℕ → Type 0) (stuck : IsStuck spec Member) where
@@ -47,7 +47,7 @@ module _ (spec : Spec) (rounds : List (Option ℕ)) (count : ℕ) (settled : Are
   stuck_at = record {
     declared = λ m left.
         let its = entry count m rounds left in
-        let below = place_below rounds m its.0 its.1 in
+        let below = slice_get_within rounds m its.0 its.1 in
         let many = settled.rounds_are.as_many in
         omega (arith, below, many);
     held = λ m constraint left there. settled.ends m constraint left there;

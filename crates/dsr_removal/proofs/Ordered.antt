@@ -3,7 +3,8 @@ use Rattle.std.proofs.Common.{◌≡◌, ◌<◌, ◌≤◌, ◌+◌, ◌-◌, �
 use Rattle.std.specs.Option.{option_map_or}
 use Rattle.std.specs.Prelude.{option_and_then}
 use Rattle.std.proofs.lemmas.Bool.Decides.{nat_tests}
-use Rattle.dsr_graph.proofs.Paired.{item_there, paired_back, paired_got}
+use Rattle.std.proofs.lemmas.Option.{slice_get_within}
+use Rattle.dsr_graph.proofs.Paired.{paired_back, paired_got}
 use Rattle.dsr_ir.specs.declared.constraints.Conj.{Conj}
 use Rattle.dsr_ir.specs.declared.constraints.Constraint.{Constraint}
 use Rattle.dsr_ir.specs.declared.constraints.Literal.{Literal}
@@ -21,8 +22,8 @@ use Rattle.dsr_removal.proofs.FirstWays.{taken_same}
 use Rattle.dsr_removal.proofs.Staying.{entry}
 use Rattle.dsr_removal.specs.Rounds.{AreRounds, IsLeftAt, IsPlacedIn, is_late, is_left_at}
 use Rattle.dsr_removal.specs.Taking.{AreRowsOf, AreTakenIn, AreTakenWays, IsRowAt}
-use Rattle.dsr_compensate.proofs.Standing.{place_below}
 use Rattle.dsr_update_theory.specs.Templates.{literal_at}
+use Rattle.dsr_meaning.proofs.Items.{item_there}
 
 -- ---- ways of a literal
 
@@ -104,7 +105,7 @@ module _ (spec : Spec) (rounds : List (Option ℕ)) (count : ℕ) (all : AreRoun
   to_level : (r level m : ℕ) → level + r + 1 ≡ count → IsLeftAt rounds r m → IsUpTo choice level m
   to_level r level m sum left =
       let its = entry r m rounds left in
-      let below = place_below rounds m its.0 its.1 in
+      let below = slice_get_within rounds m its.0 its.1 in
       let many = all.as_many in
       let also = are.as_many in
       let row = item_there rows m (omega (arith, below, many, also)) in
@@ -184,7 +185,7 @@ module _ (spec : Spec) (rounds : List (Option ℕ)) (count : ℕ) (all : AreRoun
         let k : ℕ = count - (level + 1) in
         let sum : level + k + 1 ≡ count = omega (arith, one, low) in
         let used = all.used k (omega (arith, sum)) in
-        let below = place_below rounds used.0 (Some k) used.1 in
+        let below = slice_get_within rounds used.0 (Some k) used.1 in
         let many = all.as_many in
         let also = are.as_many in
         let other = item_there rows used.0 (omega (arith, below, many, also)) in

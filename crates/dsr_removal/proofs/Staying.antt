@@ -2,13 +2,14 @@
 use Rattle.std.proofs.Common.{◌≡◌, ◌<◌, ◌≤◌, ◌+◌, ◌∙◌, ℕ, zero, suc, nat_eq, nat_le, Bool, true, false, IsTrue, List, [], ◌∷◌, Option, None, Some, MatchOption, length, map, replicate, slice_get, slice_index_or, refl, sym, ap, subst, arith}
 use Rattle.std.specs.Option.{option_map_or}
 use Rattle.std.proofs.lemmas.Bool.Decides.{nat_tests}
-use Rattle.dsr_graph.proofs.Paired.{beyond_item, item_beyond, item_there}
+use Rattle.std.proofs.lemmas.Option.{slice_get_within}
+use Rattle.dsr_graph.proofs.Paired.{beyond_item, item_beyond}
 use Rattle.dsr_ir.specs.declared.constraints.Constraint.{Constraint}
 use Rattle.dsr_ir.specs.declared.declarations.Spec.{Spec}
 use Rattle.dsr_plan_theory.proofs.Grown.{first_fewer, held_more}
 use Rattle.dsr_plan_theory.specs.Stuck.{IsHeld, MayBeFirst}
 use Rattle.dsr_removal.specs.Rounds.{AreNext, AreRounds, AreSettled, IsLeftAt, IsNext, IsPlacedIn, is_late, is_left_at, unplaced}
-use Rattle.dsr_compensate.proofs.Standing.{place_below}
+use Rattle.dsr_meaning.proofs.Items.{item_there}
 
 -- what a round does with a constraint's round
 abbrev IsStep : ℕ → Option ℕ → Option ℕ → Type 0
@@ -102,7 +103,7 @@ module _ (spec : Spec) (rounds next : List (Option ℕ)) (count : ℕ) (all : Ar
 
   constraint_of : (n : ℕ) (x : Option ℕ) → slice_get rounds n ≡ Some x → (c : Constraint) × (slice_get spec.constraints n ≡ Some c)
   constraint_of n x is =
-      let less = place_below rounds n x is in
+      let less = slice_get_within rounds n x is in
       let many = all.as_many in
       item_there spec.constraints n (omega (arith, less, many))
 
@@ -122,13 +123,13 @@ module _ (spec : Spec) (rounds next : List (Option ℕ)) (count : ℕ) (all : Ar
   -- what a constraint had before
   before_of : (n : ℕ) (y : Option ℕ) → slice_get next n ≡ Some y → (x : Option ℕ) × (slice_get rounds n ≡ Some x)
   before_of n y is =
-      let less = place_below next n y is in
+      let less = slice_get_within next n y is in
       let many = long in
       item_there rounds n (omega (arith, less, many))
 
   after_of : (n : ℕ) (x : Option ℕ) → slice_get rounds n ≡ Some x → (y : Option ℕ) × (slice_get next n ≡ Some y)
   after_of n x is =
-      let less = place_below rounds n x is in
+      let less = slice_get_within rounds n x is in
       let many = long in
       item_there next n (omega (arith, less, many))
 

@@ -1,6 +1,5 @@
 -- Members, one constraint after the other, and that each waits for one.
-use Rattle.std.proofs.Common.{◌≡◌, ◌<◌, ◌+◌, ◌++◌, ◌⊎◌, inl, inr, ℕ, true, false, nat_eq, List, [], ◌∷◌, Option, None, Some, slice_get, refl, sym, ap, subst, ◌∙◌, arith}
-use Rattle.std.proofs.lemmas.Bool.Decides.{nat_tests}
+use Rattle.std.proofs.Common.{◌≡◌, ◌<◌, ◌+◌, ◌++◌, ◌⊎◌, inl, inr, ℕ, List, [], ◌∷◌, Option, None, Some, slice_get, refl, sym, ap, subst, ◌∙◌, arith}
 use Rattle.dsr_graph_theory.specs.Breaks.{Falsifies}
 use Rattle.dsr_ir.specs.declared.constraints.Constraint.{Constraint}
 use Rattle.dsr_ir.specs.declared.declarations.Spec.{Spec}
@@ -18,13 +17,7 @@ use Rattle.dsr_removal.proofs.Firsts.{none_at_all}
 use Rattle.dsr_removal.proofs.Items.{in_order_more, number_in, numbers_more}
 use Rattle.dsr_removal.specs.Members.{AreMembers, AreMembersBelow, EachWaits, IsMemberAt}
 use Rattle.dsr_meaning.proofs.Items.{in_left}
-
-below_or_at : (m n : ℕ) → m < n + 1 → (m < n) ⊎ (m ≡ n)
-below_or_at m n less =
-    elim (nat_eq m n) as (λ t. nat_eq m n ≡ t → (m < n) ⊎ (m ≡ n)) [
-      | true ↦ λ e. inr (grind (arith, nat_tests))
-      | false ↦ λ e. inl (grind (arith, nat_tests))
-    ] refl
+use Rattle.dsr_meaning.proofs.Numbers.{below_next}
 
 module _ (spec : Spec) (Member : ℕ → Type 0) where
   pub no_members : AreMembersBelow spec Member 0 []
@@ -40,7 +33,7 @@ module _ (spec : Spec) (Member : ℕ → Type 0) where
   pub one_passed : (n : ℕ) (members : List StuckMember) → (Member n → ⊥) → AreMembersBelow spec Member n members → AreMembersBelow spec Member (n + 1) members
   one_passed n members not_here its = record {
     in_order = its.in_order;
-    all = λ m less member. elim (below_or_at m n less) as (λ _. IsAmong members m) [
+    all = λ m less member. elim (below_next m n less) as (λ _. IsAmong members m) [
       | inl lower ↦ its.all m lower member
       | inr same ↦ absurd (not_here (subst Member same member))
     ];
@@ -60,7 +53,7 @@ module _ (spec : Spec) (Member : ℕ → Type 0) where
     pub one_more : AreMembersBelow spec Member (n + 1) (members ++ member ∷ [])
     one_more = record {
       in_order = subst (AreInOrder ◌<◌) (sym numbers) (in_order_more ◌<◌ (numbers_of members) n its.in_order its.below);
-      all = λ m less is. subst (IsIn m) (sym numbers) (elim (below_or_at m n less) as (λ _. IsIn m (numbers_of members ++ n ∷ [])) [
+      all = λ m less is. subst (IsIn m) (sym numbers) (elim (below_next m n less) as (λ _. IsIn m (numbers_of members ++ n ∷ [])) [
         | inl lower ↦ in_left m (numbers_of members) (n ∷ []) (its.all m lower is)
         | inr same ↦ subst (λ k. IsIn k (numbers_of members ++ n ∷ [])) (sym same) (last_in n (numbers_of members))
       ]);

@@ -1,6 +1,7 @@
 -- Stuck ways, one template after the other.
 use Rattle.std.proofs.Common.{◌≡◌, ◌<◌, ◌≤◌, ◌+◌, ◌-◌, ◌++◌, ◌⊎◌, inl, inr, ℕ, true, false, nat_lt, nat_eq, List, [], ◌∷◌, None, Some, MatchOption, length, slice_get, refl, sym, ap, subst, ◌∙◌, arith}
 use Rattle.std.proofs.lemmas.Bool.Decides.{nat_tests}
+use Rattle.std.proofs.lemmas.Option.{slice_get_within, same_Some}
 use Rattle.dsr_graph_theory.specs.Breaks.{Falsifies}
 use Rattle.dsr_graph_theory.specs.declared.causes.Reason.{Reason}
 use Rattle.dsr_ir.specs.declared.updates.Template.{Template}
@@ -14,23 +15,13 @@ use Rattle.dsr_plan_theory.specs.declared.refusals.StuckWay.{StuckWay}
 use Rattle.dsr_removal.proofs.Firsts.{first_one, reason_for_one}
 use Rattle.dsr_removal.proofs.Items.{in_order_more}
 use Rattle.dsr_removal.specs.Ways.{AreWaysBefore, ComesBefore, IsAt, IsFirstBroken, IsNoWay, IsWayAt}
-use Rattle.dsr_compensate.proofs.Standing.{place_below}
 use Rattle.dsr_update_theory.specs.Templates.{literal_at}
 use Rattle.dsr_meaning.proofs.Items.{in_left}
-
-some_is : {T : Type 0} (x y : T) → Some x ≡ Some y → x ≡ y
-some_is x y e = cc
+use Rattle.dsr_meaning.proofs.Numbers.{below_next}
 
 at_or_below : (a b : ℕ) → a ≤ b + 1 → (a ≤ b) ⊎ (a ≡ b + 1)
 at_or_below a b most =
     elim (nat_eq a (b + 1)) as (λ t. nat_eq a (b + 1) ≡ t → (a ≤ b) ⊎ (a ≡ b + 1)) [
-      | true ↦ λ e. inr (grind (arith, nat_tests))
-      | false ↦ λ e. inl (grind (arith, nat_tests))
-    ] refl
-
-at_or_before : (a b : ℕ) → a < b + 1 → (a < b) ⊎ (a ≡ b)
-at_or_before a b less =
-    elim (nat_eq a b) as (λ t. nat_eq a b ≡ t → (a < b) ⊎ (a ≡ b)) [
       | true ↦ λ e. inr (grind (arith, nat_tests))
       | false ↦ λ e. inl (grind (arith, nat_tests))
     ] refl
@@ -106,7 +97,7 @@ module _ (owner : Owner) (Member : ℕ → Type 0) where
       absurd cc
 
   conj_passed : (w : StuckWay) → IsStuckWay owner Member w → (conj literal : ℕ) → ((n : ℕ) → literal ≤ n → literal_at owner.constraint conj n ≡ None) → ComesBefore w (conj + 1) 0 0 → ComesBefore w conj literal 0
-  conj_passed w its conj literal beyond (inl less) = elim (at_or_before w.conj conj less) as (λ _. ComesBefore w conj literal 0) [
+  conj_passed w its conj literal beyond (inl less) = elim (below_next w.conj conj less) as (λ _. ComesBefore w conj literal 0) [
     | inl lower ↦ inl lower
     | inr same ↦ elim (nat_lt w.literal literal) as (λ t. nat_lt w.literal literal ≡ t → ComesBefore w conj literal 0) [
       | true ↦ λ e. let lower : w.literal < literal = grind (arith, nat_tests) in inr (same, inl lower)
@@ -156,7 +147,7 @@ module _ (owner : Owner) (Member : ℕ → Type 0) (templates : ℕ → ℕ → 
   same_way : (v w : StuckWay) → IsStuckWay owner Member v → IsStuckWay owner Member w → v.conj ≡ w.conj → v.literal ≡ w.literal → v.way ≡ w.way → v ≡ w
   same_way v w a b conj literal way =
       let moved : slice_get (templates v.conj v.literal) (v.way - 1) ≡ slice_get (templates w.conj w.literal) (w.way - 1) = λ i. slice_get (templates (conj i) (literal i)) (way i - 1) in
-      let template : a.template ≡ b.template = some_is a.template b.template (sym (template_at v a) ∙ (moved ∙ template_at w b)) in
+      let template : a.template ≡ b.template = same_Some a.template b.template (sym (template_at v a) ∙ (moved ∙ template_at w b)) in
       let breaks : v.breaks ≡ w.breaks = first_one (BreaksMember owner Member a.template) v.breaks w.breaks a.first (subst (λ t. IsFirst (BreaksMember owner Member t) w.breaks) (sym template) b.first) in
       let its : BreaksFor owner b.template w.breaks v.reason = subst (λ t. BreaksFor owner t w.breaks v.reason) template (subst (λ n. BreaksFor owner a.template n v.reason) breaks a.reason_is) in
       let reason : v.reason ≡ w.reason = reason_for_one owner b.template w.breaks v.reason w.reason its b.reason_is in
@@ -180,7 +171,7 @@ module _ (owner : Owner) (Member : ℕ → Type 0) (templates : ℕ → ℕ → 
 
   few : (w : StuckWay) → IsStuckWay owner Member w → w.way ≤ length (templates w.conj w.literal)
   few w its =
-      let below = place_below (templates w.conj w.literal) (w.way - 1) its.template (template_at w its) in
+      let below = slice_get_within (templates w.conj w.literal) (w.way - 1) its.template (template_at w its) in
       let one = its.listed.from_one in
       omega (arith, below, one)
 
@@ -188,7 +179,7 @@ module _ (owner : Owner) (Member : ℕ → Type 0) (templates : ℕ → ℕ → 
   literal_passed w its conj literal count most (inl less) = inl less
   literal_passed w its conj literal count most (inr rest) = by rest.1 where
     by : ((w.literal < literal + 1) ⊎ ((w.literal ≡ literal + 1) × (w.way ≤ 0))) → ComesBefore w conj literal count
-    by (inl less) = elim (at_or_before w.literal literal less) as (λ _. ComesBefore w conj literal count) [
+    by (inl less) = elim (below_next w.literal literal less) as (λ _. ComesBefore w conj literal count) [
       | inl lower ↦ inr (rest.0, inl lower)
       | inr same ↦
           let all : w.way ≤ length (templates conj literal) = subst (λ l. w.way ≤ length (templates conj l)) same (subst (λ c. w.way ≤ length (templates c w.literal)) rest.0 (few w its)) in
@@ -224,7 +215,7 @@ module _ (owner : Owner) (Member : ℕ → Type 0) (templates : ℕ → ℕ → 
         let conj_is = at.conj_is in
         let literal_is = at.literal_is in
         let moved : slice_get (templates w.conj w.literal) (w.way - 1) ≡ slice_get (templates conj literal) number = λ i. slice_get (templates (conj_is i) (literal_is i)) (place i) in
-        some_is its.template template (sym (template_at w its) ∙ (moved ∙ there))
+        same_Some its.template template (sym (template_at w its) ∙ (moved ∙ there))
 
     falsifies_there : (w : StuckWay) → IsAt conj literal (number + 1) w → IsStuckWay owner Member w → Falsifies owner conj literal template None
     falsifies_there w at its =

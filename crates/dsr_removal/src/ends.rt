@@ -40,7 +40,7 @@ fn is_hopeless(
     Ok(!may_be_first(alloc, graph, number, constraint, nobody)?)
 }
 
-// The first such constraint.
+// The first constraint that couldn't be repaired even if its templates broke nothing.
 fn first_hopeless(
     alloc: Global,
     graph: &Graph,

@@ -11,10 +11,10 @@ ghost use Rattle.dsr_removal.specs.Taking.{AreRowsOf, AreTakenIn, AreTakenWays, 
 ghost use Rattle.dsr_update_theory.specs.Templates.{literal_at};
 
 use crate::rounds::{Placed, left_at, place_all, round_at};
-use dsr_graph::{Graph, ways};
+use dsr_graph::{Graph, Position, ways};
 use dsr_ir::{Conj, Constraint, Literal, NoMemory, Seq, Spec, TryClone};
-use dsr_placement::{Position, way};
-use dsr_plan_theory::{Choice, Row, Way};
+use dsr_placement::way;
+use dsr_plan_theory::{Choice, Row, Way, way_number};
 use std::alloc::Global;
 
 // The first template by which the literal can be made true where these are left; a test where there
@@ -36,10 +36,10 @@ fn literal_way(
     let Some(number) = way(graph, at, literal, left) else {
         return Ok(Way::Test);
     };
-    match ways(graph, at.constraint, at.conj, at.literal).get(number as usize) {
+    match ways(graph, at).get(number as usize) {
         Some(template) => {
             let template = TryClone::clone(template, alloc)?;
-            Ok(Way::By(number.saturating_add(1), template))
+            Ok(Way::By(way_number(number), template))
         }
         None => Ok(Way::Test),
     }

@@ -11,11 +11,11 @@ ghost use Rattle.dsr_plan_theory.specs.StuckSets.{AreStuckWays};
 ghost use Rattle.dsr_plan_theory.specs.Stuck.{SparesMembers};
 ghost use Rattle.dsr_removal.specs.Ways.{AreWaysBefore, IsFirstBroken, IsNoWay, IsReasonLeft, IsWayAt};
 
-use dsr_graph::{Graph, breaks, falsifies, ways};
+use dsr_graph::{Graph, Position, breaks, falsifies, ways};
 use dsr_graph_theory::Reason;
 use dsr_ir::{Conj, Constraint, NoMemory};
-use dsr_placement::{Position, is_left};
-use dsr_plan_theory::StuckWay;
+use dsr_placement::is_left;
+use dsr_plan_theory::{StuckWay, way_number};
 use std::alloc::Global;
 
 // How many templates are listed for a literal at most.
@@ -27,7 +27,7 @@ fn way_count(graph: &Graph, at: Position) -> u32
     ensures all { (owner : OwnerOf) → IsOwnerIn graph.now at.constraint owner
         → result ≡ length (ways_of graph.now at.constraint at.conj at.literal) }
 {
-    let listed = ways(graph, at.constraint, at.conj, at.literal).len();
+    let listed = ways(graph, at).len();
     listed.min(MOST_WAYS) as u32
 }
 
@@ -48,7 +48,7 @@ fn reason_left(
     if !is_left(left, other) {
         return None;
     }
-    breaks(graph, at.constraint, at.conj, at.literal, number, other)
+    breaks(graph, at, number, other)
 }
 
 // The first constraint that is left and that the template breaks, and why.
@@ -79,7 +79,7 @@ fn stuck_way(graph: &Graph, at: Position, number: u32, left: &[bool]) -> Option<
         → MatchOption result (IsNoWay owner (IsLeft left.now) at.conj at.literal (number + 1))
         (IsWayAt owner (IsLeft left.now) at.conj at.literal (number + 1)) }
 {
-    if falsifies(graph, at.constraint, at.conj, at.literal, number).is_some() {
+    if falsifies(graph, at, number).is_some() {
         return None;
     }
     let Some((breaks, reason)) = first_broken(graph, at, number, left) else {
@@ -88,13 +88,13 @@ fn stuck_way(graph: &Graph, at: Position, number: u32, left: &[bool]) -> Option<
     Some(StuckWay {
         conj: at.conj,
         literal: at.literal,
-        way: number + 1,
+        way: way_number(number),
         breaks,
         reason,
     })
 }
 
-// Puts that way behind the others.
+// Puts the way of the template with this number behind the others, where it is stuck.
 fn add_way(
     graph: &Graph,
     at: Position,

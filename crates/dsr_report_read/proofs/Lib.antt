@@ -1,5 +1,4 @@
 pub mod Ahead
-pub mod Descending
 pub mod FirstNamed
 pub mod Fronts
 pub mod HeadsBack

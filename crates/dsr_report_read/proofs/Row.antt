@@ -1,6 +1,7 @@
 -- Lines that were read one after the other.
 use Rattle.std.proofs.Common.{◌≡◌, ◌≤◌, ◌<◌, ◌+◌, ◌++◌, ◌∙◌, ℕ, zero, suc, IsTrue, List, [], ◌∷◌, None, Some, length, take, get_or, slice_get, refl, sym, ap, subst, arith, length-append}
 use Rattle.std.specs.Borrow.{Bor}
+use Rattle.std.proofs.lemmas.Option.{slice_get_within}
 use Rattle.dsr_ir.specs.declared.declarations.Spec.{Spec}
 use Rattle.dsr_report_read.proofs.FirstNamed.{none_formed}
 use Rattle.dsr_report_read.specs.Forms.{AreLines, IsFirstWrong, IsNext, IsReportOf}
@@ -42,11 +43,6 @@ take_short [] zero = omega arith
 take_short [] (suc k) = omega arith
 take_short (x ∷ xs) zero = omega arith
 take_short (x ∷ xs) (suc k) = let rest = take_short xs k in omega (arith, rest)
-
-place_less : {A : Type 0} (xs : List A) (k : ℕ) (x : A) → slice_get xs k ≡ Some x → k < length xs
-place_less [] k x is = absurd cc
-place_less (y ∷ xs) zero x is = omega arith
-place_less (y ∷ xs) (suc k) x is = let less = place_less xs k x is in omega (arith, less)
 
 take_all : {A : Type 0} (xs : List A) → take (length xs) xs ≡ xs
 take_all [] = refl
@@ -107,7 +103,7 @@ module _ (spec : Spec) (texts : List (List ℕ)) where
 
       pub wrong_here : ReadsLine spec s text None → IsFirstWrong spec texts (k + 1)
       wrong_here none =
-          let less = place_less texts k text there in
+          let less = slice_get_within texts k text there in
           let many = read.many in
           record {
             before = ls;
@@ -147,7 +143,7 @@ module _ (spec : Spec) (texts : List (List ℕ)) where
             are_lines = read.are_lines;
             texts_are = ap (λ n. take n texts) many ∙ read.texts_are;
             within = omega (arith, many);
-            wrong = λ l follows its is. let less = place_less texts (length ls) (line_text spec (state_after start ls).count l) is in absurd (omega (arith, less, many));
+            wrong = λ l follows its is. let less = slice_get_within texts (length ls) (line_text spec (state_after start ls).count l) is in absurd (omega (arith, less, many));
             unended = λ ended. absurd (other (ap (λ t. t.last) read.state_is ∙ ended));
           };
         }

@@ -1,19 +1,12 @@
 -- Values that are looked for one after the other.
-use Rattle.std.proofs.Common.{◌≡◌, ◌<◌, ◌+◌, ◌⊎◌, inl, inr, ℕ, true, false, nat_eq, List, refl, arith}
+use Rattle.std.proofs.Common.{◌≡◌, ◌<◌, ◌+◌, inl, inr, ℕ, true, false, List, arith}
 use Rattle.std.specs.Prelude.{Option, None, Some, is_some}
-use Rattle.std.proofs.lemmas.Bool.Decides.{nat_tests}
 use Rattle.dsr_ir.specs.declared.declarations.SetDecl.{SetDecl}
 use Rattle.dsr_ir.specs.declared.declarations.Structures.{Structures}
 use Rattle.dsr_meaning.specs.Counting.{IsIn}
 use Rattle.dsr_meaning.specs.Typed.{Descends}
 use Rattle.dsr_report_read.specs.Reads.{Reads}
-
-below_or_at : (m n : ℕ) → m < n + 1 → (m < n) ⊎ (m ≡ n)
-below_or_at m n less =
-    elim (nat_eq m n) as (λ b. nat_eq m n ≡ b → (m < n) ⊎ (m ≡ n)) [
-      | true ↦ λ e. inr (grind (arith, nat_tests))
-      | false ↦ λ e. inl (grind (arith, nat_tests))
-    ] refl
+use Rattle.dsr_meaning.proofs.Numbers.{below_next}
 
 -- none with a lower number has this text
 abbrev pub NoneBefore : {T : Type 0} → (T → Type 0) → (T → ℕ) → (T → List ℕ) → List ℕ → ℕ → Type 0
@@ -26,7 +19,7 @@ module _ {T : Type 0} (Such : T → Type 0) (key : T → ℕ) (shown : T → Lis
   -- nor has the next one
   pub none_next : (k : ℕ) → NoneBefore Such key shown text k → ((x : T) → Such x → key x ≡ k → text ≡ shown x → ⊥) → NoneBefore Such key shown text (k + 1)
   none_next k before here x such low is =
-      elim (below_or_at (key x) k low) as (λ _. ⊥) [ inl less ↦ before x such less is | inr same ↦ here x such same is ]
+      elim (below_next (key x) k low) as (λ _. ⊥) [ inl less ↦ before x such less is | inr same ↦ here x such same is ]
 
   pub none_left : (n : ℕ) → NoneBefore Such key shown text n → ((x : T) → Such x → key x < n) → (x : T) → Such x → text ≡ shown x → ⊥
   none_left n before low x such is = before x such (low x such) is

@@ -5,33 +5,10 @@ use Rattle.std.proofs.lemmas.Bool.Decides.{nat_tests}
 use Rattle.dsr_ir.specs.declared.declarations.SetDecl.{SetDecl}
 use Rattle.dsr_ir.specs.declared.declarations.Structures.{Structures}
 use Rattle.dsr_meaning.specs.Counting.{IsIn}
-use Rattle.dsr_meaning.specs.Lists.{any_of}
 use Rattle.dsr_meaning.specs.Typed.{Descends, pool_at}
 use Rattle.dsr_report_read.proofs.Sought.{NoneViewed}
 use Rattle.dsr_report_read.specs.Forms.{IsOfPool, IsTop, of_head, of_pool, of_set}
 use Rattle.dsr_report_read.specs.Reads.{IsOwn, IsViewed}
-
-any_in : (a : ℕ) (xs : List ℕ) → any_of (nat_eq a) xs ≡ true → IsIn a xs
-any_in a [] e = absurd cc
-any_in a (x ∷ xs) e =
-    elim (nat_eq a x) as (λ b. nat_eq a x ≡ b → (b || any_of (nat_eq a) xs) ≡ true → (a ≡ x) ⊎ IsIn a xs) [
-      | true ↦ λ same e. inl (grind (arith, nat_tests))
-      | false ↦ λ other e. inr (any_in a xs e)
-    ] refl e
-
-in_any : (a : ℕ) (xs : List ℕ) → IsIn a xs → any_of (nat_eq a) xs ≡ true
-in_any a [] is = absurd is
-in_any a (x ∷ xs) (inl same) =
-    let e : nat_eq a x ≡ true = grind (arith, nat_tests) in
-    ap (λ b. b || any_of (nat_eq a) xs) e
-in_any a (x ∷ xs) (inr there) =
-    elim (nat_eq a x) as (λ b. (b || any_of (nat_eq a) xs) ≡ true) [
-      | true ↦ refl
-      | false ↦ in_any a xs there
-    ]
-
-pub in_line : (a : ℕ) (xs : List ℕ) (b : Bool) → b ≡ any_of (nat_eq a) xs → Decides b (IsIn a xs)
-in_line a xs b is = (λ t. any_in a xs (sym is ∙ t), λ there. is ∙ in_any a xs there)
 
 pub in_got : {A : Type 0} (xs : List A) (i : ℕ) (x : A) → i < length xs → x ≡ get_or xs i x → IsIn x xs
 in_got [] i x less is = absurd (omega (arith, less))

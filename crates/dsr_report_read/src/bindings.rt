@@ -1,12 +1,13 @@
 // Records and bindings at the front of a text.
 ghost use Rattle.std.specs.Prelude.{◌≡◌};
 ghost use Rattle.dsr_ir.specs.declared.constraints.Var.TheVariants.{First, Second};
-ghost use Rattle.dsr_meaning.specs.Typed.{pool_of_var};
+ghost use Rattle.dsr_meaning.specs.Typed as typed;
 ghost use Rattle.dsr_report_read.specs.Lenient as said;
 
 use crate::numbers::{narrow, number_ahead, skip};
 use dsr_answers::pool_name;
-use dsr_ir::{Binding, Element, Quant, Spec};
+use dsr_ir::{Binding, Element, Quant, Spec, Var};
+use dsr_schema::pool_of_var;
 
 /// The record of this pool at the front, and what stands behind it.
 pub fn element<'a>(spec: &Spec, pool: u32, text: &'a [u8]) -> (Element, &'a [u8])
@@ -26,24 +27,16 @@ pub fn element<'a>(spec: &Spec, pool: u32, text: &'a [u8]) -> (Element, &'a [u8]
 
 /// The pool of the first record that is bound.
 pub fn first_pool(spec: &Spec, quant: Quant) -> Option<u32>
-    ensures { result ≡ pool_of_var spec.now.base quant First }
+    ensures { result ≡ typed.pool_of_var spec.now.base quant First }
 {
-    match quant {
-        Quant::Once => None,
-        Quant::Each(set) => Some(spec.base.sets.items().get(set as usize)?.pool),
-        Quant::Pairs(rel) => Some(spec.base.rels.items().get(rel as usize)?.source),
-    }
+    pool_of_var(&spec.base, &quant, Var::First)
 }
 
-/// The pool of the second one.
+/// The pool of the second record that is bound.
 pub fn second_pool(spec: &Spec, quant: Quant) -> Option<u32>
-    ensures { result ≡ pool_of_var spec.now.base quant Second }
+    ensures { result ≡ typed.pool_of_var spec.now.base quant Second }
 {
-    match quant {
-        Quant::Once => None,
-        Quant::Each(_) => None,
-        Quant::Pairs(rel) => spec.base.rels.items().get(rel as usize)?.target,
-    }
+    pool_of_var(&spec.base, &quant, Var::Second)
 }
 
 /// The binding at the front, and what stands behind it.

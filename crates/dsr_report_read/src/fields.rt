@@ -1,42 +1,12 @@
 // The fields of a pool's records.
-ghost use Rattle.std.specs.Prelude.{◌≡◌, Decides, option_and_then, option_map, slice_get};
-ghost use Rattle.dsr_meaning.specs.Typed.{AreTyped, Descends, HasName};
+ghost use Rattle.std.specs.Prelude.{◌≡◌, Decides, option_map};
+ghost use Rattle.dsr_meaning.specs.Typed.{AreTyped, HasName};
 ghost use Rattle.dsr_meaning.specs.Typed as typed;
 ghost use Rattle.dsr_report_read.specs.Forms.{IsOfPool};
-ghost use Rattle.dsr_update_theory.specs.Changes as said;
 ghost use Rattle.dsr_report_read.specs.Reads.{IsOwn, IsViewed};
 
-use dsr_ir::{Field, Kind, Structure, Structures};
-
-// The structure's parent.
-fn parent(structures: &[Structure], structure: u32) -> Option<u32>
-    ensures { result ≡ option_and_then (λ s. s.parent) (slice_get structures.now structure) }
-{
-    structures.get(structure as usize)?.parent
-}
-
-// Whether the other one stands among the structure and its ancestors.
-fn has_in_line(base: &Structures, structure: u32, other: u32) -> bool
-    requires typed { AreTyped base.now }
-    ensures { result ≡ said.descends base.now.structures structure other }
-{
-    let mut next = Some(structure);
-    while let Some(current) = next {
-        if current == other {
-            return true;
-        }
-        next = parent(base.structures.items(), current);
-    }
-    false
-}
-
-// Whether the structure is the other one or descends from it.
-fn descends(base: &Structures, structure: u32, other: u32) -> bool
-    requires typed { AreTyped base.now }
-    ensures { Decides result (Descends base.now.structures structure other) }
-{
-    has_in_line(base, structure, other)
-}
+use dsr_ir::{Field, Kind, Structures};
+use dsr_schema::{descends, pool_at};
 
 // Whether records of the pool are read by a set's structure that is the other one or descends from
 // it.
@@ -56,10 +26,7 @@ fn is_viewed(base: &Structures, pool: u32, structure: u32) -> bool
 fn pool_structure(base: &Structures, pool: u32) -> Option<u32>
     ensures { result ≡ option_map (λ p. p.structure) (typed.pool_at base.now pool) }
 {
-    if pool == 0 {
-        return None;
-    }
-    match base.pools.items().get(pool as usize - 1) {
+    match pool_at(base, pool) {
         Some(pool) => Some(pool.structure),
         None => None,
     }
@@ -87,7 +54,7 @@ pub fn is_of_pool(base: &Structures, pool: u32, structure: u32) -> bool
     is_own(base, pool, structure) || is_viewed(base, pool, structure)
 }
 
-/// Whether it is no gap.
+/// Whether the field has a name, and so is no gap.
 pub fn has_name(field: &Field) -> bool
     ensures { Decides result (HasName field.now) }
 {

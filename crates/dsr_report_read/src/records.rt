@@ -14,7 +14,7 @@ use dsr_ir::{Element, NoMemory, Spec};
 use dsr_repair_theory::ByteChange;
 use std::alloc::Global;
 
-/// Whether it is the head, or a slot of a declared pool.
+/// Whether the element is the head, or a slot of a declared pool.
 pub fn is_record(spec: &Spec, elem: Element) -> bool
     ensures { Decides result (IsRecord spec.now elem) }
 {

@@ -1,5 +1,5 @@
 // What the graph tells of a constraint.
-use dsr_graph::{Graph, breaks, falsifies, relies, ways};
+use dsr_graph::{Graph, Position, breaks, falsifies, relies, ways};
 use dsr_graph_theory::Reason;
 use dsr_ir::{Constraint, Name, Spec, Symbol};
 use dsr_test_text::Lines;
@@ -41,16 +41,8 @@ fn narrow(number: usize) -> u32 {
     u32::try_from(number).unwrap_or(u32::MAX)
 }
 
-// A literal by its numbers.
-#[derive(Clone, Copy)]
-struct Place {
-    constraint: u32,
-    conj: u32,
-    literal: u32,
-}
-
-fn add_broken(lines: &mut Lines, spec: &Spec, graph: &Graph, at: Place, way: u32, other: u32) {
-    if let Some(reason) = breaks(graph, at.constraint, at.conj, at.literal, way, other) {
+fn add_broken(lines: &mut Lines, spec: &Spec, graph: &Graph, at: Position, way: u32, other: u32) {
+    if let Some(reason) = breaks(graph, at, way, other) {
         lines.word("      breaks ");
         add_name(lines, spec, other);
         add_reason(lines, spec, reason);
@@ -58,11 +50,11 @@ fn add_broken(lines: &mut Lines, spec: &Spec, graph: &Graph, at: Place, way: u32
     }
 }
 
-fn add_way(lines: &mut Lines, spec: &Spec, graph: &Graph, at: Place, way: u32) {
+fn add_way(lines: &mut Lines, spec: &Spec, graph: &Graph, at: Position, way: u32) {
     lines.part("    way ", u64::from(at.conj) + 1);
     lines.part(".", u64::from(at.literal) + 1);
     lines.part(".", u64::from(way) + 1);
-    if let Some(other) = falsifies(graph, at.constraint, at.conj, at.literal, way) {
+    if let Some(other) = falsifies(graph, at, way) {
         lines.part(" falsifies ", u64::from(other) + 1);
     }
     lines.word("\n");
@@ -71,8 +63,8 @@ fn add_way(lines: &mut Lines, spec: &Spec, graph: &Graph, at: Place, way: u32) {
     }
 }
 
-fn add_literal(lines: &mut Lines, spec: &Spec, graph: &Graph, at: Place) {
-    for way in 0..ways(graph, at.constraint, at.conj, at.literal).len() {
+fn add_literal(lines: &mut Lines, spec: &Spec, graph: &Graph, at: Position) {
+    for way in 0..ways(graph, at).len() {
         add_way(lines, spec, graph, at, narrow(way));
     }
 }
@@ -86,7 +78,7 @@ fn add_conj(
     literals: usize,
 ) {
     for literal in 0..literals {
-        let at = Place {
+        let at = Position {
             constraint,
             conj,
             literal: narrow(literal),

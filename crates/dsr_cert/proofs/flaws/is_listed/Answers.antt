@@ -13,7 +13,8 @@ returns-in-Some c = λ owner in_graph.
     let k = c.args.number - 1 in
     let listed = c.in-Some.listed.now in
     let found = c.in-Some.ensures.lookup in
-    let there = subst (λ xs. slice_get xs k ≡ Some listed) c.ways.ensures.ways (item_at c.ways.result.now k listed found.3.0 found.1) in
+    let placed = item_at c.ways.result.now c.way_place.result listed found.3.0 found.1 in
+    let there = subst (λ xs. slice_get xs k ≡ Some listed) c.ways.ensures.ways (subst (λ j. slice_get c.ways.result.now j ≡ Some listed) c.way_place.ensures placed) in
     let test = c.if-number-eq0.false in
     let some : 1 ≤ c.args.number = grind (arith, nat_tests) in
     listed_if c.args.graph.now c.args.at.constraint owner in_graph c.args.at.conj c.args.at.literal c.args.number c.args.template.now listed there some c.eq.result
@@ -22,7 +23,7 @@ returns-in-Some c = λ owner in_graph.
 pub returns-in-None : goal.returns-in-None
 returns-in-None c = λ owner in_graph.
     let k = c.args.number - 1 in
-    let none = item_beyond c.ways.result.now k c.in-None.ensures.lookup.3 in (
+    let none = subst (λ j. slice_get c.ways.result.now j ≡ None) c.way_place.ensures (item_beyond c.ways.result.now c.way_place.result c.in-None.ensures.lookup.3) in (
       λ e. absurd (false≢true e),
       λ its. absurd (never_at c.args.graph.now c.args.at.constraint owner in_graph c.args.at.conj c.args.at.literal c.args.number c.args.template.now (subst (λ xs. slice_get xs k ≡ None) c.ways.ensures.ways none) its),
     )

@@ -31,9 +31,9 @@ quotient value limit positive =
 pub returns-then-bits-ge64 : goal.returns-then-bits-ge64
 returns-then-bits-ge64 c =
     wide _ _ c.if-bits-ge64.true c.ranges.number.fits
-    ∙ ap (λ b. nat_lt c.args.number (2 ^ b)) c.width_bits-bits.ensures
+    ∙ ap (λ b. nat_lt c.args.number (2 ^ b)) c.width_bits-bits.ensures.value
 
 pub returns-else-bits-ge64 : goal.returns-else-bits-ge64
 returns-else-bits-ge64 c =
     quotient _ _ (pow_pos c.width_bits-bits.result)
-    ∙ ap (λ b. nat_lt c.args.number (2 ^ b)) c.width_bits-bits.ensures
+    ∙ ap (λ b. nat_lt c.args.number (2 ^ b)) c.width_bits-bits.ensures.value

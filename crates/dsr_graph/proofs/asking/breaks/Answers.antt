@@ -9,5 +9,5 @@ returns c =
     record {
       told = c.broken_in.ensures;
       breaks = λ owner template its way here. subst (Breaks owner (owner_at owner.spec c.args.other its) template) (sym c.broken_in.ensures)
-          (breaks_told c.args.graph.now c.args.constraint owner way.owner_in c.args.conj c.args.literal c.args.way template way.template_is c.args.other its here);
+          (breaks_told c.args.graph.now c.args.at.constraint owner way.owner_in c.args.at.conj c.args.at.literal c.args.way template way.template_is c.args.other its here);
     }

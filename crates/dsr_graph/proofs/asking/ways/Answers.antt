@@ -9,6 +9,6 @@ returns c =
     let told = c.templates.ensures ∙ ap templates_of c.listing_in.ensures in
     record {
       ways = told;
-      listed = λ owner in_graph. subst (AreListedOf owner c.args.conj c.args.literal) (sym told) (ways_listed c.args.graph.now c.args.constraint owner in_graph c.args.conj c.args.literal);
-      only = λ owner ts in_graph listed. ways_only c.args.graph.now c.args.constraint owner in_graph c.args.conj c.args.literal ts listed ∙ sym told;
+      listed = λ owner in_graph. subst (AreListedOf owner c.args.at.conj c.args.at.literal) (sym told) (ways_listed c.args.graph.now c.args.at.constraint owner in_graph c.args.at.conj c.args.at.literal);
+      only = λ owner ts in_graph listed. ways_only c.args.graph.now c.args.at.constraint owner in_graph c.args.at.conj c.args.at.literal ts listed ∙ sym told;
     }

@@ -1,7 +1,8 @@
 use Rattle.std.proofs.Common.{length, ap, arith}
-use Rattle.dsr_graph.proofs.Paired.{item_there, paired_all, paired_step}
+use Rattle.dsr_graph.proofs.Paired.{paired_all, paired_step}
 use Rattle.dsr_graph.specs.Asking.{AreFactsAt}
 use Rattle.dsr_graph.proofs.building.all_facts.Goals as goal
+use Rattle.dsr_meaning.proofs.Items.{item_there}
 
 pub loop-number-preserved : goal.loop-number-preserved
 loop-number-preserved c =

@@ -1,9 +1,10 @@
 use Rattle.std.proofs.Common.{refl, sym, ◌∙◌, arith}
 use Rattle.std.proofs.lemmas.Bool.{false≢true}
-use Rattle.dsr_placement.proofs.Left.{item_there, left_below, none_more}
+use Rattle.dsr_placement.proofs.Left.{left_below, none_more}
 use Rattle.dsr_placement.specs.Placing.{IsLeft, ReliesLeft}
 use Rattle.dsr_plan_theory.specs.Plans.{owner_at}
 use Rattle.dsr_placement.proofs.placing.is_relied_on.Goals as goal
+use Rattle.dsr_meaning.proofs.Items.{item_there}
 
 pub returns-then-relies_left : goal.returns-then-relies_left
 returns-then-relies_left c = λ owner in_graph many.

@@ -1,10 +1,10 @@
 use Rattle.std.proofs.Common.{length, sym, ap, ◌∙◌, arith}
 use Rattle.std.proofs.lemmas.Bool.{false≢true}
+use Rattle.std.proofs.lemmas.Option.{slice_get_within}
 use Rattle.dsr_graph.specs.Graphs.{ways_of}
 use Rattle.dsr_placement.proofs.Counted.{few_ways}
 use Rattle.dsr_placement.proofs.Left.{none_more}
 use Rattle.dsr_placement.specs.Placing.{IsLeft, IsUsableWay}
-use Rattle.dsr_compensate.proofs.Standing.{place_below}
 use Rattle.dsr_placement.proofs.sparing.first_usable.Goals as goal
 
 pub returns-then-is_usable_below : goal.returns-then-is_usable_below
@@ -23,5 +23,5 @@ pub returns : goal.returns
 returns c = λ owner in_graph many has.
     let past = c.loop-way-test.false in
     let few = few_ways c.args.graph.now c.args.at.constraint owner in_graph c.args.at.conj c.args.at.literal in
-    let below = place_below (ways_of c.args.graph.now c.args.at.constraint c.args.at.conj c.args.at.literal) has.0 has.1.template has.1.is_way.template_is in
+    let below = slice_get_within (ways_of c.args.graph.now c.args.at.constraint c.args.at.conj c.args.at.literal) has.0 has.1.template has.1.is_way.template_is in
     c.loop-way.invariant owner in_graph many has.0 (omega (arith, past, few, below)) has.1

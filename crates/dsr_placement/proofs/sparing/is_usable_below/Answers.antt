@@ -1,7 +1,7 @@
 use Rattle.std.proofs.Common.{arith}
 use Rattle.dsr_graph.specs.Graphs.{ways_of}
-use Rattle.dsr_placement.proofs.Left.{item_there}
 use Rattle.dsr_placement.proofs.sparing.is_usable_below.Goals as goal
+use Rattle.dsr_meaning.proofs.Items.{item_there}
 
 pub returns : goal.returns
 returns c = λ owner in_graph many count_is.

@@ -1,9 +1,9 @@
 use Rattle.std.proofs.Common.{refl, sym, ◌∙◌, arith}
 use Rattle.std.proofs.lemmas.Bool.{false≢true}
 use Rattle.dsr_compensate.proofs.Each.{each_ends, each_more}
-use Rattle.dsr_placement.proofs.Left.{item_there}
 use Rattle.dsr_placement.specs.Placing.{BreaksLeft, IsLeft}
 use Rattle.dsr_placement.proofs.sparing.spares.Goals as goal
+use Rattle.dsr_meaning.proofs.Items.{item_there}
 
 pub returns-then-breaks_left : goal.returns-then-breaks_left
 returns-then-breaks_left c = λ owner template way many.

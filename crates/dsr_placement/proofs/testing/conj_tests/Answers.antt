@@ -1,12 +1,12 @@
 use Rattle.std.proofs.Common.{◌≡◌, ◌↔◌, IsTrue, false, length, not, slice_get, sym, ap, subst, ◌∙◌, arith}
 use Rattle.std.proofs.Math.Bool.{not-not}
 use Rattle.std.specs.Prelude.{option_and_then}
+use Rattle.std.proofs.lemmas.Option.{slice_get_within, slice_get-get_or}
 use Rattle.dsr_compensate.proofs.Each.{length_more}
 use Rattle.dsr_placement.specs.Atoms.{mark_at}
 use Rattle.dsr_placement.proofs.Marks.{each_index, mark_if}
 use Rattle.dsr_placement.specs.Placing.{IsLeft}
 use Rattle.dsr_plan_theory.specs.Stuck.{MustTest}
-use Rattle.dsr_compensate.proofs.Standing.{item_got, place_below}
 use Rattle.dsr_placement.proofs.testing.conj_tests.Goals as goal
 
 pub loop-place-preserved : goal.loop-place-preserved
@@ -15,7 +15,7 @@ loop-place-preserved c =
     let place = c.loop-place.place in
     let many_marks : length marks ≡ place = c.loop-place.invariant.0 in
     let literals = c.args.conj.now.literals in
-    let here = sym (ap (λ xs. slice_get xs place) c.items-literal-items.ensures) ∙ item_got c.items-literal-items.result.now place _ c.loop-place-test.true in
+    let here = sym (ap (λ xs. slice_get xs place) c.items-literal-items.ensures) ∙ slice_get-get_or c.items-literal-items.result.now place _ c.loop-place-test.true in
     let pushed = c.in_ok-push.ensures.items in
     let longer = ap length pushed in
     let more = length_more marks c.is_none.result in (
@@ -36,12 +36,12 @@ pub returns : goal.returns
 returns c = λ owner in_graph many conj_is n literal there.
     let past = c.loop-place-test.false in
     let long = ap length c.items-literal-items.ensures in
-    let below = place_below c.args.conj.now.literals n literal there in
+    let below = slice_get_within c.args.conj.now.literals n literal there in
     c.loop-place.invariant.1 owner in_graph many conj_is n literal (omega (arith, past, long, below)) there
 
 pub way-requires-clause-there : goal.way-requires-clause-there
 way-requires-clause-there c =
     let place = c.loop-place.place in
-    let here = sym (ap (λ xs. slice_get xs place) c.items-literal-items.ensures) ∙ item_got c.items-literal-items.result.now place _ c.loop-place-test.true in
+    let here = sym (ap (λ xs. slice_get xs place) c.items-literal-items.ensures) ∙ slice_get-get_or c.items-literal-items.result.now place _ c.loop-place-test.true in
     let its = c.requires.there in
     record { its = its.its; in_graph = its.in_graph; literal_is = ap (option_and_then (λ l. slice_get l.literals place)) its.conj_is ∙ here }

@@ -1,9 +1,9 @@
 use Rattle.std.proofs.Common.{◌≡◌, [], Some, length, slice_get, sym, ap, subst, ◌∙◌, arith}
+use Rattle.std.proofs.lemmas.Option.{slice_get_within}
 use Rattle.dsr_compensate.proofs.Each.{item_at, length_more}
 use Rattle.dsr_placement.specs.Atoms.{row_at}
 use Rattle.dsr_placement.proofs.Marks.{each_index, parts_of}
 use Rattle.dsr_placement.specs.Placing.{AreTestsIn, IsLeft}
-use Rattle.dsr_compensate.proofs.Standing.{place_below}
 use Rattle.dsr_placement.proofs.testing.tests.Goals as goal
 
 pub loop-place-preserved : goal.loop-place-preserved
@@ -33,7 +33,7 @@ returns c = λ owner in_graph many same conj n literal literal_is.
     let there : slice_get c.args.constraint.now.conjs conj ≡ Some parts.0 = sym (ap (λ x. slice_get x.conjs conj) same) ∙ parts.1 in
     let past = c.loop-place-test.false in
     let long = ap length c.items-conj-items.ensures in
-    let below = place_below c.args.constraint.now.conjs conj parts.0 there in
+    let below = slice_get_within c.args.constraint.now.conjs conj parts.0 there in
     c.loop-place.invariant.1 owner in_graph many same conj parts.0 (omega (arith, past, long, below)) there n literal parts.2
 
 pub conj_tests-requires-clause-there : goal.conj_tests-requires-clause-there

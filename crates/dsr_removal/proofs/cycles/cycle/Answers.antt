@@ -1,11 +1,11 @@
 use Rattle.std.proofs.Common.{◌≡◌, ◌++◌, [], ◌∷◌, Some, length, drop, slice_get, sym, ap, subst, ◌∙◌, arith}
 use Rattle.std.proofs.lemmas.Result.{IfOk-weaker}
+use Rattle.std.proofs.lemmas.Option.{slice_get_within}
 use Rattle.dsr_compensate.proofs.Each.{length_more}
 use Rattle.dsr_meaning.specs.Counting.{IsIn}
 use Rattle.dsr_plan_theory.specs.StuckSets.{IsCycle}
 use Rattle.dsr_removal.proofs.Walks.{closes, first_number, found_some, found_there, walk_short, walk_starts, walks_on}
 use Rattle.dsr_removal.specs.Members.{IsWalk, WaitsAmong}
-use Rattle.dsr_compensate.proofs.Standing.{place_below}
 use Rattle.dsr_removal.proofs.cycles.cycle.Goals as goal
 
 pub loop-place-init : goal.loop-place-init
@@ -37,7 +37,7 @@ unwrap-at-requires c = found_some (WaitsAmong c.args.members.now c.loop-place.at
 pub closed-requires : goal.closed-requires
 closed-requires c =
     let there = subst (λ xs. slice_get xs c.in-Some.place ≡ Some c.loop-place.at) c.deref.ensures.value c.in-Some.ensures in
-    let below = place_below c.loop-place.path.items c.in-Some.place c.loop-place.at there in
+    let below = slice_get_within c.loop-place.path.items c.in-Some.place c.loop-place.at there in
     rw c.deref-in-Some.ensures.value (omega (arith, below))
 
 pub returns-in-Some : goal.returns-in-Some

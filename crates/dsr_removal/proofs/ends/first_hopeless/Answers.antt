@@ -2,12 +2,12 @@ use Rattle.std.proofs.Common.{◌≡◌, false, Some, length, replicate, slice_g
 use Rattle.std.proofs.lemmas.Bool.{false≢true}
 use Rattle.std.proofs.lemmas.Grind.{common_steps}
 use Rattle.std.proofs.lemmas.List.{length-replicate}
+use Rattle.std.proofs.lemmas.Option.{slice_get_within}
 use Rattle.dsr_compensate.proofs.Each.{item_at}
 use Rattle.dsr_graph.specs.Graphs.{owner_at}
 use Rattle.dsr_placement.proofs.Left.{none_more}
 use Rattle.dsr_placement.specs.Placing.{IsLeft}
 use Rattle.dsr_plan_theory.specs.StuckSets.{IsHopeless}
-use Rattle.dsr_compensate.proofs.Standing.{place_below}
 use Rattle.dsr_removal.proofs.ends.first_hopeless.Goals as goal
 
 pub returns-then-branch : goal.returns-then-branch
@@ -36,7 +36,7 @@ pub returns : goal.returns
 returns c = λ m its.
     let past = c.loop-number-test.false in
     let long = ap length c.items-constraint-items.ensures in
-    let below = place_below c.args.spec.now.constraints m its.constraint its.constraint_is in
+    let below = slice_get_within c.args.spec.now.constraints m its.constraint its.constraint_is in
     c.loop-number.invariant m (omega (arith, past, long, below)) its
 
 pub is_hopeless-requires-clause-there : goal.is_hopeless-requires-clause-there

@@ -1,11 +1,11 @@
 use Rattle.std.proofs.Common.{refl, sym, ◌∙◌, arith}
 use Rattle.std.proofs.lemmas.Bool.{false≢true}
-use Rattle.dsr_graph.proofs.Paired.{item_there}
 use Rattle.dsr_placement.proofs.Left.{left_below, none_more}
 use Rattle.dsr_placement.specs.Placing.{IsLeft}
 use Rattle.dsr_plan_theory.specs.Plans.{owner_at}
 use Rattle.dsr_plan_theory.specs.StuckSets.{MemberRelies}
 use Rattle.dsr_removal.proofs.members.relied_by.Goals as goal
+use Rattle.dsr_meaning.proofs.Items.{item_there}
 
 pub returns-then-relies_left : goal.returns-then-relies_left
 returns-then-relies_left c = λ owner in_graph many.

@@ -14,9 +14,9 @@ returns-in_ok-template-in-Some-get c = λ owner in_graph many literal_is.
     let long = ap length c.ways.ensures.ways in
     let few = few_ways c.args.graph.now c.args.at.constraint owner in_graph c.args.at.conj c.args.at.literal in
     let small : n + 1 ≤ 4294967295 = omega (arith, below, long, few) in
-    let next : c.saturating_add.result ≡ n + 1 = c.saturating_add.ensures ∙ min-eq_left small in
+    let next : c.way_number.result ≡ n + 1 = c.way_number.ensures ∙ min-eq_left small in
     let there = subst (λ xs. slice_get xs n ≡ Some c.in-Some-get.template.now) c.ways.ensures.ways (item_at c.ways.result.now n c.in-Some-get.template.now below found.1) in
-    first_for c.args.graph.now c.args.at owner in_graph (IsLeft c.args.left.now) c.args.literal.now n c.saturating_add.result c.in_ok-template-in-Some-get.template
+    first_for c.args.graph.now c.args.at owner in_graph (IsLeft c.args.left.now) c.args.literal.now n c.way_number.result c.in_ok-template-in-Some-get.template
     (c.in-Some.ensures owner in_graph many literal_is) next (there ∙ sym (ap Some c.in_ok-template-in-Some-get.ensures))
 
 pub returns-in-None : goal.returns-in-None

@@ -1,10 +1,10 @@
 use Rattle.std.proofs.Common.{arith}
 use Rattle.dsr_graph.proofs.Found.{ways_only}
-use Rattle.dsr_graph.proofs.Paired.{item_there}
 use Rattle.dsr_graph.specs.Graphs.{ways_of}
 use Rattle.dsr_placement.specs.Placing.{IsLeft}
 use Rattle.dsr_removal.proofs.StuckWays.{next_literal}
 use Rattle.dsr_removal.proofs.ways.add_literal_ways.Goals as goal
+use Rattle.dsr_meaning.proofs.Items.{item_there}
 
 pub loop-number-preserved : goal.loop-number-preserved
 loop-number-preserved c = λ owner in_graph many before.

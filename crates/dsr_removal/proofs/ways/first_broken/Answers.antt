@@ -1,9 +1,9 @@
 use Rattle.std.proofs.Common.{arith}
 use Rattle.dsr_compensate.proofs.Each.{each_more}
-use Rattle.dsr_graph.proofs.Paired.{item_there}
 use Rattle.dsr_placement.specs.Placing.{BreaksLeft, IsLeft}
 use Rattle.dsr_removal.proofs.Breaking.{first_here, spares_all}
 use Rattle.dsr_removal.proofs.ways.first_broken.Goals as goal
+use Rattle.dsr_meaning.proofs.Items.{item_there}
 
 pub returns-in-Some : goal.returns-in-Some
 returns-in-Some c = λ owner template way many.

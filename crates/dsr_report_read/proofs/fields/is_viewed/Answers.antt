@@ -13,7 +13,7 @@ returns-then-descends c =
         set = set;
         is_in = in_got c.args.base.now.sets i set (subst (λ xs. i < length xs) same c.loop-set-test.true) (subst (λ xs. set ≡ get_or xs i set) same c.set-item.is);
         of_pool = c.if-set-pool.true;
-        descends = c.if-descends.ensures.0 refl;
+        descends = c.if-descends.ensures.descends.0 refl;
       },
       λ _. refl,
     )
@@ -25,7 +25,7 @@ loop-set-preserved c =
     let set = c.set-item.result in
     one_viewed c.args.base.now c.args.pool c.args.structure c.args.base.now.sets i set (subst (λ xs. i < length xs) same c.loop-set-test.true) (subst (λ xs. set ≡ get_or xs i set) same c.set-item.is) c.loop-set.invariant
     (elim c.else-set-pool.branch [
-      | else-set-pool-via-then-set-pool+else-descends w ↦ λ of_pool descends. refused w.if-descends.ensures descends
+      | else-set-pool-via-then-set-pool+else-descends w ↦ λ of_pool descends. refused w.if-descends.ensures.descends descends
       | else-set-pool-via-else-set-pool w ↦ λ of_pool descends. w.if-set-pool.false of_pool
     ])
 

@@ -15,7 +15,7 @@ returns c =
     let at = c.args.at in
     let way = c.in-Some.ensures.way in
     let owner = owner_at spec at.constraint way.constraint in
-    let its = subst (λ k. IsWayOf graph at.constraint at.conj at.literal k owner way.template) (ap (λ k. k - 1) c.in-Some.ensures.number_is ∙ sym c.saturating_sub-way.ensures) (way_of spec choice at.constraint at.conj at.literal graph c.requires.graph c.requires.listed way) in
+    let its = subst (λ k. IsWayOf graph at.constraint at.conj at.literal k owner way.template) (ap (λ k. k - 1) c.in-Some.ensures.number_is ∙ sym c.way_place-way.ensures) (way_of spec choice at.constraint at.conj at.literal graph c.requires.graph c.requires.listed way) in
     let above = c.is_not_above.ensures.0 c.if-not-is_not_above.false in
     let other = paired_back (λ k constraint row. FitsRow constraint row) spec.constraints choice.rows c.args.other above.row c.requires.fits above.row_is in
     subst (λ b. Decides b (IsBreaking spec choice at.constraint at.conj at.literal c.args.other)) (sym c.is_some.ensures)

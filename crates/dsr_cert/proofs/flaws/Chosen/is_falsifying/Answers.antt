@@ -13,6 +13,6 @@ returns c =
     let at = c.args.at in
     let way = c.in-Some.ensures.way in
     let owner = owner_at spec at.constraint way.constraint in
-    let its = subst (λ k. IsWayOf graph at.constraint at.conj at.literal k owner way.template) (ap (λ k. k - 1) c.in-Some.ensures.number_is ∙ sym c.saturating_sub-way.ensures) (way_of spec choice at.constraint at.conj at.literal graph c.requires.graph c.requires.listed way) in
+    let its = subst (λ k. IsWayOf graph at.constraint at.conj at.literal k owner way.template) (ap (λ k. k - 1) c.in-Some.ensures.number_is ∙ sym c.way_place-way.ensures) (way_of spec choice at.constraint at.conj at.literal graph c.requires.graph c.requires.listed way) in
     subst (λ b. Decides b (IsFalsifying spec choice at.constraint at.conj at.literal)) (sym c.is_some.ensures)
     (falsifying_if spec choice at.constraint at.conj at.literal way c.falsifies.result (c.falsifies.ensures.falsifies owner way.template its))

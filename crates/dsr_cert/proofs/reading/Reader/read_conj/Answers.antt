@@ -10,12 +10,13 @@ use Rattle.dsr_cert.specs.Parts.{AtOwner, IsPart, NoneWrong, Stands, texts_of}
 use Rattle.dsr_ir.specs.declared.constraints.Atom.TheVariants as atoms
 use Rattle.dsr_ir.specs.declared.constraints.Literal.{Literal}
 use Rattle.dsr_ir.specs.declared.constraints.Var.TheVariants as vars
-use Rattle.dsr_graph.proofs.Paired.{item_there, paired_none, paired_step}
+use Rattle.dsr_graph.proofs.Paired.{paired_none, paired_step}
 use Rattle.dsr_plan_theory.specs.Plans.{owner_at}
 use Rattle.dsr_compensate.proofs.Later.{take_whole}
 use Rattle.dsr_graph.specs.Paired.{ArePaired}
 use Rattle.dsr_meaning.specs.Lists.{each_at}
 use Rattle.dsr_cert.proofs.reading.Reader.read_conj.Goals as goal
+use Rattle.dsr_meaning.proofs.Items.{item_there}
 
 pub overflow_add-line : goal.overflow_add-line
 overflow_add-line c =

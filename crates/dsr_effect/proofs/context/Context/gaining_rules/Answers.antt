@@ -1,11 +1,13 @@
 use Rattle.std.proofs.Common.{◌≡◌, ◌↔◌, IsTrue, Some, arith, length, slice_get, subst, sym, ap, ◌∙◌}
 use Rattle.std.proofs.lemmas.List.{length-set}
-use Rattle.dsr_effect.proofs.Gaining.{item_at, mark_more, place_below}
+use Rattle.std.proofs.lemmas.Option.{slice_get_within}
+use Rattle.dsr_effect.proofs.Gaining.{mark_more}
 use Rattle.dsr_effect.proofs.ListItems.{next_in}
 use Rattle.dsr_effect.specs.Contexts.{change_in}
 use Rattle.dsr_effect.specs.Told.{ChangesAtW}
 use Rattle.dsr_update_theory.specs.declared.effects.Direction.TheVariants.{Gain}
 use Rattle.dsr_effect.proofs.context.Context.gaining_rules.Goals as goal
+use Rattle.dsr_layout.proofs.Items.{item_at}
 
 pub gains_at_w-requires-clause-among : goal.gains_at_w-requires-clause-among
 gains_at_w-requires-clause-among c =
@@ -30,6 +32,6 @@ loop-number-preserved c =
 pub returns : goal.returns
 returns c = λ number rule there.
     let past = c.loop-number-test.false in
-    let less = place_below c.args.self.now.spec.now.rules number rule there in
+    let less = slice_get_within c.args.self.now.spec.now.rules number rule there in
     let rules_are = ap length c.items-rules.ensures in
     c.loop-number.invariant.1 number rule (omega (arith, past, less, rules_are)) there

@@ -1,9 +1,10 @@
 use Rattle.std.proofs.Common.{sym, subst, arith}
 use Rattle.dsr_graph_theory.specs.Breaks.{Breaks}
-use Rattle.dsr_graph.proofs.Paired.{item_there, paired_step, paired_whole}
+use Rattle.dsr_graph.proofs.Paired.{paired_step, paired_whole}
 use Rattle.dsr_graph.specs.Graphs.{owner_at, reason_of}
 use Rattle.dsr_compensate.specs.Owned.{owner_of}
 use Rattle.dsr_graph.proofs.listings.Asked.broken.Goals as goal
+use Rattle.dsr_meaning.proofs.Items.{item_there}
 
 pub loop-other-preserved : goal.loop-other-preserved
 loop-other-preserved c =

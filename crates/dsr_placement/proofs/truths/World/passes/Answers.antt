@@ -1,6 +1,7 @@
 use Rattle.std.proofs.Common.{IsTrue, length, slice_get, refl, sym, ap, ◌∙◌, arith}
 use Rattle.std.proofs.lemmas.Bool.{false≢true}
-use Rattle.dsr_placement.proofs.Each.{each_ends, each_more, item_got}
+use Rattle.std.proofs.lemmas.Option.{slice_get-get_or}
+use Rattle.dsr_placement.proofs.Each.{each_ends, each_more}
 use Rattle.dsr_placement.proofs.Passing.{fails_if, passes_if}
 use Rattle.dsr_placement.specs.Atoms.{IsTestedIn, mark_at, truth_by}
 use Rattle.dsr_plan_theory.specs.Plans.{comes_out}
@@ -10,12 +11,12 @@ pub returns-then-fails : goal.returns-then-fails
 returns-then-fails c =
     let failed = fails_if (mark_at c.args.tests.now c.loop-place.place) _ (sym c.fails.ensures ∙ c.if-fails.true) in (
       λ no. absurd (false≢true no),
-      λ passes. absurd (failed.1 (passes c.loop-place.place _ (sym (ap (λ xs. slice_get xs c.loop-place.place) c.items-literal-items.ensures) ∙ item_got c.items-literal-items.result.now c.loop-place.place _ c.loop-place-test.true) failed.0)),
+      λ passes. absurd (failed.1 (passes c.loop-place.place _ (sym (ap (λ xs. slice_get xs c.loop-place.place) c.items-literal-items.ensures) ∙ slice_get-get_or c.items-literal-items.result.now c.loop-place.place _ c.loop-place-test.true) failed.0)),
     )
 
 pub loop-place-preserved : goal.loop-place-preserved
 loop-place-preserved c =
-    each_more (λ n literal. IsTestedIn c.args.tests.now n → IsTrue (comes_out (truth_by c.args.self.now.atoms.now c.args.self.now.truths.now) literal)) c.args.conj.now.literals c.loop-place.place _ (sym (ap (λ xs. slice_get xs c.loop-place.place) c.items-literal-items.ensures) ∙ item_got c.items-literal-items.result.now c.loop-place.place _ c.loop-place-test.true)
+    each_more (λ n literal. IsTestedIn c.args.tests.now n → IsTrue (comes_out (truth_by c.args.self.now.atoms.now c.args.self.now.truths.now) literal)) c.args.conj.now.literals c.loop-place.place _ (sym (ap (λ xs. slice_get xs c.loop-place.place) c.items-literal-items.ensures) ∙ slice_get-get_or c.items-literal-items.result.now c.loop-place.place _ c.loop-place-test.true)
     (λ tested. passes_if (mark_at c.args.tests.now c.loop-place.place) _ (sym c.fails.ensures ∙ c.if-fails.false) tested) c.loop-place.invariant
 
 pub returns : goal.returns

@@ -1,6 +1,7 @@
 use Rattle.std.proofs.Common.{◌≡◌, Some, length, slice_get, refl, sym, ap, subst, ◌∙◌, arith}
 use Rattle.std.proofs.lemmas.Bool.{false≢true}
-use Rattle.dsr_placement.proofs.Each.{each_ends, each_more, item_got}
+use Rattle.std.proofs.lemmas.Option.{slice_get-get_or}
+use Rattle.dsr_placement.proofs.Each.{each_ends, each_more}
 use Rattle.dsr_placement.specs.Atoms.{IsTested, IsTestedIn, truth_by}
 use Rattle.dsr_plan_theory.specs.Plans.{PassesTests}
 use Rattle.dsr_placement.proofs.truths.World.some_passes.Goals as goal
@@ -10,7 +11,7 @@ returns-then-passes c = (
   λ _. record {
     number = c.loop-number.number;
     conj = c.conj-item.result;
-    conj_is = (subst (λ xs. slice_get xs c.loop-number.number ≡ Some c.conj-item.result) c.items-conj-items.ensures (item_got c.items-conj-items.result.now c.loop-number.number c.conj-item.result c.loop-number-test.true ∙ ap Some (sym c.conj-item.is)));
+    conj_is = (subst (λ xs. slice_get xs c.loop-number.number ≡ Some c.conj-item.result) c.items-conj-items.ensures (slice_get-get_or c.items-conj-items.result.now c.loop-number.number c.conj-item.result c.loop-number-test.true ∙ ap Some (sym c.conj-item.is)));
     passes = subst (λ row. PassesTests (IsTestedIn row) (truth_by c.args.self.now.atoms.now c.args.self.now.truths.now) c.conj-item.result) c.row.ensures (c.passes.ensures.0 c.if-passes.true);
   },
   λ _. refl,
@@ -18,7 +19,7 @@ returns-then-passes c = (
 
 pub loop-number-preserved : goal.loop-number-preserved
 loop-number-preserved c =
-    each_more (λ n conj. PassesTests (IsTested c.args.tests.now n) (truth_by c.args.self.now.atoms.now c.args.self.now.truths.now) conj → ⊥) c.args.constraint.now.conjs c.loop-number.number c.conj-item.result (subst (λ xs. slice_get xs c.loop-number.number ≡ Some c.conj-item.result) c.items-conj-items.ensures (item_got c.items-conj-items.result.now c.loop-number.number c.conj-item.result c.loop-number-test.true ∙ ap Some (sym c.conj-item.is)))
+    each_more (λ n conj. PassesTests (IsTested c.args.tests.now n) (truth_by c.args.self.now.atoms.now c.args.self.now.truths.now) conj → ⊥) c.args.constraint.now.conjs c.loop-number.number c.conj-item.result (subst (λ xs. slice_get xs c.loop-number.number ≡ Some c.conj-item.result) c.items-conj-items.ensures (slice_get-get_or c.items-conj-items.result.now c.loop-number.number c.conj-item.result c.loop-number-test.true ∙ ap Some (sym c.conj-item.is)))
     (λ passes. false≢true (sym c.if-passes.false ∙ c.passes.ensures.1 (subst (λ row. PassesTests (IsTestedIn row) (truth_by c.args.self.now.atoms.now c.args.self.now.truths.now) c.conj-item.result) (sym c.row.ensures) passes))) c.loop-number.invariant
 
 pub returns : goal.returns

@@ -26,6 +26,7 @@ use Rattle.dsr_step_theory.specs.Steps.{CanWrite}
 use Rattle.dsr_step_theory.specs.declared.steps.Step.{Step}
 use Rattle.dsr_update_theory.specs.Guards.{guard_write, pick_wanted}
 use Rattle.dsr_update_theory.specs.Options.{options, reference_write, target_option}
+use Rattle.dsr_repair_theory.specs.Reading.{IsPathIn}
 use Rattle.dsr_update_theory.specs.Templates.{all_true, others, target_writes, value_write}
 use Rattle.dsr_repair_laws.proofs.MakingEntries.{FitsField, SameEntry, can_write, none_fits_field}
 use Rattle.dsr_repair_laws.proofs.MakingHead.{of_head}
@@ -35,7 +36,7 @@ use Rattle.dsr_meaning.proofs.Options.{chained_from}
 
 -- the write can be made, is of no fixed field, and of one of the head's where it writes the head
 abbrev pub IsMade : Spec → Layout → Step → Write → Type 0
-IsMade spec layout step write = CanWrite spec layout step write × IsFree spec write × IsOfHead spec step.elem write
+IsMade spec layout step write = CanWrite spec layout step write × IsFree spec write × IsOfHead spec step.elem write × IsPathIn spec step.elem.pool write
 
 module _ (spec : Spec) (bytes : List ℕ) (layout : Layout) (is : IsLayoutOf spec bytes layout) (typed : IsTyped spec) (step : Step) where
   pick_fits : (field : FieldRef) (f : Field) (pick : Pick) → declared_field spec.base field ≡ Some f → IsFitPick f pick → FitsField spec layout step field f pick
@@ -49,6 +50,7 @@ module _ (spec : Spec) (bytes : List ℕ) (layout : Layout) (is : IsLayoutOf spe
       can_write spec bytes layout is typed step i rule instance of elem path its write (same path its) by.path_is (subst (FitsField spec layout step path.field its.field) (sym by.pick_is) fits),
       is_free spec path pick write by,
       of_head spec typed rule of step.elem (subst (λ e. e.pool ≡ premise_pool spec rule) elem instance.pool_is) path its write by.path_is,
+      record { rule = rule; typed = of; path = subst (IsTypedPath spec.base rule) (sym by.path_is) its; pool_is = subst (λ e. e.pool ≡ premise_pool spec rule) elem instance.pool_is },
     )
 
     pub guard_made : (wanted : Bool) (guard : Guard) (write : Write) → IsIn guard rule.guards → guard_write spec.base wanted guard ≡ Some write → IsMade spec layout step write

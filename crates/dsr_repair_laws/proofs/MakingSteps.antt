@@ -16,6 +16,7 @@ use Rattle.dsr_meaning.specs.Refusals.{IsLayoutOf}
 use Rattle.dsr_plan_theory.specs.Plans.{IsPlan, owner_at}
 use Rattle.dsr_plan_theory.specs.declared.choices.Choice.{Choice}
 use Rattle.dsr_step_theory.specs.Images.{IsFree, IsImageOf, IsOfHead}
+use Rattle.dsr_repair_theory.specs.Reading.{IsPathIn}
 use Rattle.dsr_repair_theory.specs.Turns.{IsDueStep}
 use Rattle.dsr_step_theory.specs.Steps.{CanStep, CanWrite, IsSlot}
 use Rattle.dsr_step_theory.specs.declared.steps.Step.{Step}
@@ -95,3 +96,6 @@ module _ (spec : Spec) (choice : Choice) (layout : Layout) (bytes : List ℕ) (s
 
   pub writes_of_head : All (IsOfHead spec step.elem) update.writes
   writes_of_head = all_of (IsOfHead spec step.elem) update.writes (λ write is_in. (made write is_in).2)
+
+  pub writes_read : All (IsPathIn spec step.elem.pool) update.writes
+  writes_read = all_of (IsPathIn spec step.elem.pool) update.writes (λ write is_in. (made write is_in).3)

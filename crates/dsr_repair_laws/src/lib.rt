@@ -16,4 +16,5 @@ pub use laws::{
 };
 pub use making::{
     due_steps_can_be_made, due_steps_write_fields_of_the_head, due_steps_write_no_fixed_field,
+    due_steps_write_what_rules_read,
 };

@@ -6,6 +6,7 @@ ghost use Rattle.dsr_ir.specs.declared.updates.Update.{Update};
 ghost use Rattle.dsr_plan_theory.specs.Plans.{IsPlan};
 ghost use Rattle.dsr_plan_theory.specs.declared.choices.Choice.{Choice};
 ghost use Rattle.dsr_step_theory.specs.Images.{IsFree, IsImageOf, IsOfHead};
+ghost use Rattle.dsr_repair_theory.specs.Reading.{IsPathIn};
 ghost use Rattle.dsr_repair_theory.specs.Turns.{IsDueStep};
 ghost use Rattle.dsr_step_theory.specs.Steps.{CanStep};
 ghost use Rattle.dsr_step_theory.specs.declared.steps.Step.{Step};
@@ -32,4 +33,12 @@ pub fn due_steps_write_fields_of_the_head()
         (update : Update) → IsImageOf spec layout bytes → IsPlan spec choice
         → IsDueStep spec choice layout bytes step update
         → All (IsOfHead spec step.elem) update.writes }
+{}
+
+/// The fields that a due step writes are read by rules whose records are of the written one's pool.
+pub fn due_steps_write_what_rules_read()
+    ensures { (spec : Spec) (choice : Choice) (layout : Layout) (bytes : List ℕ) (step : Step)
+        (update : Update) → IsImageOf spec layout bytes → IsPlan spec choice
+        → IsDueStep spec choice layout bytes step update
+        → All (IsPathIn spec step.elem.pool) update.writes }
 {}

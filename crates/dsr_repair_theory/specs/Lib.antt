@@ -3,6 +3,7 @@ pub mod Applications
 pub mod Changed
 pub mod Due
 pub mod Turns
+pub mod Reading
 pub mod Entries
 pub mod Runs
 pub mod Logs

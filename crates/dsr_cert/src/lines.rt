@@ -12,7 +12,7 @@ pub enum Said<'a> {
     Test,
     /// A way with these digits.
     Numbered(&'a [u8]),
-    /// Something else.
+    /// Neither a test nor a way.
     Other,
 }
 

@@ -339,9 +339,9 @@ impl<'a> Reader<'a> {
     }
 }
 
-/// The choice of a text, or its first faulty line. That the text is that of no other choice stands
-/// here and is no law, since a template is determined by its number only where the graph is there.
-/// With it `verify` speaks of certificates, and not only of what was read as one.
+/// The choice of a text, or its first faulty line. That no other choice has this text is a clause
+/// here and no law, since a template is determined by its number only where the graph is there. By
+/// this clause `verify` speaks of certificates, and not only of what was read as one.
 pub fn read_cert(
     alloc: Global,
     spec: &Spec,

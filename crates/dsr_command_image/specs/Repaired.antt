@@ -53,7 +53,8 @@ pub data IsRepairOf (spec : Spec) (choice : Choice) (image : List ℕ) : Ending 
       → IsRun spec choice layout image entries new Consistent
       → IsRepairOf spec choice image (Saves new (repaired_answer spec entries))
   stopped :
-      (layout : Layout) (entries : List Entry) (new : List ℕ) (need : Need) → IsImageOf spec layout image
+      (layout : Layout) (entries : List Entry) (new : List ℕ) (need : Need)
+      → IsImageOf spec layout image
       → IsRun spec choice layout image entries new (Empty need)
       → IsRepairOf spec choice image (Tells (empty_answer spec entries need))
 

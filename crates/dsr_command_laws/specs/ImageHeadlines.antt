@@ -45,7 +45,8 @@ pub record IsVerdictOn (spec : Spec) (layout : Layout) (image : List ℕ) (befor
     (verdict : Verdict) : Type 0 where
   pub violations : List BoundConstraint
   pub exactly : AreViolations (IsFact spec layout image) spec violations
-  pub told : after.output.written ≡ appended before.output.written (verdict_answer spec violations).text
+  pub told :
+      after.output.written ≡ appended before.output.written (verdict_answer spec violations).text
   pub ok : (verdict ≡ verdicts.Ok) ↔ IsConsistent spec layout image
   pub inconsistent : (verdict ≡ verdicts.Inconsistent) ↔ (IsConsistent spec layout image → ⊥)
 
@@ -69,7 +70,8 @@ ChecksNothingElse words before after status =
     (files : Files) (spec_name image_name : List ℕ) → before.held ≡ Some files
     → command_of words ≡ Some (Check spec_name image_name)
     → (status ≡ Said verdicts.Ok → WasChecked files words before after verdicts.Ok)
-    × (status ≡ Said verdicts.Inconsistent → WasChecked files words before after verdicts.Inconsistent)
+    × (status ≡ Said verdicts.Inconsistent
+      → WasChecked files words before after verdicts.Inconsistent)
 
 -- the words ask for the canonical text of a specification, and this tree is that of its text
 pub record IsPrinted (files : Files) (words : List (List ℕ)) (tree : TreeShape) : Type 0 where
@@ -91,6 +93,7 @@ PrintsTexts words before after status =
 
 -- words that ask for nothing are told so, with no call of the shelf; and of no other words is that
 -- told
-pub record TellsUsage (words : List (List ℕ)) (before after : Outside) (status : Status) : Type 0 where
+pub record TellsUsage (words : List (List ℕ)) (before after : Outside)
+    (status : Status) : Type 0 where
   pub told : AskForNothing words → Halts before after status (Tell usage)
   pub nothing_else : status ≡ Said verdicts.Usage → AskForNothing words

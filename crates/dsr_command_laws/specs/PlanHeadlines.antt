@@ -46,7 +46,8 @@ pub record IsPlanVerdict (spec : Spec) (before after : Outside) (verdict : Verdi
 -- verdict
 abbrev pub FindsPlans : List (List ℕ) → Outside → Outside → Status → Type 0
 FindsPlans words before after status =
-    (files : Files) (spec : Spec) (verdict : Verdict) → before.held ≡ Some files → status ≡ Said verdict
+    (files : Files) (spec : Spec) (verdict : Verdict) → before.held ≡ Some files
+    → status ≡ Said verdict
     → IsPlanned files words spec → IsPlanVerdict spec before after verdict
 
 -- some specification was planned for, with this verdict
@@ -60,12 +61,14 @@ FindsNothingElse words before after status =
     (files : Files) (spec_name : List ℕ) → before.held ≡ Some files
     → command_of words ≡ Some (asking.Plan spec_name)
     → (status ≡ Said verdicts.Ok → WasPlanned files words before after verdicts.Ok)
-    × (status ≡ Said verdicts.PlanRefused → WasPlanned files words before after verdicts.PlanRefused)
+    × (status ≡ Said verdicts.PlanRefused
+      → WasPlanned files words before after verdicts.PlanRefused)
 
 -- ---- certificates
 
 -- the words ask to certify this specification, whose text is within its limit, under this name
-pub record IsToCertify (files : Files) (words : List (List ℕ)) (spec : Spec) (name : List ℕ) : Type 0 where
+pub record IsToCertify (files : Files) (words : List (List ℕ)) (spec : Spec)
+    (name : List ℕ) : Type 0 where
   pub spec_name : List ℕ
   pub asked : command_of words ≡ Some (Certify spec_name name)
   pub text : List ℕ
@@ -81,11 +84,13 @@ IsCertifiedBy spec name before after (Plan choice) =
     × IsCertificate spec (certificate_text spec choice)
     × (after.output.written ≡ appended before.output.written (certified_answer choice).text)
 IsCertifiedBy spec name before after (Stuck set) =
-    Stands before after × (after.output.written ≡ appended before.output.written (refused_answer spec set).text)
+    Stands before after
+    × (after.output.written ≡ appended before.output.written (refused_answer spec set).text)
 
 -- a verdict says exactly whether the specification has a plan, and its certificate is saved exactly
 -- where it has one
-pub record IsCertifyVerdict (spec : Spec) (name : List ℕ) (before after : Outside) (verdict : Verdict) : Type 0 where
+pub record IsCertifyVerdict (spec : Spec) (name : List ℕ) (before after : Outside)
+    (verdict : Verdict) : Type 0 where
   pub found : Found
   pub is : IsFound spec found
   pub done : IsCertifiedBy spec name before after found
@@ -102,7 +107,8 @@ CertifiesPlans words before after status =
 
 abbrev pub WasCertified : Files → List (List ℕ) → List ℕ → Outside → Outside → Verdict → Type 0
 WasCertified files words name before after verdict =
-    (spec : Spec) × IsToCertify files words spec name × IsCertifyVerdict spec name before after verdict
+    (spec : Spec) × IsToCertify files words spec name
+    × IsCertifyVerdict spec name before after verdict
 
 -- no specification is said to be certified, and none to have no plan, unless one was looked for
 abbrev pub CertifiesNothingElse : List (List ℕ) → Outside → Outside → Status → Type 0
@@ -110,10 +116,12 @@ CertifiesNothingElse words before after status =
     (files : Files) (spec_name name : List ℕ) → before.held ≡ Some files
     → command_of words ≡ Some (Certify spec_name name)
     → (status ≡ Said verdicts.Ok → WasCertified files words name before after verdicts.Ok)
-    × (status ≡ Said verdicts.PlanRefused → WasCertified files words name before after verdicts.PlanRefused)
+    × (status ≡ Said verdicts.PlanRefused
+      → WasCertified files words name before after verdicts.PlanRefused)
 
 -- the words ask to verify a certificate under a specification: their files are within their limits
-pub record IsToVerify (files : Files) (words : List (List ℕ)) (spec : Spec) (certificate : List ℕ) : Type 0 where
+pub record IsToVerify (files : Files) (words : List (List ℕ)) (spec : Spec)
+    (certificate : List ℕ) : Type 0 where
   pub spec_name : List ℕ
   pub certificate_name : List ℕ
   pub asked : command_of words ≡ Some (Verify spec_name certificate_name)
@@ -125,7 +133,8 @@ pub record IsToVerify (files : Files) (words : List (List ℕ)) (spec : Spec) (c
   pub means : IsSpecificationOf text spec
 
 -- a verdict says exactly whether the text is that of a plan, and otherwise its first fault
-pub record IsVerifyVerdict (spec : Spec) (certificate : List ℕ) (before after : Outside) (verdict : Verdict) : Type 0 where
+pub record IsVerifyVerdict (spec : Spec) (certificate : List ℕ) (before after : Outside)
+    (verdict : Verdict) : Type 0 where
   pub answer : Answer
   pub is : IsVerifyAnswer spec certificate answer
   pub told : after.output.written ≡ appended before.output.written answer.text
@@ -135,7 +144,8 @@ pub record IsVerifyVerdict (spec : Spec) (certificate : List ℕ) (before after 
 -- where the shelf tells its files and they can be verified, a command that speaks gives the verdict
 abbrev pub VerifiesCertificates : List (List ℕ) → Outside → Outside → Status → Type 0
 VerifiesCertificates words before after status =
-    (files : Files) (spec : Spec) (certificate : List ℕ) (verdict : Verdict) → before.held ≡ Some files
+    (files : Files) (spec : Spec) (certificate : List ℕ) (verdict : Verdict)
+    → before.held ≡ Some files
     → status ≡ Said verdict → IsToVerify files words spec certificate
     → IsVerifyVerdict spec certificate before after verdict
 
@@ -150,4 +160,5 @@ VerifiesNothingElse words before after status =
     (files : Files) (spec_name certificate_name : List ℕ) → before.held ≡ Some files
     → command_of words ≡ Some (Verify spec_name certificate_name)
     → (status ≡ Said verdicts.Ok → WasVerified files words before after verdicts.Ok)
-    × (status ≡ Said verdicts.CertRefused → WasVerified files words before after verdicts.CertRefused)
+    × (status ≡ Said verdicts.CertRefused
+      → WasVerified files words before after verdicts.CertRefused)

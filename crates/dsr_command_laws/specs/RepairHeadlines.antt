@@ -19,7 +19,8 @@ use Rattle.dsr_language_theory.specs.Specifications.{IsSpecificationOf}
 
 -- the words ask to repair this image under this specification, and to save it under the name: their
 -- files are within their limits, and the text means the specification
-pub record IsToRepair (files : Files) (words : List (List ℕ)) (spec : Spec) (image name : List ℕ) : Type 0 where
+pub record IsToRepair (files : Files) (words : List (List ℕ)) (spec : Spec)
+    (image name : List ℕ) : Type 0 where
   pub spec_name : List ℕ
   pub image_name : List ℕ
   pub asked : command_of words ≡ Some (Repair spec_name image_name name)
@@ -34,7 +35,8 @@ pub record IsToRepair (files : Files) (words : List (List ℕ)) (spec : Spec) (i
 -- verdict on it
 abbrev pub RepairsImages : List (List ℕ) → Outside → Outside → Status → Type 0
 RepairsImages words before after status =
-    (files : Files) (spec : Spec) (image name : List ℕ) (verdict : Verdict) → before.held ≡ Some files
+    (files : Files) (spec : Spec) (image name : List ℕ) (verdict : Verdict)
+    → before.held ≡ Some files
     → status ≡ Said verdict → IsToRepair files words spec image name
     → IsRepairVerdict spec image name before after verdict
 
@@ -58,9 +60,11 @@ RepairsNothingElse words before after status =
 -- specification, get the verdict that it is consistent.
 abbrev pub RepairsLast : List (List ℕ) → Outside → Outside → Status → Type 0
 RepairsLast words before after status =
-    (files saved : Files) (spec : Spec) (image name : List ℕ) → before.held ≡ Some files → after.held ≡ Some saved
+    (files saved : Files) (spec : Spec) (image name : List ℕ) → before.held ≡ Some files
+    → after.held ≡ Some saved
     → status ≡ Said verdicts.Ok → IsToRepair files words spec image name
-    → (others : List (List ℕ)) (layout : Layout) (new : List ℕ) (check : IsChecked saved others spec layout new)
+    → (others : List (List ℕ)) (layout : Layout) (new : List ℕ)
+    (check : IsChecked saved others spec layout new)
     → check.image_name ≡ name → (first last : Outside) (verdict : Verdict)
     → IsVerdictOn spec layout new first last verdict → verdict ≡ verdicts.Ok
 
@@ -75,5 +79,6 @@ pub record WasTried (number : ℕ) (before after : Outside) (verdict : Verdict) 
 -- a command that speaks, where the words ask for a trial, tells its answer
 abbrev pub TellsTrials : List (List ℕ) → Outside → Outside → Status → Type 0
 TellsTrials words before after status =
-    (number : ℕ) (verdict : Verdict) → command_of words ≡ Some (Trial number) → status ≡ Said verdict
+    (number : ℕ) (verdict : Verdict) → command_of words ≡ Some (Trial number)
+    → status ≡ Said verdict
     → WasTried number before after verdict

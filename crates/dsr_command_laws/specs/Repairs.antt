@@ -100,7 +100,8 @@ pub record IsRepairVerdict (spec : Spec) (image name : List ℕ) (before after :
   pub no_plan : (verdict ≡ verdicts.PlanRefused) ↔ HasNoPlan spec
   pub no_layout : (verdict ≡ verdicts.LayoutRefused) ↔ (HasPlan spec × (HasLayout spec image → ⊥))
   pub otherwise :
-      HasPlan spec → HasLayout spec image → (verdict ≡ verdicts.Ok) ⊎ (verdict ≡ verdicts.SupplyEmpty)
+      HasPlan spec → HasLayout spec image
+      → (verdict ≡ verdicts.Ok) ⊎ (verdict ≡ verdicts.SupplyEmpty)
   pub empty : (verdict ≡ verdicts.SupplyEmpty) ↔ RunsDry spec image
   pub unplanned : verdict ≡ verdicts.PlanRefused → WasUnplanned spec before after
   pub unlaid : verdict ≡ verdicts.LayoutRefused → WasUnlaid spec image before after

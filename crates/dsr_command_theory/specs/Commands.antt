@@ -77,7 +77,8 @@ plan_after text = reads text tells_plan
 -- the certificate of the plan that is taken is saved; where there is no plan, that is told
 abbrev pub certifies : List ℕ → Spec → plans.Found → Script
 certifies name spec (plan_found.Plan choice) =
-    saves name (λ bytes told. (bytes ≡ certificate_text spec choice) × (told ≡ certified_answer choice))
+    saves name
+    (λ bytes told. (bytes ≡ certificate_text spec choice) × (told ≡ certified_answer choice))
 certifies name spec (plan_found.Stuck set) = tells (λ told. told ≡ refused_answer spec set)
 
 abbrev pub saves_plan : List ℕ → Spec → Script
@@ -95,7 +96,8 @@ loads_certificate name spec =
     loads name certificate_limit (codes "too long certificate\n") (verifies spec)
 
 abbrev pub verify_after : List ℕ → List ℕ → Script
-verify_after certificate text = reads text (λ tree. loads_certificate certificate (specification tree))
+verify_after certificate text =
+    reads text (λ tree. loads_certificate certificate (specification tree))
 
 -- what comes of a repair is saved under the name, or told
 abbrev pub ends : List ℕ → Ending → Script

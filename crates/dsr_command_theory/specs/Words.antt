@@ -44,7 +44,8 @@ with_one command word =
 
 -- what is saved has another name than the specification
 abbrev pub to_certify : (spec certificate : List ℕ) → Option Asked
-to_certify spec certificate = if bytes_eq certificate spec then None else Some (Certify spec certificate)
+to_certify spec certificate =
+    if bytes_eq certificate spec then None else Some (Certify spec certificate)
 
 -- those with two
 abbrev pub with_two : (command spec file : List ℕ) → Option Asked

@@ -19,7 +19,7 @@ fn with_writes(alloc: Global, update: &Update, more: &[Write]) -> Result<Update,
     })
 }
 
-/// The template with these writes behind those of each update.
+/// The template, each of whose updates has these writes behind its own.
 pub fn compensated_by(
     alloc: Global,
     template: &Template,

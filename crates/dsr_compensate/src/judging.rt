@@ -13,7 +13,7 @@ use std::alloc::Global;
 /// A template, with what each of its updates may change.
 pub struct Judged {
     pub template: Template,
-    /// One for each update, in order.
+    /// What each update may change, in order.
     pub effects: Seq<Effect>,
 }
 

@@ -28,8 +28,8 @@ fn is_among(listed: &[Judged], template: &Template) -> bool
     false
 }
 
-/// Puts the template behind those that are listed, where there is room for it, it is none of them,
-/// and it is kept.
+/// Puts the template behind the listed ones, where there is room, it isn't listed yet, and it is
+/// kept.
 pub fn take(
     alloc: Global,
     owner: &Owner,

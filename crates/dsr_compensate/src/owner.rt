@@ -115,8 +115,8 @@ impl<'a> Owner<'a> {
         self.context.gaining_rules(goal, update)
     }
 
-    /// What an update of the constraint may change, for this goal; that of an update of a template
-    /// for exactly one is to supply for the first one and to trim for the others.
+    /// What an update of the constraint may change, for this goal. In a template for exactly one,
+    /// the goal of the first update is to supply, and that of the others to trim.
     pub fn effect(&self, alloc: Global, goal: Goal, update: &Update) -> Result<Effect, NoMemory>
         requires sound { IsSound self.now }
         ensures { IfOk result (IsEffectOf (change_of (owner_of self.now) goal update.now)) }

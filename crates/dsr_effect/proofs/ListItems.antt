@@ -3,7 +3,6 @@ use Rattle.std.proofs.Common.{◌≡◌, ◌<◌, ◌+◌, ◌++◌, ℕ, zero, 
 use Rattle.std.proofs.lemmas.List.Elements.{All-cons, All-head, All-nil, All-tail}
 use Rattle.std.proofs.lemmas.List.{take_more}
 use Rattle.dsr_meaning.specs.Counting.{IsIn}
-pub use Rattle.dsr_facts.proofs.Givers.{within}
 
 -- ---- the item at which a loop is
 

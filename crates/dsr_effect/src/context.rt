@@ -148,8 +148,8 @@ impl<'a> Context<'a> {
         gaining
     }
 
-    /// What the update may change, for this goal; that of an update of a template for exactly one
-    /// is to supply for the first one and to trim for the others.
+    /// What the update may change, for this goal. In a template for exactly one, the goal of the
+    /// first update is to supply, and that of the others to trim.
     pub fn effect(&self, alloc: Global, goal: Goal, update: &Update) -> Result<Effect, NoMemory>
         requires sound { IsSound self.now }
         ensures gains { IfOk result (λ e. length e.gains ≡ symbol_count self.now.spec.now.base) }

@@ -221,7 +221,7 @@ pub fn may_change(base: &Structures, effect: &Effect, direction: Direction, symb
     is_some(tags_of(base, effect, direction, symbol))
 }
 
-/// The least table.
+/// The least table that has what the update changes itself and what its rows hand on.
 pub fn effect_of(alloc: Global, change: &Change) -> Result<Effect, NoMemory>
     requires told { IsTold change.now }
     ensures gains { IfOk result (λ e. length e.gains

@@ -17,7 +17,7 @@ pub struct Facts {
     pub exclusive: Seq<(u32, u32)>,
     /// Pairs of relations of which what has a source under one has none under the other, both ways.
     pub apart: Seq<(u32, u32)>,
-    /// The constraints that say so.
+    /// The constraints from which the facts come.
     pub from: Seq<u32>,
 }
 

@@ -158,7 +158,7 @@ fn target_writes(
     all_true(alloc, base, &others, writes)
 }
 
-/// One update by the rule with this number, on the record of a variable.
+/// A template for the goal: one update by the rule with this number, on the record of a variable.
 pub fn adding(
     alloc: Global,
     goal: Goal,
@@ -183,7 +183,7 @@ pub fn adding(
     })
 }
 
-/// Puts what was made, if anything, behind the others.
+/// Puts the template that was made, if any, behind the others.
 pub fn push_made(templates: &mut Vec<Template>, made: Option<Template>) -> Result<(), NoMemory>
     ensures { OnOk result (templates.new.items ≡ templates.old.items ++ listed made) }
 {
@@ -193,7 +193,8 @@ pub fn push_made(templates: &mut Vec<Template>, made: Option<Template>) -> Resul
     Ok(())
 }
 
-/// The variable's record becomes a member by a rule that gives the record itself.
+/// A template by which the variable's record becomes a member, by a rule that gives the record
+/// itself; none where the rule can't do that.
 pub fn joins_by(
     alloc: Global,
     base: &Structures,
@@ -215,7 +216,8 @@ pub fn joins_by(
     Ok(Some(adding(alloc, Goal::AddSet, number, var, None, writes)?))
 }
 
-/// The pair joins by a rule that gives the record with a reference.
+/// A template by which a pair joins a relation, by a rule that gives the record with a reference;
+/// none where the rule can't do that.
 pub fn relates_by(
     alloc: Global,
     base: &Structures,
@@ -242,7 +244,8 @@ pub fn relates_by(
     Ok(Some(adding(alloc, Goal::AddTuple, number, source, None, writes)?))
 }
 
-/// A fresh record joins by a rule that gives the target of a reference of the variable's record.
+/// A template by which a fresh record joins, by a rule that gives the target of a reference of the
+/// variable's record; none where the rule can't do that.
 pub fn supplies_by(
     alloc: Global,
     base: &Structures,

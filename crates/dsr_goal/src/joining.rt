@@ -33,7 +33,7 @@ fn member_join(
     joins_by(alloc, &spec.base, known, var, number, rule)
 }
 
-/// The variable's record becomes a member of the set.
+/// The templates by which the variable's record becomes a member of the set.
 pub fn member_joins(
     alloc: Global,
     spec: &Spec,
@@ -75,7 +75,7 @@ fn pair_join(
     relates_by(alloc, &spec.base, known, source, target, number, rule)
 }
 
-/// The pair of the variables' records becomes one of the relation.
+/// The templates by which the pair of the variables' records becomes one of the relation.
 pub fn pair_joins(
     alloc: Global,
     spec: &Spec,

@@ -154,7 +154,7 @@ fn target_supplies(
     Ok(templates)
 }
 
-/// What can supply what is counted; sources can't be supplied.
+/// The templates that supply what is counted; sources can't be supplied.
 pub fn supplies(
     alloc: Global,
     spec: &Spec,

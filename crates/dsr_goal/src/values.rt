@@ -134,7 +134,8 @@ fn pick_of(bound: Bound) -> Pick
     }
 }
 
-/// Sets the value of the variable's record, where one rule alone gives the relation.
+/// The templates that set the value of the variable's record, where one rule alone gives the
+/// relation.
 pub fn settings(
     alloc: Global,
     spec: &Spec,

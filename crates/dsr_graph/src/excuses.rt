@@ -32,8 +32,8 @@ pub struct Excuses {
 }
 
 impl Excuses {
-    /// What is known of the constraint whose updates are made, which uses these facts, and the one
-    /// that they may break.
+    /// What is known of the constraint whose updates are made, which uses these facts, and of the
+    /// other one, which the updates may break.
     pub fn new(facts: &Facts, owner: &Owner, other: &Owner) -> Excuses
         requires sound { IsSound owner.now }
         requires other_sound { IsSound other.now }
@@ -50,7 +50,7 @@ impl Excuses {
         }
     }
 
-    /// Whether both are one constraint.
+    /// Whether the constraint and the other one are the same.
     pub fn is_same(&self) -> bool
         ensures { (owner other : OwnerOf) → TellsExcuses owner other self.now
             → Decides result (owner.number ≡ other.number) }

@@ -6,9 +6,9 @@ use dsr_ir::Seq;
 /// A constraint, with what is listed for its literals.
 pub struct Node {
     pub kinds: Kinds,
-    /// For each kind of literals.
+    /// What is listed for each kind of the constraint's literals.
     pub listings: Vec<Listing>,
-    /// The constraints on which it relies.
+    /// The constraints on which this one relies.
     pub from: Seq<u32>,
 }
 

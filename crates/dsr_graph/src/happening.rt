@@ -26,21 +26,23 @@ pub fn tags_for(base: &Structures, effect: &Effect, reason: Reason) -> Tags
     }
 }
 
-/// Whether there is a record at which an update may do it.
+/// Whether any tag is set, so that an update may act at some record.
 pub fn is_some(tags: Tags) -> bool
     ensures { result ≡ told.is_some tags }
 {
     tags.written || tags.entry || tags.fresh || tags.any
 }
 
-/// Whether an update does it at the record alone that is written, if at all.
+/// Whether no tag but that of the written record is set, so that an update acts there alone, if at
+/// all.
 pub fn is_only_written(tags: Tags) -> bool
     ensures { result ≡ told.is_only_written tags }
 {
     !(tags.entry || tags.fresh || tags.any)
 }
 
-/// Whether an update does it at the slot alone of the entry that is written, if at all.
+/// Whether no tag but that of the written entry is set, so that an update acts at its slot alone,
+/// if at all.
 pub fn is_only_entry(tags: Tags) -> bool
     ensures { result ≡ told.is_only_entry tags }
 {

@@ -80,8 +80,8 @@ fn is_usable_below(graph: &Graph, at: Position, way: u32, count: usize, left: &[
     is_usable(graph, at, way, left)
 }
 
-/// The number, counted from 0, of the literal's first template that falsifies nothing and breaks
-/// none that is left. At most `MOST_WAYS` are listed: each number up to that is asked.
+/// The number, counted from 0, of the literal's first template that falsifies nothing and breaks no
+/// constraint that is left. At most `MOST_WAYS` are listed: each number up to that is asked.
 pub fn first_usable(graph: &Graph, at: Position, left: &[bool]) -> Option<u32>
     requires few { length left.now ≤ 2 ^ 32 }
     ensures { (owner : OwnerOf) → IsOwnerIn graph.now at.constraint owner

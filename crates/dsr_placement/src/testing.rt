@@ -11,8 +11,8 @@ use dsr_graph::{Graph, Position};
 use dsr_ir::{Conj, Constraint, Literal, NoMemory, Seq};
 use std::alloc::Global;
 
-/// The number of the template by which the literal can be made true without breaking any that is
-/// left, counted from 0; none where it has to be tested.
+/// The number, counted from 0, of the template by which the literal can be made true without
+/// breaking any constraint that is left; none where the literal has to be tested.
 pub fn way(graph: &Graph, at: Position, literal: &Literal, left: &[bool]) -> Option<u32>
     requires few { length left.now ≤ 2 ^ 32 }
     requires there { IsLiteralIn graph.now (length left.now) at literal.now }

@@ -152,7 +152,7 @@ fn rows(
 pub enum Placement {
     /// The plan that is taken.
     Taken(Choice),
-    /// For each constraint whether it is a member of the largest stuck set, which has one.
+    /// For each constraint whether it is a member of the largest stuck set, which isn't empty.
     Stuck(Vec<bool>),
 }
 

@@ -1,6 +1,6 @@
 -- By which structures records of a pool are read.
 use Rattle.std.proofs.Common.{◌≡◌, ◌<◌, ◌+◌, ◌∙◌, ◌⊎◌, inl, inr, ℕ, zero, suc, Bool, true, false, cond, List, [], ◌∷◌, None, Some, length, take, get_or, nat_eq, refl, sym, ap, subst, arith}
-use Rattle.std.specs.Prelude.{Decides, IsSomeAnd, MatchBool, ◌||◌, ◌-◌, slice_get}
+use Rattle.std.specs.Prelude.{IsSomeAnd, MatchBool, ◌-◌, slice_get}
 use Rattle.std.proofs.lemmas.Bool.Decides.{nat_tests}
 use Rattle.dsr_ir.specs.declared.declarations.SetDecl.{SetDecl}
 use Rattle.dsr_ir.specs.declared.declarations.Structures.{Structures}

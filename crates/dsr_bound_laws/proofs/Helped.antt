@@ -43,13 +43,13 @@ row_there (row ∷ rows) (suc n) less = row_there rows n (omega (arith, less))
 module _ (spec : Spec) (choice : Choice) (layout : Layout) (old new : List ℕ) (entry : Entry)
     (plan : IsPlan spec choice) (image : IsImageOf spec layout old)
     (step_is : IsDueEntry spec choice layout old entry new) where
-  abbrev step : Step
+  abbrev pub step : Step
   step = step_is.step
 
-  abbrev its : Literal
+  abbrev pub its : Literal
   its = step_is.due.literal
 
-  abbrev template : Template
+  abbrev pub template : Template
   template = step_is.due.template
 
   due : IsDue (IsFact spec layout old) spec choice (bound_by step_is.step) step_is.step.conj step_is.step.literal step_is.due.literal step_is.due.template
@@ -73,7 +73,7 @@ module _ (spec : Spec) (choice : Choice) (layout : Layout) (old new : List ℕ) 
       let lowest = step_is.due.due.binding_is.lowest (record { constraint = giver; binding = b }) row.0 violated row.1 in
       absurd (omega (arith, lower, lowest))
 
-  applied : IsListedApplied spec step_is.due.due.constraint step_is.due.literal step_is.due.due.literal_is.repaired.template_is.number step_is.due.template step_is.update layout step_is.step old new
+  pub applied : IsListedApplied spec step_is.due.due.constraint step_is.due.literal step_is.due.due.literal_is.repaired.template_is.number step_is.due.template step_is.update layout step_is.step old new
   applied =
       let is = step_is.due.due in
       let repaired = is.literal_is.repaired in

@@ -34,16 +34,16 @@ pub record IsListedApplied (spec : Spec) (constraint : Constraint) (literal : Li
   pub applied : IsApplied spec template update layout step old new
 
 module _ (spec : Spec) (constraint : Constraint) (literal : Literal) (number : ℕ) (template : Template) (update : Update) (layout : Layout) (step : Step) (old new : List ℕ) (a : IsListedApplied spec constraint literal number template update layout step old new) where
-  abbrev its : Constraint
+  abbrev pub its : Constraint
   its = a.applied.violated.constraint
 
   same : constraint ≡ its
   same = same_Some constraint its (sym a.constraint_is ∙ a.applied.violated.declared)
 
-  abbrev application : Application
+  abbrev pub application : Application
   application = record { spec = spec; template = template; update = update; layout = layout; step = step; old = old; new = new; applied = a.applied }
 
-  listed : IsListed application number
+  pub listed : IsListed application number
   listed = subst (λ c. IsListedAt (owner_at spec step.constraint c) step.conj step.literal number template) same a.listed
 
 -- where it falsifies no other literal of its conjunction, each of them that was true is true then

@@ -18,3 +18,4 @@ pub mod Untouched
 pub mod Moved
 pub mod RunOn
 pub mod StepMade
+pub mod Renewed

@@ -8,3 +8,4 @@ pub mod Notes
 pub mod Spans
 pub mod Planned
 pub mod Stepping
+pub mod Renewing

@@ -16,6 +16,7 @@ mod literals;
 mod making;
 mod notes;
 mod orders;
+mod renewing;
 mod repairs;
 mod spans;
 mod steps;

@@ -10,7 +10,7 @@ use crate::bindings::Violation;
 use crate::cursors::Cursor;
 use crate::dues::due_from;
 use crate::making::make;
-use dsr_fixpoint::rebuild;
+use crate::renewing::renew;
 use dsr_image::ImageBytes;
 use dsr_ir::{Layout, NoMemory, Update};
 use dsr_model::Model;
@@ -31,8 +31,9 @@ fn update_of<'a>(plan: &'a Plan, step: &Step) -> Option<&'a Update>
     }
 }
 
-/// Makes the step that is due, pushes its entry, builds the model anew, and moves the cursor to the
-/// binding for which the step was made: nothing before that is violated now either. Where nothing
+/// Makes the step that is due, pushes its entry, makes the model that of the new bytes, and moves
+/// the cursor to the binding for which the step was made: nothing before that is violated now
+/// either. Where nothing
 /// is due, or a supply is empty, all stays as it is; so it does where memory is wanting, but that
 /// more bytes may be claimed. Nothing can fail once a byte is written.
 pub fn step<I: ImageBytes>(
@@ -71,7 +72,7 @@ pub fn step<I: ImageBytes>(
     log.reserve()?;
     let entry = make(alloc, plan.spec(), layout, &step, update, image)?;
     log.push(entry);
-    rebuild(model, plan.spec(), layout, image);
+    renew(model, plan.spec(), layout, image, update, &step);
     cursor.last = Some(Violation {
         constraint: step.constraint,
         binding: step.binding,

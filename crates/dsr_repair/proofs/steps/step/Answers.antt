@@ -3,6 +3,10 @@ use Rattle.std.proofs.Common.{◌∙◌, ◌∷◌, ◌++◌, [], All, refl, sym
 use Rattle.dsr_repair_laws.proofs.MakingSteps.{writes_free}
 use Rattle.dsr_fixpoint.specs.Models.{IsLaidOut, IsModelOf, IsPreparedFor}
 use Rattle.dsr_plan_theory.specs.Plans.{IsPlan}
+use Rattle.dsr_leaf_laws.specs.Leaves.{IsOfLeaf}
+use Rattle.dsr_leaf_laws.specs.Touched.{touching}
+use Rattle.dsr_repair.specs.Renewing.{WasLeft}
+use Rattle.dsr_repair.proofs.Renewed.{of_leaf, was_left}
 use Rattle.dsr_repair.proofs.Moved.{cursor_moves, cursor_stays}
 use Rattle.dsr_repair.proofs.StepMade.{can_be_made, due_by_it, fixed_as_before, fixed_stay, image_stays, laid_out, nearer, never_none, on_err, same_state}
 use Rattle.dsr_repair_theory.specs.Entries.{IsEntryOf}
@@ -30,8 +34,8 @@ make-requires g c =
           c.requires.modelled.image plan due);
     }
 
-pub rebuild-requires-clause-laid_out : goal.rebuild-requires-clause-laid_out
-rebuild-requires-clause-laid_out g c =
+pub renew-requires-clause-laid_out : goal.renew-requires-clause-laid_out
+renew-requires-clause-laid_out g c =
     let old = g.I.ImageBytes.bytes c.args.image.now in
     let new = g.I.ImageBytes.bytes c.make.new.image in
     let due = due_by_it c.args.plan.now.0 c.args.plan.now.1 c.args.layout.now old c.in-Step.step c.in-Step.ensures.0
@@ -43,6 +47,31 @@ rebuild-requires-clause-laid_out g c =
     (laid_out c.args.plan.now.0 c.args.layout.now new
     (image_stays c.args.plan.now.0 c.args.plan.now.1 c.args.layout.now old c.in-Step.step c.in-Some.update.now
     c.requires.modelled.image plan due new c.in_ok-entry.entry told))
+
+pub renew-requires-clause-prepared : goal.renew-requires-clause-prepared
+renew-requires-clause-prepared g c =
+    subst (λ s. IsPreparedFor s c.args.layout.now c.args.model.now) (sym c.spec-2.ensures.is) c.requires.modelled.prepared
+
+pub renew-requires-clause-of_leaf : goal.renew-requires-clause-of_leaf
+renew-requires-clause-of_leaf g c =
+    let old = g.I.ImageBytes.bytes c.args.image.now in
+    let due = due_by_it c.args.plan.now.0 c.args.plan.now.1 c.args.layout.now old c.in-Step.step c.in-Step.ensures.0
+    c.in-Some.update.now c.in-Step.ensures.1 c.in-Some.ensures in
+    let plan = subst (λ s. IsPlan s c.args.plan.now.1) c.spec.ensures.is c.spec.ensures.plan in
+    subst (λ s. IsOfLeaf (touching s c.in-Some.update.now) c.in-Step.step) (sym c.spec-2.ensures.is)
+    (of_leaf c.args.plan.now.0 c.args.plan.now.1 c.args.layout.now old c.in-Step.step c.in-Some.update.now plan c.requires.modelled.image due)
+
+pub renew-requires-clause-was : goal.renew-requires-clause-was
+renew-requires-clause-was g c =
+    let old = g.I.ImageBytes.bytes c.args.image.now in
+    let new = g.I.ImageBytes.bytes c.make.new.image in
+    let due = due_by_it c.args.plan.now.0 c.args.plan.now.1 c.args.layout.now old c.in-Step.step c.in-Step.ensures.0
+    c.in-Some.update.now c.in-Step.ensures.1 c.in-Some.ensures in
+    let plan = subst (λ s. IsPlan s c.args.plan.now.1) c.spec.ensures.is c.spec.ensures.plan in
+    let told = subst (λ s. IsEntryOf s c.args.layout.now c.in-Step.step c.in-Some.update.now old new c.in_ok-entry.entry)
+    c.spec.ensures.is c.in_ok-entry.ensures.made in
+    subst (λ s. WasLeft s c.args.layout.now c.in-Some.update.now c.in-Step.step new c.args.model.now) (sym c.spec-2.ensures.is)
+    (was_left c.args.plan.now.0 c.args.plan.now.1 c.args.layout.now old new c.in-Step.step c.in-Some.update.now c.in_ok-entry.entry c.args.model.now plan c.requires.modelled.image due told c.requires.modelled.model)
 
 pub returns-in_err-reserve-clause-stays : goal.returns-in_err-reserve-clause-stays
 returns-in_err-reserve-clause-stays g c =
@@ -98,8 +127,8 @@ returns-clause-modelled g c =
     record {
       image = image_stays c.args.plan.now.0 c.args.plan.now.1 c.args.layout.now old c.in-Step.step c.in-Some.update.now
           c.requires.modelled.image plan due new c.in_ok-entry.entry told;
-      prepared = subst (λ s. IsPreparedFor s c.args.layout.now c.rebuild.new.model) c.spec-2.ensures.is c.rebuild.ensures.prepared;
-      model = subst (λ s. IsModelOf s c.args.layout.now new c.rebuild.new.model) c.spec-2.ensures.is c.rebuild.ensures.model;
+      prepared = subst (λ s. IsPreparedFor s c.args.layout.now c.renew.new.model) c.spec-2.ensures.is c.renew.ensures.prepared;
+      model = subst (λ s. IsModelOf s c.args.layout.now new c.renew.new.model) c.spec-2.ensures.is c.renew.ensures.model;
     }
 
 pub returns-clause-brings : goal.returns-clause-brings

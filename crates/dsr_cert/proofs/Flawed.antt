@@ -1,5 +1,5 @@
 -- A plan has no flaw.
-use Rattle.std.proofs.Common.{◌≡◌, ◌⊎◌, ℕ, inl, inr, true, false, Some, sym, subst, ◌∙◌}
+use Rattle.std.proofs.Common.{◌≡◌, ◌⊎◌, ℕ, inl, inr, true, Some, sym, subst, ◌∙◌}
 use Rattle.std.proofs.lemmas.Bool.{false≢true}
 use Rattle.dsr_cert.specs.Flaws.{Uncovered, Unlisted, Falsifying, Breaking, Relying, HasNoFlaw, HasWay}
 use Rattle.dsr_ir.specs.declared.declarations.Spec.{Spec}

@@ -1,14 +1,13 @@
 -- A text is read as one choice.
-use Rattle.std.proofs.Common.{◌≡◌, ◌≤◌, ◌<◌, ◌+◌, ◌-◌, ◌^◌, ◌++◌, ◌∙◌, ℕ, zero, suc, List, [], ◌∷◌, Option, Some, length, map, slice_get, refl, sym, ap, subst, arith}
-use Rattle.std.specs.Prelude.{codes, decimal, nat_eq, option_and_then}
+use Rattle.std.proofs.Common.{◌≡◌, ◌≤◌, ◌<◌, ◌+◌, ◌-◌, ◌^◌, ◌++◌, ◌∙◌, ℕ, suc, List, [], ◌∷◌, Some, length, map, slice_get, refl, sym, ap, subst, arith}
+use Rattle.std.specs.Prelude.{codes, decimal, option_and_then}
 use Rattle.std.proofs.lemmas.Fmt.{decimal_injective}
 use Rattle.std.proofs.lemmas.List.{length-append}
 use Rattle.std.proofs.lemmas.Option.{slice_get_within}
-use Rattle.bstr.specs.Text.{lines_of}
 use Rattle.dsr_cert.proofs.Naming.{test_numbers}
 use Rattle.dsr_cert.proofs.Numbers.{limit}
 use Rattle.dsr_cert.proofs.Saying.{cancel_front, same_ended}
-use Rattle.dsr_cert.specs.Certificates.{Fits, IsNamed, IsReadAs, NamesWay, NamesWays, before_level, before_way, certificate_lines, conj_lines, conjs_lines, ended, first_line, last_line, level_bound, row_lines, rows_lines, way_line, way_text}
+use Rattle.dsr_cert.specs.Certificates.{IsReadAs, NamesWay, before_level, before_way, certificate_lines, conj_lines, conjs_lines, ended, last_line, level_bound, row_lines, rows_lines, way_line, way_text}
 use Rattle.dsr_ir.specs.declared.constraints.Conj.{Conj}
 use Rattle.dsr_ir.specs.declared.constraints.Constraint.{Constraint}
 use Rattle.dsr_ir.specs.declared.constraints.Literal.{Literal}
@@ -18,12 +17,11 @@ use Rattle.dsr_graph_theory.proofs.FirstKept.{few_listed}
 use Rattle.dsr_plan_laws.proofs.Unique.{listed_one}
 use Rattle.dsr_graph_theory.specs.Owners.{Owner}
 use Rattle.dsr_meaning.specs.Lists.{each_at}
-use Rattle.dsr_plan_theory.specs.Plans.{IsListedAt, owner_at, way_at}
+use Rattle.dsr_plan_theory.specs.Plans.{IsListedAt, owner_at}
 use Rattle.dsr_plan_theory.specs.declared.choices.Choice.{Choice}
 use Rattle.dsr_plan_theory.specs.declared.choices.Row.{Row}
 use Rattle.dsr_plan_theory.specs.declared.choices.Way.{Way}
 use Rattle.dsr_plan_theory.specs.declared.choices.Way.TheVariants.{Test, By}
-use Rattle.dsr_update_theory.specs.Templates.{literal_at}
 
 -- ---- lists that are made part by part
 

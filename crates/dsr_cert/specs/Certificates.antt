@@ -1,5 +1,5 @@
 -- The text of a choice, and which text is that of which choice.
-use Rattle.std.specs.Prelude.{◌≡◌, ◌≤◌, ◌+◌, ◌++◌, ℕ, false, List, [], ◌∷◌, Some, length, codes, decimal, slice_get, ◌<◌, nat_eq, if◌then◌else◌, map}
+use Rattle.std.specs.Prelude.{◌≡◌, ◌+◌, ◌++◌, ℕ, false, List, [], ◌∷◌, Some, length, codes, decimal, slice_get, ◌<◌, nat_eq, if◌then◌else◌, map}
 use Rattle.std.specs.List.{flat_map}
 use Rattle.bstr.specs.Text.{lines_of}
 use Rattle.dsr_answers.specs.Texts.{constraint_name}

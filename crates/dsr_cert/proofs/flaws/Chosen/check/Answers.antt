@@ -1,4 +1,4 @@
-use Rattle.std.proofs.Common.{[], ◌∷◌}
+use Rattle.std.proofs.Common.{[]}
 use Rattle.std.proofs.lemmas.Result.{err_from_is_err_and}
 use Rattle.dsr_cert.proofs.Ranks.{none_more, none_yet, searches_last, tells_found}
 use Rattle.dsr_cert.proofs.flaws.Chosen.check.Goals as goal

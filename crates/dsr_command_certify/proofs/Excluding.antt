@@ -1,5 +1,5 @@
 -- A certificate has no fault.
-use Rattle.std.proofs.Common.{◌≡◌, ℕ, List, sym, subst}
+use Rattle.std.proofs.Common.{ℕ, List, subst}
 use Rattle.dsr_cert.proofs.Flawed.{no_flaw}
 use Rattle.dsr_cert.specs.Flaws.{IsFirstFlaw}
 use Rattle.dsr_cert.specs.Forms.{IsFirstWrong}

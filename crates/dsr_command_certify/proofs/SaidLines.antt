@@ -1,5 +1,5 @@
 -- Each line of the text of a choice that may be said is of its form, so the text is read as that choice.
-use Rattle.std.proofs.Common.{◌≡◌, ◌≤◌, ◌<◌, ◌+◌, ◌-◌, ◌++◌, ◌⊎◌, ◌∙◌, ℕ, true, All, List, [], ◌∷◌, Option, None, Some, MatchOption, inl, inr, length, map, get_or, slice_get, refl, sym, ap, subst, arith}
+use Rattle.std.proofs.Common.{◌≡◌, ◌≤◌, ◌<◌, ◌+◌, ◌-◌, ◌++◌, ◌⊎◌, ◌∙◌, ℕ, true, All, List, [], ◌∷◌, Option, None, Some, inl, inr, length, map, get_or, slice_get, refl, sym, ap, subst, arith}
 use Rattle.std.specs.Prelude.{codes, decimal, option_and_then}
 use Rattle.std.specs.Option.{option_map_or}
 use Rattle.std.specs.Str.Parse.{AllDigits}

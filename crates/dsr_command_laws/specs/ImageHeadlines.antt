@@ -71,7 +71,7 @@ ChecksNothingElse words before after status =
     → command_of words ≡ Some (Check spec_name image_name)
     → (status ≡ Said verdicts.Ok → WasChecked files words before after verdicts.Ok)
     × (status ≡ Said verdicts.Inconsistent
-      → WasChecked files words before after verdicts.Inconsistent)
+    → WasChecked files words before after verdicts.Inconsistent)
 
 -- the words ask for the canonical text of a specification, and this tree is that of its text
 pub record IsPrinted (files : Files) (words : List (List ℕ)) (tree : TreeShape) : Type 0 where

@@ -62,7 +62,7 @@ FindsNothingElse words before after status =
     → command_of words ≡ Some (asking.Plan spec_name)
     → (status ≡ Said verdicts.Ok → WasPlanned files words before after verdicts.Ok)
     × (status ≡ Said verdicts.PlanRefused
-      → WasPlanned files words before after verdicts.PlanRefused)
+    → WasPlanned files words before after verdicts.PlanRefused)
 
 -- ---- certificates
 
@@ -117,7 +117,7 @@ CertifiesNothingElse words before after status =
     → command_of words ≡ Some (Certify spec_name name)
     → (status ≡ Said verdicts.Ok → WasCertified files words name before after verdicts.Ok)
     × (status ≡ Said verdicts.PlanRefused
-      → WasCertified files words name before after verdicts.PlanRefused)
+    → WasCertified files words name before after verdicts.PlanRefused)
 
 -- the words ask to verify a certificate under a specification: their files are within their limits
 pub record IsToVerify (files : Files) (words : List (List ℕ)) (spec : Spec)
@@ -161,4 +161,4 @@ VerifiesNothingElse words before after status =
     → command_of words ≡ Some (Verify spec_name certificate_name)
     → (status ≡ Said verdicts.Ok → WasVerified files words before after verdicts.Ok)
     × (status ≡ Said verdicts.CertRefused
-      → WasVerified files words before after verdicts.CertRefused)
+    → WasVerified files words before after verdicts.CertRefused)

@@ -112,6 +112,43 @@ fn pairs_answer(alloc: Global, room: usize, pushed: &[(u32, u64)], asked: &[Ques
     }
 }
 
+// Takes a pair out and puts another in: which of both changed anything.
+fn exchange(pairs: &mut Pairs, gone: (u32, u64), come: (u32, u64)) -> (bool, bool)
+    requires { pairs.old.ordered ≡ true }
+    ensures { pairs.new.ordered ≡ true }
+{
+    let was_there = pairs.remove(gone.0, gone.1);
+    if pairs.len() < pairs.room() {
+        (was_there, pairs.insert(come.0, come.1))
+    } else {
+        (was_there, false)
+    }
+}
+
+// What is left of (1, 2), (1, 4), (1, 6) and (3, 8), of which the third goes, and what comes.
+fn exchange_all(pairs: &mut Pairs) -> bool {
+    for (first, second) in &PUSHED_BESIDE {
+        push(pairs, *first, *second);
+    }
+    pairs.sort();
+    let changes = exchange(pairs, (1, 6), (2, 4)) == (true, true)
+        && exchange(pairs, (1, 5), (0, 0)) == (false, true)
+        && exchange(pairs, (9, 9), (2, 4)) == (false, false);
+    changes
+        && pairs.len() == 5
+        && pairs.first() == Some((0, 0))
+        && pairs.after(1, 4) == Some((2, 4))
+        && pairs.last_before(2, 4) == Some(1)
+        && pairs.last_before(1, 4).is_none()
+}
+
+pub fn are_exchanged_in_order(alloc: Global) -> bool {
+    match Pairs::new(alloc, 6) {
+        Ok(mut pairs) => exchange_all(&mut pairs),
+        Err(_) => false,
+    }
+}
+
 pub fn are_asked_in_order(alloc: Global) -> bool {
     pairs_answer(alloc, 6, &PUSHED, &ASKED) && pairs_answer(alloc, 4, &PUSHED_BESIDE, &ASKED_NEAR)
 }

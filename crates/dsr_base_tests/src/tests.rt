@@ -19,5 +19,6 @@ fn lowest_crates_answer(rt: HostRuntime) {
     assert!(rt; numbers::targets_have_sources(alloc));
     assert!(rt; functional::are_asked_in_order(alloc));
     assert!(rt; pairs::are_asked_in_order(alloc));
+    assert!(rt; pairs::are_exchanged_in_order(alloc));
     assert!(rt; relations::are_asked_in_order(alloc));
 }

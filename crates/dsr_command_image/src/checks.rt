@@ -14,6 +14,7 @@ use dsr_image::Whole;
 use dsr_ir::{Binding, Layout, NoMemory, Spec};
 use dsr_layout::layout;
 use dsr_model::Model;
+use dsr_resolve::ResolvedRules;
 use dsr_script::Told;
 use dsr_truth::violations;
 use std::alloc::Global;
@@ -30,7 +31,8 @@ pub fn violations_of(
         (map bound_constraint vs.items)) }
 {
     let mut model = Model::prepare(alloc, spec, layout)?;
-    rebuild(&mut model, spec, layout, image);
+    let rules = ResolvedRules::new(alloc, spec, layout)?;
+    rebuild(&mut model, spec, layout, &rules, image);
     violations(alloc, &model, spec)
 }
 

@@ -5,8 +5,9 @@ ghost use Rattle.dsr_repair_theory.specs.Runs.{IsRun};
 
 use dsr_image::Whole;
 use dsr_ir::{Layout, NoMemory};
+use dsr_log::Log;
 use dsr_plan_theory::Plan;
-use dsr_repair_theory::{Log, Outcome};
+use dsr_repair_theory::Outcome;
 use std::alloc::Global;
 
 /// A repair that ended.

@@ -5,7 +5,8 @@ ghost use Rattle.dsr_script.specs.Moves.{shown};
 
 use dsr_answers::{constraint_name, pool_name, push, push_binding, push_named, push_number};
 use dsr_ir::{NoMemory, Spec};
-use dsr_repair_theory::{Log, Need};
+use dsr_log::Log;
+use dsr_repair_theory::Need;
 use dsr_report::text;
 use dsr_script::{Told, Verdict};
 use std::alloc::Global;

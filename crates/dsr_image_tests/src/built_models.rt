@@ -12,6 +12,7 @@ use dsr_ir::{Layout, Spec};
 use dsr_layout::layout;
 use dsr_meaning::typed_specifications_are_placeable;
 use dsr_model::Model;
+use dsr_resolve::ResolvedRules;
 use std::alloc::Global;
 
 /// An image with its layout and a model on it.
@@ -56,6 +57,7 @@ pub fn model_of(alloc: Global, spec: &Spec, image: Vec<u8>) -> Option<Found>
     ensures model { IfSome result (λ found. IsModelOf spec.now found.layout found.image found.model) }
 {
     let mut found = prepared(alloc, spec, image)?;
-    rebuild(&mut found.model, spec, &found.layout, &found.image);
+    let rules = ResolvedRules::new(alloc, spec, &found.layout).ok()?;
+    rebuild(&mut found.model, spec, &found.layout, &rules, &found.image);
     Some(found)
 }

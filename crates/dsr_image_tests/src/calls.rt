@@ -9,6 +9,7 @@ ghost use Rattle.std.specs.Bool.{OnTrue};
 ghost use Rattle.dsr_given.specs.Shapes.{Gives, rule_shapes};
 ghost use Rattle.dsr_meaning.specs.Legal.{IsLegalLayout};
 ghost use Rattle.dsr_meaning.specs.Typed.{IsTyped};
+ghost use Rattle.dsr_model.specs.Sets as said;
 ghost use Rattle.dsr_model.specs.Sets.{HasSlot, empty_sets};
 ghost use Rattle.dsr_model.specs.Views.{IsLayoutFor, IsOfPairs};
 
@@ -18,7 +19,7 @@ use crate::headings::{heading_of, name_and_image};
 use dsr_given::Given;
 use dsr_ir::{Element, Fact, Instance, Layout, NoMemory, Pool, Rule, Spec, Target, TryClone};
 use dsr_layout::record_count;
-use dsr_model::{Members, Model};
+use dsr_model::{Members, Model, is_premise};
 use dsr_related::Relation;
 use dsr_spec::specification;
 use dsr_test_text::Lines;
@@ -67,7 +68,7 @@ fn has_slot(spec: &Spec, layout: &Layout, set: u32, slot: u32) -> bool
     }
 }
 
-// Whether something waits once a slot alone is a member of a set.
+// Whether something waits once a slot alone is a member of a set, which has to be a premise for that.
 fn waits_alone(
     alloc: Global,
     spec: &Spec,
@@ -79,6 +80,7 @@ fn waits_alone(
     requires typed { IsTyped spec.now }
     requires legal { IsLegalLayout layout.now }
     requires slot { HasSlot (empty_sets spec.now layout.now) set slot }
+    requires premise { waits ≡ true → said.is_premise spec.now.rules set ≡ true }
 {
     let mut members = Members::new(alloc, spec, layout)?;
     members.add(set, slot, waits);
@@ -160,7 +162,7 @@ fn is_waiting_right(alloc: Global, spec: &Spec, layout: &Layout) -> bool
     if !has_slot(spec, layout, 0, 1) {
         return false;
     }
-    let asked = waits_alone(alloc, spec, layout, 0, 1, true);
+    let asked = waits_alone(alloc, spec, layout, 0, 1, is_premise(spec, 0));
     let unasked = waits_alone(alloc, spec, layout, 0, 1, false);
     asked.unwrap_or(false) && !unasked.unwrap_or(true)
 }

@@ -6,8 +6,9 @@ use Rattle.std.proofs.lemmas.Bool.Decides.{nat_tests}
 use Rattle.std.proofs.lemmas.List.{append-nil, drop_all, drop-drop, get_or-drop, length-drop, length-map, take-append-le, take_all}
 use Rattle.std.proofs.lemmas.List.Edits.{map_over_more}
 use Rattle.std.proofs.lemmas.List.Elements.{All-nil, All-cons}
+use Rattle.std.proofs.lemmas.List.Sums.{count_by-le-length, length-filter}
 use Rattle.std.proofs.lemmas.Option.{slice_get-get_or}
-use Rattle.dsr_repair.specs.Notes.{AreNoted, changed, note_of, notes_of, renewed}
+use Rattle.dsr_repair.specs.Notes.{AreNoted, changed, is_change, note_of, notes_of, renewed}
 use Rattle.dsr_repair.specs.Spans.{IsClear}
 use Rattle.dsr_repair.specs.declared.spans.Span.{Span}
 use Rattle.dsr_repair_theory.specs.Entries.{changes, changes_from}
@@ -148,6 +149,13 @@ module _ (spans : List Span) (old new : List ℕ) (long : length new ≡ length 
   -- where all others stay, the noted bytes that are others now are all that differ
   pub changed_are : (notes : List ByteChange) → AreNoted spans old 0 notes → changed new notes ≡ changes old new
   changed_are notes are = changed_from 0 notes are
+
+-- ---- no more are kept than were noted
+
+pub changed_few : (bytes : List ℕ) (notes : List ByteChange) → length (changed bytes notes) ≤ length notes
+changed_few bytes notes =
+    let all = map (renewed bytes) notes in
+    omega (arith, length-filter is_change all, count_by-le-length is_change all, length-map notes (renewed bytes))
 
 -- ---- the notes, renewed one after the other
 

@@ -1,5 +1,5 @@
 -- Writes that are made one after the other, with what they set.
-use Rattle.std.proofs.Common.{◌≡◌, ◌<◌, ◌+◌, ℕ, List, [], ◌∷◌, ◌++◌, Some, MatchOption, length, take, get_or, refl, sym, subst}
+use Rattle.std.proofs.Common.{◌≡◌, ◌<◌, ◌≤◌, ◌+◌, ℕ, List, [], ◌∷◌, ◌++◌, Some, MatchOption, length, take, get_or, refl, sym, subst, arith}
 use Rattle.std.proofs.lemmas.List.{take_more}
 use Rattle.dsr_ir.specs.declared.declarations.Spec.{Spec}
 use Rattle.dsr_ir.specs.declared.layouts.Layout.{Layout}
@@ -38,6 +38,14 @@ module _ (spec : Spec) (layout : Layout) (step : Step) where
   sets_next writes n d {old} {middle} {new} {sets} {more} below first last =
       subst (λ ws. AreSet spec layout step ws old new (sets ++ more))
       (sym (take_more writes n d below)) (sets_joined first last)
+
+  -- no write sets more than one value
+  pub sets_few :
+      {writes : List Write} {old new : List ℕ} {sets : List CellSet}
+      → AreSet spec layout step writes old new sets → length sets ≤ length writes
+  sets_few done = omega arith
+  sets_few (skipped write cell number at picked wanted rest) = omega (arith, sets_few rest)
+  sets_few (made write cell number at picked unwanted put rest) = omega (arith, sets_few rest)
 
 -- one write that isn't made
 pub set_skipped :

@@ -4,6 +4,7 @@ pub mod Cursors
 pub mod Literals
 pub mod Chosen
 pub mod Supplies
+pub mod Making
 pub mod Notes
 pub mod Spans
 pub mod Planned

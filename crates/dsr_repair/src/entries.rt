@@ -1,5 +1,5 @@
 // The writes of a step, made in place, with what they set.
-ghost use Rattle.std.specs.Prelude.{◌≡◌, ◌<◌, ◌≤◌, ◌+◌, ◌++◌, [], ◌∷◌, All, IfSome, IsSome, MatchOption, length, option_to_list, vec_capacity, vec_len};
+ghost use Rattle.std.specs.Prelude.{◌≡◌, ◌<◌, ◌≤◌, ◌+◌, ◌++◌, [], ◌∷◌, All, IfSome, IsSome, MatchOption, OnOk, length, option_to_list, vec_capacity, vec_len};
 ghost use Rattle.dsr_image.specs.Images.{IsCellClaimed};
 ghost use Rattle.dsr_ir.specs.Layouts as layouts;
 ghost use Rattle.dsr_meaning.specs.Instances as meaning;
@@ -12,7 +12,7 @@ ghost use Rattle.dsr_step_theory.specs.Steps.{CanWrite};
 ghost use Rattle.dsr_update.specs.Claims.{CanReset, IsSlotClaimed};
 
 use dsr_image::ImageBytes;
-use dsr_ir::{Layout, Spec, Write};
+use dsr_ir::{Layout, NoMemory, Spec, Write};
 use dsr_repair_theory::CellSet;
 use dsr_step_theory::Step;
 use dsr_update::{is_wanted, picked_number, reset, written_cell};
@@ -65,6 +65,16 @@ fn push_set(sets: &mut Vec<CellSet>, made: Option<CellSet>)
     if let Some(set) = made {
         sets.push_reserved(set);
     }
+}
+
+/// No values, with room for so many.
+pub fn make_room(sets: &mut Vec<CellSet>, count: usize) -> Result<(), NoMemory>
+    ensures none { sets.new.items ≡ [] }
+    ensures room { OnOk result (vec_len sets.new + count ≤ vec_capacity sets.new) }
+{
+    sets.clear();
+    sets.reserve(count)?;
+    Ok(())
 }
 
 /// Makes the writes in order, each unless what it wants holds already, and tells what they set.

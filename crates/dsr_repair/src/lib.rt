@@ -9,6 +9,7 @@
 mod bindings;
 mod choosing;
 mod cursors;
+mod drafts;
 mod dues;
 mod entries;
 mod fresh;
@@ -24,6 +25,7 @@ mod touched;
 
 pub use bindings::Violation;
 pub use cursors::Cursor;
+pub use drafts::Draft;
 pub use dues::{due, due_from};
 pub use making::make;
 pub use repairs::repair;

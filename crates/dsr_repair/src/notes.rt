@@ -1,5 +1,5 @@
 // The bytes that a step may change: claimed and noted before it, compared afterwards.
-ghost use Rattle.std.specs.Prelude.{◌≡◌, ◌≤◌, ◌<◌, ◌-◌, ◌++◌, All, IfOk, OnOk, length};
+ghost use Rattle.std.specs.Prelude.{◌≡◌, ◌≤◌, ◌<◌, ◌-◌, ◌++◌, All, OnOk, length};
 ghost use Rattle.dsr_image.specs.Images.{StayClaimed};
 ghost use Rattle.dsr_repair.specs.Notes.{AreNoted, changed, notes_of};
 ghost use Rattle.dsr_repair.specs.Spans.{AreSpansClaimed, AreWithin};
@@ -8,7 +8,6 @@ use crate::spans::{Span, next_span};
 use dsr_image::ImageBytes;
 use dsr_ir::NoMemory;
 use dsr_repair_theory::ByteChange;
-use std::alloc::Global;
 
 /// Claims the bytes of all spans.
 pub fn claim_spans<I: ImageBytes>(spans: &[Span], image: &mut I) -> Result<(), NoMemory>
@@ -45,23 +44,22 @@ fn note_span<I: ImageBytes>(
     Ok(())
 }
 
-/// Notes each byte of the spans once, by rising place.
-pub fn noted<I: ImageBytes>(
-    alloc: Global,
+/// Notes each byte of the spans once, by rising place, and no other ones.
+pub fn note_all<I: ImageBytes>(
     spans: &[Span],
     image: &I,
-) -> Result<Vec<ByteChange>, NoMemory>
+    notes: &mut Vec<ByteChange>,
+) -> Result<(), NoMemory>
     requires within { AreWithin spans.now (length (I.ImageBytes.bytes image.now)) }
-    ensures { IfOk result (λ notes.
-        AreNoted spans.now (I.ImageBytes.bytes image.now) 0 notes.items) }
+    ensures { OnOk result (AreNoted spans.now (I.ImageBytes.bytes image.now) 0 notes.new.items) }
 {
-    let mut notes = Vec::new(alloc);
+    notes.clear();
     let mut from = 0;
     while let Some(span) = next_span(spans, from) {
-        note_span(span, image, &mut notes)?;
+        note_span(span, image, notes)?;
         from = span.end;
     }
-    Ok(notes)
+    Ok(())
 }
 
 /// Keeps those of the noted bytes that are others now. Takes no memory.
@@ -73,8 +71,4 @@ pub fn keep_changed<I: ImageBytes>(image: &I, notes: &mut Vec<ByteChange>)
         note.new = image.byte(note.place);
     }
     notes.retain(|note| note.old != note.new);
-    // Of a record that is reset, few bytes may be others: what no change needs is given back.
-    if notes.len() < notes.capacity() / 2 {
-        notes.shrink_to_fit();
-    }
 }

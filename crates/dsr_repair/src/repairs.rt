@@ -7,13 +7,16 @@ ghost use Rattle.dsr_repair_theory.specs.Turns.{IsOutcome};
 ghost use Rattle.dsr_step_theory.specs.Images.{FixedFieldsStay, IsImageOf};
 
 use crate::cursors::Cursor;
+use crate::drafts::Draft;
 use crate::steps::step;
 use dsr_fixpoint::rebuild;
 use dsr_image::ImageBytes;
 use dsr_ir::{Layout, NoMemory, Spec};
+use dsr_log::Log;
 use dsr_model::Model;
 use dsr_plan_theory::Plan;
-use dsr_repair_theory::{Log, Outcome, Turn};
+use dsr_repair_theory::{Outcome, Turn};
+use dsr_resolve::ResolvedRules;
 use std::alloc::Global;
 
 // Makes the steps that are due until none is left. That this ends is due to the bound.
@@ -35,9 +38,20 @@ fn make_steps<I: ImageBytes>(
 {
     let mut cursor = Cursor::new(alloc, plan.choice())?;
     let mut model = Model::prepare(alloc, spec, layout)?;
-    rebuild(&mut model, spec, layout, image);
+    let rules = ResolvedRules::new(alloc, spec, layout)?;
+    rebuild(&mut model, spec, layout, &rules, image);
+    let mut draft = Draft::new(alloc);
     'steps: loop {
-        match step(alloc, plan, layout, image, &mut model, &mut cursor, log)? {
+        match step(
+            plan,
+            layout,
+            &rules,
+            image,
+            &mut model,
+            &mut cursor,
+            &mut draft,
+            log,
+        )? {
             Turn::Done => return Ok(Outcome::Consistent),
             Turn::Empty(need) => return Ok(Outcome::Empty(need)),
             Turn::Step(_) => {}

@@ -4,20 +4,23 @@ ghost use Rattle.dsr_repair.specs.Cursors.{IsCursorOn};
 ghost use Rattle.dsr_repair.specs.Planned.{chosen_update};
 ghost use Rattle.dsr_repair.specs.Stepping.{Brings, IsModelled, IsMoved, TakesTurn, state};
 ghost use Rattle.dsr_repair_theory.specs.Turns.{IsTurn};
+ghost use Rattle.dsr_resolve.specs.Rules.{AreResolved};
 ghost use Rattle.dsr_step_theory.specs.Images.{FixedFieldsStay};
 
 use crate::bindings::Violation;
 use crate::cursors::Cursor;
+use crate::drafts::Draft;
 use crate::dues::due_from;
 use crate::making::make;
 use crate::renewing::renew;
 use dsr_image::ImageBytes;
 use dsr_ir::{Layout, NoMemory, Update};
+use dsr_log::Log;
 use dsr_model::Model;
 use dsr_plan_theory::{Plan, Way};
-use dsr_repair_theory::{Log, Turn};
+use dsr_repair_theory::Turn;
+use dsr_resolve::ResolvedRules;
 use dsr_step_theory::Step;
-use std::alloc::Global;
 
 // The update of the plan that a step makes.
 fn update_of<'a>(plan: &'a Plan, step: &Step) -> Option<&'a Update>
@@ -33,19 +36,21 @@ fn update_of<'a>(plan: &'a Plan, step: &Step) -> Option<&'a Update>
 
 /// Makes the step that is due, pushes its entry, makes the model that of the new bytes, and moves
 /// the cursor to the binding for which the step was made: nothing before that is violated now
-/// either. Where nothing
-/// is due, or a supply is empty, all stays as it is; so it does where memory is wanting, but that
-/// more bytes may be claimed. Nothing can fail once a byte is written.
+/// either. Where nothing is due, or a supply is empty, all stays as it is; so it does where memory
+/// is wanting, but that more bytes may be claimed. Nothing can fail once a byte is written. What
+/// the draft held is of no matter.
 pub fn step<I: ImageBytes>(
-    alloc: Global,
     plan: &Plan,
     layout: &Layout,
+    rules: &ResolvedRules,
     image: &mut I,
     model: &mut Model,
     cursor: &mut Cursor,
+    draft: &mut Draft,
     log: &mut Log,
 ) -> Result<Turn, NoMemory>
     requires modelled { IsModelled plan.now.0 layout.now (I.ImageBytes.bytes image.old) model.old }
+    requires rules { AreResolved plan.now.0 layout.now rules.now }
     requires cursor { IsCursorOn plan.now.0 plan.now.1 layout.now (I.ImageBytes.bytes image.old) cursor.old }
     ensures turn { IfOk result (IsTurn plan.now.0 plan.now.1 layout.now (I.ImageBytes.bytes image.old)) }
     ensures taken { IfOk result (TakesTurn plan.now.0 plan.now.1 layout.now
@@ -69,10 +74,8 @@ pub fn step<I: ImageBytes>(
     let Some(update) = update_of(plan, &step) else {
         unreachable!();
     };
-    log.reserve()?;
-    let entry = make(alloc, plan.spec(), layout, &step, update, image)?;
-    log.push(entry);
-    renew(model, plan.spec(), layout, image, update, &step);
+    make(plan.spec(), layout, &step, update, image, draft, log)?;
+    renew(model, plan.spec(), layout, rules, image, update, &step);
     cursor.last = Some(Violation {
         constraint: step.constraint,
         binding: step.binding,

@@ -1,5 +1,5 @@
 // The bytes that a step may change.
-ghost use Rattle.std.specs.Prelude.{◌≡◌, ◌≤◌, ◌++◌, All, IfOk, IfSome, OnOk, option_and_then, option_to_list};
+ghost use Rattle.std.specs.Prelude.{◌≡◌, ◌≤◌, ◌++◌, All, IfSome, OnOk, option_and_then, option_to_list};
 ghost use Rattle.dsr_repair.specs.Spans.{AreWithin, IsWithin, IsWriteSpan, step_spans};
 ghost use Rattle.dsr_repair.specs.Spans as said;
 ghost use Rattle.dsr_meaning.specs.Legal.{HasEntry, IsLegalLayout};
@@ -10,7 +10,6 @@ use dsr_ir::{Element, Layout, NoMemory, Write};
 use dsr_layout::pool_numbers;
 use dsr_step_theory::Step;
 use dsr_update::written_cell;
-use std::alloc::Global;
 
 // The slot of a record.
 fn slot_span(layout: &Layout, elem: Element) -> Option<Span>
@@ -58,24 +57,24 @@ fn write_span(layout: &Layout, step: &Step, write: &Write) -> Span
 }
 
 /// The bytes that a step may change: those of its fresh record, and those of the cells that it
-/// writes.
+/// writes. They take the place of the spans that were there.
 pub fn touched(
-    alloc: Global,
     layout: &Layout,
     step: &Step,
     writes: &[Write],
-) -> Result<Vec<Span>, NoMemory>
+    spans: &mut Vec<Span>,
+) -> Result<(), NoMemory>
     requires legal { IsLegalLayout layout.now }
     requires fresh { IfSome step.now.fresh (IsSlot layout.now) }
     requires entries { All (λ w. HasEntry layout.now step.now.elem w.path.field
         (written_index step.now w)) writes.now }
-    ensures spans { IfOk result (λ spans. spans.items ≡ step_spans layout.now step.now writes.now) }
-    ensures within { IfOk result (λ spans. AreWithin spans.items layout.now.length) }
+    ensures spans { OnOk result (spans.new.items ≡ step_spans layout.now step.now writes.now) }
+    ensures within { OnOk result (AreWithin spans.new.items layout.now.length) }
 {
-    let mut spans = Vec::new(alloc);
-    push_span(&mut spans, fresh_span(layout, step.fresh))?;
+    spans.clear();
+    push_span(spans, fresh_span(layout, step.fresh))?;
     for write in writes {
         spans.push(write_span(layout, step, write))?;
     }
-    Ok(spans)
+    Ok(())
 }

@@ -3,5 +3,5 @@
 
 mod texts;
 
-pub use dsr_repair_theory::Log;
+pub use dsr_log::Log;
 pub use texts::{push_change, push_end, push_entries, push_reset, push_set, push_update, text};

@@ -2,22 +2,25 @@
 ghost use Rattle.std.specs.Prelude.{◌≡◌, ◌++◌, IfOk, OnOk, [], length};
 ghost use Rattle.std.specs.List.{flat_map};
 ghost use Rattle.std.specs.Option.{option_map_or};
+ghost use Rattle.dsr_log.specs.Entries.{entry_of};
 ghost use Rattle.dsr_report.specs.Reports as said;
 
 use dsr_answers::{
     constraint_name, field_name, push, push_binding, push_element, push_named, push_number,
 };
 use dsr_ir::{Element, NoMemory, Spec};
-use dsr_repair_theory::{ByteChange, CellSet, Entry, Log};
+use dsr_log::{EntryHead, EntryRef, Log};
+use dsr_repair_theory::{ByteChange, CellSet};
 use std::alloc::Global;
 
 // Appends a conjunction and a literal, counted from 1.
-fn push_place(text: &mut Vec<u8>, entry: &Entry) -> Result<(), NoMemory>
-    ensures { OnOk result (text.new.items ≡ text.old.items ++ said.place_text entry.now) }
+fn push_place(text: &mut Vec<u8>, head: &EntryHead) -> Result<(), NoMemory>
+    ensures { OnOk result (text.new.items ≡ text.old.items
+        ++ said.place_text (entry_of head.now [] [])) }
 {
-    push_number(text, u64::from(entry.conj) + 1)?;
+    push_number(text, u64::from(head.conj) + 1)?;
     push(text, b".")?;
-    push_number(text, u64::from(entry.literal) + 1)
+    push_number(text, u64::from(head.literal) + 1)
 }
 
 /// Appends the line that begins the entry with this number.
@@ -25,20 +28,20 @@ pub fn push_update(
     text: &mut Vec<u8>,
     spec: &Spec,
     number: u64,
-    entry: &Entry,
+    head: &EntryHead,
 ) -> Result<(), NoMemory>
     ensures { OnOk result (text.new.items ≡ text.old.items
-        ++ said.update_line spec.now number entry.now) }
+        ++ said.update_line spec.now number (entry_of head.now [] [])) }
 {
     push(text, b"update ")?;
     push_number(text, number)?;
-    push_named(text, b" ", constraint_name(spec, entry.constraint))?;
+    push_named(text, b" ", constraint_name(spec, head.constraint))?;
     push(text, b" ")?;
-    push_binding(text, spec, &entry.binding)?;
+    push_binding(text, spec, &head.binding)?;
     push(text, b" ")?;
-    push_place(text, entry)?;
+    push_place(text, head)?;
     push(text, b" ")?;
-    push_number(text, u64::from(entry.rule) + 1)?;
+    push_number(text, u64::from(head.rule) + 1)?;
     push(text, b"\n")
 }
 
@@ -134,23 +137,33 @@ fn push_changes(text: &mut Vec<u8>, changes: &[ByteChange]) -> Result<(), NoMemo
 }
 
 // Appends the lines of the entry with this number.
-fn push_entry(text: &mut Vec<u8>, spec: &Spec, number: u64, entry: &Entry) -> Result<(), NoMemory>
+fn push_entry(
+    text: &mut Vec<u8>,
+    spec: &Spec,
+    number: u64,
+    entry: &EntryRef,
+) -> Result<(), NoMemory>
     ensures { OnOk result (text.new.items ≡ text.old.items
         ++ said.entry_text spec.now number entry.now) }
 {
-    push_update(text, spec, number, entry)?;
-    push_reset(text, spec, entry.reset)?;
-    push_sets(text, spec, entry.sets.items())?;
-    push_changes(text, entry.bytes.items())
+    let head = entry.head();
+    push_update(text, spec, number, head)?;
+    push_reset(text, spec, head.reset)?;
+    push_sets(text, spec, entry.sets())?;
+    push_changes(text, entry.bytes())
 }
 
-/// Appends the lines of entries, which count from 1.
-pub fn push_entries(text: &mut Vec<u8>, spec: &Spec, entries: &[Entry]) -> Result<(), NoMemory>
+/// Appends the lines of all entries, which count from 1.
+pub fn push_entries(text: &mut Vec<u8>, spec: &Spec, log: &Log) -> Result<(), NoMemory>
     ensures { OnOk result (text.new.items ≡ text.old.items
-        ++ said.entries_text spec.now entries.now) }
+        ++ said.entries_text spec.now log.now.entries) }
 {
-    for (place, entry) in entries.iter().enumerate() {
-        push_entry(text, spec, place as u64 + 1, entry)?;
+    let mut entries = log.entries();
+    for place in 0..log.len() {
+        let Some(entry) = entries.next() else {
+            unreachable!();
+        };
+        push_entry(text, spec, place as u64 + 1, &entry)?;
     }
     Ok(())
 }
@@ -169,8 +182,7 @@ pub fn text(alloc: Global, spec: &Spec, log: &Log) -> Result<Vec<u8>, NoMemory>
     ensures { IfOk result (λ text. text.items ≡ said.report_text spec.now log.now.entries) }
 {
     let mut text = Vec::new(alloc);
-    let entries = log.entries();
-    push_entries(&mut text, spec, entries)?;
-    push_end(&mut text, entries.len() as u64)?;
+    push_entries(&mut text, spec, log)?;
+    push_end(&mut text, log.len() as u64)?;
     Ok(text)
 }

@@ -14,7 +14,7 @@ use std::alloc::Global;
 fn many(log: &Log) -> usize
     ensures { length log.now.entries < 2 ^ 64 }
 {
-    log.entries().len()
+    log.len()
 }
 
 /// The log that is read from the report of a run: each of its entries, but for fields that are

@@ -2,6 +2,7 @@
 use Rattle.std.specs.Prelude.{List, [], ◌∷◌, Option, None, Some, drop, length}
 use Rattle.std.specs.Option.{option_map_or}
 use Rattle.dsr_ir.specs.declared.tuples.Element.{Element}
+use Rattle.dsr_log.specs.declared.entries.EntryHead.{EntryHead}
 use Rattle.dsr_repair_theory.specs.declared.entries.ByteChange.{ByteChange}
 use Rattle.dsr_repair_theory.specs.declared.entries.CellSet.{CellSet}
 use Rattle.dsr_repair_theory.specs.declared.entries.Entry.{Entry}
@@ -48,6 +49,17 @@ sets_ahead lines = told_ahead set_of lines
 
 abbrev pub bytes_ahead : List Line → List ByteChange
 bytes_ahead lines = told_ahead change_of lines
+
+-- what is told of an update beside what it changed
+abbrev pub head_with : Head → Option Element → EntryHead
+head_with head reset = record {
+  constraint = head.constraint;
+  binding = head.binding;
+  conj = head.conj;
+  literal = head.literal;
+  rule = head.rule;
+  reset = reset;
+}
 
 -- the entry of an update with what stands behind it
 abbrev pub entry_of : Head → List Line → Entry

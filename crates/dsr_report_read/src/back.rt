@@ -15,7 +15,7 @@ use std::alloc::Global;
 fn many(log: &Log) -> usize
     ensures { length log.now.entries < 2 ^ 64 }
 {
-    log.entries().len()
+    log.len()
 }
 
 /// The log that is read from the report of this one: the same. Names have to be spelled as the

@@ -1,11 +1,11 @@
 // Lines in a row, as entries.
-ghost use Rattle.std.specs.Prelude.{◌≡◌, IfOk, drop, length};
+ghost use Rattle.std.specs.Prelude.{◌≡◌, ◌++◌, ◌∷◌, [], IfOk, OnOk, drop, length};
 ghost use Rattle.dsr_report_read.specs.Grouped as said;
 
 use crate::lines::{Head, Line};
-use dsr_ir::{Element, NoMemory, Seq};
-use dsr_repair_theory::{ByteChange, CellSet, Entry};
-use dsr_report::Log;
+use dsr_ir::{Element, NoMemory};
+use dsr_log::{EntryHead, EntryRef, Log};
+use dsr_repair_theory::{ByteChange, CellSet};
 use std::alloc::Global;
 
 fn reset_ahead(lines: &[Line]) -> Option<Element>
@@ -80,24 +80,32 @@ fn skip(lines: &[Line], count: usize) -> &[Line]
     lines.get(count..).unwrap_or(&[])
 }
 
-// The entry of an update with what stands behind it.
-fn entry_of(alloc: Global, head: Head, rest: &[Line]) -> Result<Entry, NoMemory>
-    ensures { IfOk result (λ entry. entry ≡ said.entry_of head rest.now) }
+// What is told of an update beside what it changed.
+fn head_with(head: Head, reset: Option<Element>) -> EntryHead
+    ensures { result ≡ said.head_with head reset }
 {
-    let reset = reset_ahead(rest);
-    let rest = behind_reset(rest);
-    let sets = sets_ahead(alloc, rest)?;
-    let bytes = bytes_ahead(alloc, skip(rest, sets.len()))?;
-    Ok(Entry {
+    EntryHead {
         constraint: head.constraint,
         binding: head.binding,
         conj: head.conj,
         literal: head.literal,
         rule: head.rule,
         reset,
-        sets: Seq::new(sets),
-        bytes: Seq::new(bytes),
-    })
+    }
+}
+
+// Notes the entry of an update with what stands behind it.
+fn push_entry(alloc: Global, head: Head, rest: &[Line], log: &mut Log) -> Result<(), NoMemory>
+    ensures { OnOk result (log.new.entries
+        ≡ log.old.entries ++ said.entry_of head rest.now ∷ []) }
+{
+    let reset = reset_ahead(rest);
+    let rest = behind_reset(rest);
+    let sets = sets_ahead(alloc, rest)?;
+    let bytes = bytes_ahead(alloc, skip(rest, sets.len()))?;
+    log.reserve(sets.len(), bytes.len())?;
+    log.push(&EntryRef::new(head_with(head, reset), &sets, &bytes));
+    Ok(())
 }
 
 fn head_of(line: &Line) -> Option<Head>
@@ -116,9 +124,7 @@ pub fn entries_of(alloc: Global, lines: &[Line]) -> Result<Log, NoMemory>
     let mut log = Log::new(alloc);
     for (place, line) in lines.iter().enumerate() {
         if let Some(head) = head_of(line) {
-            let entry = entry_of(alloc, head, skip(lines, place + 1))?;
-            log.reserve()?;
-            log.push(entry);
+            push_entry(alloc, head, skip(lines, place + 1), &mut log)?;
         }
     }
     Ok(log)

@@ -1,27 +1,27 @@
 // Whether a line is the printed one.
 ghost use Rattle.std.specs.Prelude.{◌≡◌, Decides, IfOk, None, []};
+ghost use Rattle.dsr_log.specs.Entries.{entry_of};
 ghost use Rattle.dsr_report.specs.Reports.{byte_line, end_line, reset_line, set_line, update_line};
 ghost use Rattle.dsr_report_read.specs.Lines.{bare};
 
 use crate::lines::Head;
-use dsr_ir::{Element, NoMemory, Seq, Spec};
-use dsr_repair_theory::{ByteChange, CellSet, Entry};
+use dsr_ir::{Element, NoMemory, Spec};
+use dsr_log::EntryHead;
+use dsr_repair_theory::{ByteChange, CellSet};
 use dsr_report::{push_change, push_end, push_reset, push_set, push_update};
 use std::alloc::Global;
 
-// An entry that nothing else is told of.
-fn bare(alloc: Global, head: Head) -> Entry
-    ensures { result ≡ bare head }
+// The head of an entry that nothing else is told of.
+fn bare(head: Head) -> EntryHead
+    ensures { entry_of result [] [] ≡ bare head }
 {
-    Entry {
+    EntryHead {
         constraint: head.constraint,
         binding: head.binding,
         conj: head.conj,
         literal: head.literal,
         rule: head.rule,
         reset: None,
-        sets: Seq::new(Vec::new(alloc)),
-        bytes: Seq::new(Vec::new(alloc)),
     }
 }
 
@@ -35,7 +35,7 @@ pub fn is_update(
     ensures { IfOk result (λ is. Decides is (text.now ≡ update_line spec.now number (bare head))) }
 {
     let mut line = Vec::new(alloc);
-    push_update(&mut line, spec, number, &bare(alloc, head))?;
+    push_update(&mut line, spec, number, &bare(head))?;
     Ok(line.as_slice() == text)
 }
 

@@ -6,8 +6,9 @@ use anyhow::bail;
 use dsr_image::Whole;
 use dsr_ir::{Spec, Template};
 use dsr_layout::layout;
+use dsr_log::Log;
 use dsr_meaning::typed_specifications_are_placeable;
-use dsr_repair::make;
+use dsr_repair::{Draft, make};
 use dsr_step_theory::Step;
 use std::alloc::Global;
 
@@ -41,7 +42,10 @@ pub fn applied(
         bail!("no such fresh record");
     }
     let mut image = Whole::new(bytes);
-    let Ok(_) = make(alloc, spec, &layout, step, update, &mut image) else {
+    let (mut draft, mut log) = (Draft::new(alloc), Log::new(alloc));
+    let Ok(()) = make(
+        spec, &layout, step, update, &mut image, &mut draft, &mut log,
+    ) else {
         bail!("no memory");
     };
     Ok(image.into_bytes())

@@ -1,4 +1,4 @@
-use Rattle.std.proofs.Common.{◌≡◌, IfOk, ap, arith, length, map, subst}
+use Rattle.std.proofs.Common.{◌≡◌, IfOk, arith, map, subst}
 use Rattle.dsr_answers.proofs.Refusing.{told_is}
 use Rattle.dsr_meaning.specs.Consistency.{AreViolations, bound_constraint}
 use Rattle.dsr_meaning.specs.Models.{IsFact}
@@ -28,7 +28,7 @@ returns-in-Consistent c =
     (subst (λ s. AreViolations (IsFact s c.args.layout.now c.new-image.result) s vs) c.spec.ensures.is
     c.in_ok-violated.ensures))
     c.in-Consistent.is (omega (arith, c.len-bytes.ensures, c.args.image.ok))
-    (omega (arith, c.len.ensures, c.in_ok-violated.violated.ok)) (ap length c.entries.ensures))
+    (omega (arith, c.len.ensures, c.in_ok-violated.violated.ok)) c.len-updates.ensures)
 
 pub returns : goal.returns
 returns c =

@@ -1,12 +1,15 @@
 -- A step, made in place.
-use Rattle.std.proofs.Common.{◌≡◌, ◌<◌, ◌∙◌, true, All, length, ap, sym, subst, arith}
-use Rattle.dsr_repair.proofs.Noting.{changed_are, noted_below}
-use Rattle.dsr_repair.proofs.Sets.{entry_made}
+use Rattle.std.proofs.Common.{◌≡◌, ◌<◌, ◌∙◌, ◌++◌, ◌∷◌, [], true, All, length, ap, sym, subst, arith}
+use Rattle.dsr_log.specs.Entries.{entry_of}
+use Rattle.dsr_repair.proofs.Noting.{changed_are, changed_few, noted_below}
+use Rattle.dsr_repair.proofs.Sets.{entry_made, sets_few}
 use Rattle.dsr_repair.proofs.StepSpans.{can_reset, entries_there, fresh_claimed, step_long, writes_claimed}
 use Rattle.dsr_repair.proofs.Untouched.{untouched_stay}
 use Rattle.dsr_repair.specs.Notes.{AreNoted}
 use Rattle.dsr_repair.specs.Spans.{AreSpansClaimed, AreWithin, step_spans}
+use Rattle.dsr_repair_theory.specs.Entries.{IsEntryOf}
 use Rattle.dsr_repair_theory.specs.declared.entries.ByteChange.{ByteChange}
+use Rattle.dsr_repair_theory.specs.declared.entries.Entry.{Entry}
 use Rattle.dsr_step_theory.specs.Steps.{CanWrite}
 use Rattle.dsr_update.proofs.StepLayouts.{all_there, step_legal}
 use Rattle.dsr_repair.proofs.making.make.Goals as goal
@@ -21,13 +24,13 @@ touched-requires-clause-entries g c =
     entries_there c.args.spec.now c.args.layout.now c.args.step.now c.args.update.now
     (length (g.I.ImageBytes.bytes c.args.image.now)) c.requires.can c.items-writes.result.now c.items-writes.ensures
 
-pub noted-requires : goal.noted-requires
-noted-requires g c =
+pub note_all-requires : goal.note_all-requires
+note_all-requires g c =
     let bytes = length (g.I.ImageBytes.bytes c.args.image.now) in
     record {
       within = subst (λ ss. AreWithin ss bytes) (sym c.deref.ensures.value)
-          (subst (AreWithin c.in_ok-spans.spans.items) (sym (step_long c.args.spec.now c.args.layout.now c.args.step.now c.args.update.now bytes c.requires.can))
-          c.in_ok-spans.ensures.within);
+          (subst (AreWithin c.touched.new.spans.items) (sym (step_long c.args.spec.now c.args.layout.now c.args.step.now c.args.update.now bytes c.requires.can))
+          c.in_ok-touched.ensures.within);
     }
 
 pub claim_spans-requires : goal.claim_spans-requires
@@ -35,8 +38,8 @@ claim_spans-requires g c =
     let bytes = length (g.I.ImageBytes.bytes c.args.image.now) in
     record {
       within = subst (λ ss. AreWithin ss bytes) (sym c.deref-2.ensures.value)
-          (subst (AreWithin c.in_ok-spans.spans.items) (sym (step_long c.args.spec.now c.args.layout.now c.args.step.now c.args.update.now bytes c.requires.can))
-          c.in_ok-spans.ensures.within);
+          (subst (AreWithin c.touched.new.spans.items) (sym (step_long c.args.spec.now c.args.layout.now c.args.step.now c.args.update.now bytes c.requires.can))
+          c.in_ok-touched.ensures.within);
     }
 
 pub reset_fresh-requires-clause-can : goal.reset_fresh-requires-clause-can
@@ -48,7 +51,7 @@ pub reset_fresh-requires-clause-claimed : goal.reset_fresh-requires-clause-claim
 reset_fresh-requires-clause-claimed g c =
     let claimed = g.I.ImageBytes.claimed c.claim_spans.new.image in
     fresh_claimed claimed c.args.layout.now c.args.step.now c.items-writes.result.now
-    (subst (λ ss. AreSpansClaimed ss claimed) (c.deref-2.ensures.value ∙ c.in_ok-spans.ensures.spans) c.in_ok-claim_spans.ensures.claimed)
+    (subst (λ ss. AreSpansClaimed ss claimed) (c.deref-2.ensures.value ∙ c.in_ok-touched.ensures.spans) c.in_ok-claim_spans.ensures.claimed)
 
 pub set_all-requires : goal.set_all-requires
 set_all-requires g c =
@@ -67,17 +70,32 @@ set_all-requires g c =
       long = c.reset_fresh.ensures.long ∙ (ap length c.claim_spans.ensures.bytes ∙ step_long spec layout step update bytes c.requires.can);
       claimed = writes_claimed now layout step writes
           (subst (AreSpansClaimed (step_spans layout step writes)) (sym c.reset_fresh.ensures.kept)
-          (subst (λ ss. AreSpansClaimed ss claimed) (c.deref-2.ensures.value ∙ c.in_ok-spans.ensures.spans) c.in_ok-claim_spans.ensures.claimed));
-      none = c.in_ok-sets.ensures.items;
-      room = omega (arith, c.in_ok-sets.ensures.len, c.in_ok-sets.ensures.exact);
+          (subst (λ ss. AreSpansClaimed ss claimed) (c.deref-2.ensures.value ∙ c.in_ok-touched.ensures.spans) c.in_ok-claim_spans.ensures.claimed));
+      none = c.make_room.ensures.none;
+      room = c.in_ok-make_room.ensures.room;
     }
 
 pub keep_changed-requires : goal.keep_changed-requires
 keep_changed-requires g c =
     let old = g.I.ImageBytes.bytes c.args.image.now in
     let long = c.set_all.ensures.long ∙ (c.reset_fresh.ensures.long ∙ ap length c.claim_spans.ensures.bytes) in
-    subst (λ m. All (λ (n : ByteChange). n.place < m) c.in_ok-bytes.bytes.items) (sym long)
-    (noted_below c.deref.result.now old 0 c.in_ok-bytes.bytes.items c.in_ok-bytes.ensures)
+    subst (λ m. All (λ (n : ByteChange). n.place < m) c.note_all.new.notes.items) (sym long)
+    (noted_below c.deref.result.now old 0 c.note_all.new.notes.items c.in_ok-note_all.ensures)
+
+pub push-requires-clause-room_for_sets : goal.push-requires-clause-room_for_sets
+push-requires-clause-room_for_sets g c =
+    let few = sets_few c.args.spec.now c.args.layout.now c.args.step.now c.set_all.ensures.set in
+    let told = ap (λ (e : Entry). length e.sets) c.new.ensures in
+    let same = ap length c.deref-3.ensures.value in
+    omega (arith, few, told, same, c.in_ok-reserve.ensures.room_for_sets)
+
+pub push-requires-clause-room_for_bytes : goal.push-requires-clause-room_for_bytes
+push-requires-clause-room_for_bytes g c =
+    let notes = c.note_all.new.notes in
+    let few = changed_few (g.I.ImageBytes.bytes c.set_all.new.image) notes.items in
+    let told = ap (λ (e : Entry). length e.bytes) c.new.ensures in
+    let same = ap length (c.deref-4.ensures.value ∙ c.keep_changed.ensures) in
+    omega (arith, few, told, same, c.len.ensures, notes.ok.0, c.in_ok-reserve.ensures.room_for_bytes)
 
 pub returns-clause-made : goal.returns-clause-made
 returns-clause-made g c =
@@ -88,16 +106,23 @@ returns-clause-made g c =
     let old = g.I.ImageBytes.bytes c.args.image.now in
     let between = g.I.ImageBytes.bytes c.reset_fresh.new.image in
     let new = g.I.ImageBytes.bytes c.set_all.new.image in
-    let sets = c.set_all.new.sets.items in
-    let notes = c.in_ok-bytes.bytes.items in
+    let notes = c.note_all.new.notes.items in
+    let sets = c.deref-3.result.now in
+    let bytes = c.deref-4.result.now in
     let spans = step_spans layout step update.writes in
-    let listed = c.deref.ensures.value ∙ (c.in_ok-spans.ensures.spans ∙ ap (step_spans layout step) c.items-writes.ensures) in
+    let listed = c.deref.ensures.value ∙ (c.in_ok-touched.ensures.spans ∙ ap (step_spans layout step) c.items-writes.ensures) in
     let long = c.set_all.ensures.long ∙ (c.reset_fresh.ensures.long ∙ ap length c.claim_spans.ensures.bytes) in
-    entry_made spec layout step update old (g.I.ImageBytes.bytes c.claim_spans.new.image) between new c.items-writes.result.now sets c.new.result c.new-2.result
-    c.claim_spans.ensures.bytes c.items-writes.ensures c.reset_fresh.ensures.put c.set_all.ensures.set c.new.ensures
-    (λ reset set. c.new-2.ensures ∙ (c.keep_changed.ensures
-    ∙ changed_are spans old new long (untouched_stay spec layout step update old between new sets c.requires.can reset set) notes
-    (subst (λ ss. AreNoted ss old 0 notes) listed c.in_ok-bytes.ensures)))
+    record {
+      entry = c.new.result;
+      pushed = c.push.ensures.entries ∙ ap (λ before. before ++ c.new.result ∷ []) c.reserve.ensures.same;
+      told = subst (IsEntryOf spec layout step update old new)
+          (sym (c.new.ensures ∙ ap (λ head. entry_of head sets bytes) c.head_of.ensures))
+          (entry_made spec layout step update old (g.I.ImageBytes.bytes c.claim_spans.new.image) between new c.items-writes.result.now
+          c.set_all.new.sets.items sets bytes c.claim_spans.ensures.bytes c.items-writes.ensures c.reset_fresh.ensures.put c.set_all.ensures.set c.deref-3.ensures.value
+          (λ reset set. c.deref-4.ensures.value ∙ (c.keep_changed.ensures
+          ∙ changed_are spans old new long (untouched_stay spec layout step update old between new c.set_all.new.sets.items c.requires.can reset set) notes
+          (subst (λ ss. AreNoted ss old 0 notes) listed c.in_ok-note_all.ensures))));
+    }
 
 pub returns-clause-kept : goal.returns-clause-kept
 returns-clause-kept g c = λ i is.

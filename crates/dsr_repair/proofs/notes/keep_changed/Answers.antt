@@ -23,16 +23,8 @@ loop-note-preserved g c =
           (c.loop-note.invariant.below i none inside) c.loop-note.invariant.below;
     }
 
-pub returns-then-len-capacity : goal.returns-then-len-capacity
-returns-then-len-capacity g c =
-    c.shrink_to_fit.ensures.items
-    ∙ (filter_same _ is_change _ (λ x b f' k. search rules) _ _ c.retain.ensures.filtered
-    ∙ ap (filter is_change)
-    (all_renewed (g.I.ImageBytes.bytes c.args.image.now) c.args.notes.now.items c.deref_mut-note-items.result.now c.loop-note.note-items c.loop-note.note-index c.args.notes.now.len
-    c.deref_mut-note-items.ensures.value (omega (arith, c.args.notes.now.ok)) c.loop-note.invariant.items c.loop-note-test.false))
-
-pub returns-else-len-capacity : goal.returns-else-len-capacity
-returns-else-len-capacity g c =
+pub returns : goal.returns
+returns g c =
     filter_same _ is_change _ (λ x b f' k. search rules) _ _ c.retain.ensures.filtered
     ∙ ap (filter is_change)
     (all_renewed (g.I.ImageBytes.bytes c.args.image.now) c.args.notes.now.items c.deref_mut-note-items.result.now c.loop-note.note-items c.loop-note.note-index c.args.notes.now.len

@@ -36,6 +36,12 @@ returns-in_err-model-clause-steps g c =
     run_same c.args.plan.now.0 c.args.plan.now.1 c.args.layout.now old old old [] c.args.log.now.entries begins refl
     c.requires.empty
 
+pub returns-in_err-rules-clause-steps : goal.returns-in_err-rules-clause-steps
+returns-in_err-rules-clause-steps g c =
+    let old = g.I.ImageBytes.bytes c.args.image.now in
+    run_same c.args.plan.now.0 c.args.plan.now.1 c.args.layout.now old old old [] c.args.log.now.entries begins refl
+    c.requires.empty
+
 pub rebuild-requires-clause-laid_out : goal.rebuild-requires-clause-laid_out
 rebuild-requires-clause-laid_out g c =
     subst (λ s. IsLaidOut s c.args.layout.now (g.I.ImageBytes.bytes c.args.image.now)) (sym c.requires.spec)

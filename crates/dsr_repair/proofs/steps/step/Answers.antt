@@ -41,12 +41,12 @@ renew-requires-clause-laid_out g c =
     let due = due_by_it c.args.plan.now.0 c.args.plan.now.1 c.args.layout.now old c.in-Step.step c.in-Step.ensures.0
     c.in-Some.update.now c.in-Step.ensures.1 c.in-Some.ensures in
     let plan = subst (λ s. IsPlan s c.args.plan.now.1) c.spec.ensures.is c.spec.ensures.plan in
-    let told = subst (λ s. IsEntryOf s c.args.layout.now c.in-Step.step c.in-Some.update.now old new c.in_ok-entry.entry)
-    c.spec.ensures.is c.in_ok-entry.ensures.made in
+    let told = subst (λ s. IsEntryOf s c.args.layout.now c.in-Step.step c.in-Some.update.now old new c.in_ok-make.ensures.made.entry)
+    c.spec.ensures.is c.in_ok-make.ensures.made.told in
     subst (λ s. IsLaidOut s c.args.layout.now new) (sym c.spec-2.ensures.is)
     (laid_out c.args.plan.now.0 c.args.layout.now new
     (image_stays c.args.plan.now.0 c.args.plan.now.1 c.args.layout.now old c.in-Step.step c.in-Some.update.now
-    c.requires.modelled.image plan due new c.in_ok-entry.entry told))
+    c.requires.modelled.image plan due new c.in_ok-make.ensures.made.entry told))
 
 pub renew-requires-clause-prepared : goal.renew-requires-clause-prepared
 renew-requires-clause-prepared g c =
@@ -68,25 +68,19 @@ renew-requires-clause-was g c =
     let due = due_by_it c.args.plan.now.0 c.args.plan.now.1 c.args.layout.now old c.in-Step.step c.in-Step.ensures.0
     c.in-Some.update.now c.in-Step.ensures.1 c.in-Some.ensures in
     let plan = subst (λ s. IsPlan s c.args.plan.now.1) c.spec.ensures.is c.spec.ensures.plan in
-    let told = subst (λ s. IsEntryOf s c.args.layout.now c.in-Step.step c.in-Some.update.now old new c.in_ok-entry.entry)
-    c.spec.ensures.is c.in_ok-entry.ensures.made in
+    let told = subst (λ s. IsEntryOf s c.args.layout.now c.in-Step.step c.in-Some.update.now old new c.in_ok-make.ensures.made.entry)
+    c.spec.ensures.is c.in_ok-make.ensures.made.told in
     subst (λ s. WasLeft s c.args.layout.now c.in-Some.update.now c.in-Step.step new c.args.model.now) (sym c.spec-2.ensures.is)
-    (was_left c.args.plan.now.0 c.args.plan.now.1 c.args.layout.now old new c.in-Step.step c.in-Some.update.now c.in_ok-entry.entry c.args.model.now plan c.requires.modelled.image due told c.requires.modelled.model)
+    (was_left c.args.plan.now.0 c.args.plan.now.1 c.args.layout.now old new c.in-Step.step c.in-Some.update.now c.in_ok-make.ensures.made.entry c.args.model.now plan c.requires.modelled.image due told c.requires.modelled.model)
 
-pub returns-in_err-reserve-clause-stays : goal.returns-in_err-reserve-clause-stays
-returns-in_err-reserve-clause-stays g c =
+pub returns-in_err-make-clause-stays : goal.returns-in_err-make-clause-stays
+returns-in_err-make-clause-stays g c =
     on_err c.from_residual.result
-    (same_state (g.I.ImageBytes.bytes c.args.image.now) (g.I.ImageBytes.bytes c.args.image.now)
-    c.reserve.new.self.entries c.args.log.now.entries c.args.model.now refl c.reserve.ensures.same)
-
-pub returns-in_err-entry-clause-stays : goal.returns-in_err-entry-clause-stays
-returns-in_err-entry-clause-stays g c =
-    on_err c.from_residual-in_err-entry.result
     (same_state (g.I.ImageBytes.bytes c.make.new.image) (g.I.ImageBytes.bytes c.args.image.now)
-    c.reserve.new.self.entries c.args.log.now.entries c.args.model.now c.in_err-entry.ensures.same c.reserve.ensures.same)
+    c.make.new.log.entries c.args.log.now.entries c.args.model.now c.in_err-make.ensures.same c.in_err-make.ensures.logged)
 
-pub returns-in_err-entry-clause-fixed : goal.returns-in_err-entry-clause-fixed
-returns-in_err-entry-clause-fixed g c = fixed_as_before c.args.plan.now.0.base (g.I.ImageBytes.bytes c.args.image.now) (g.I.ImageBytes.bytes c.make.new.image) c.in_err-entry.ensures.same
+pub returns-in_err-make-clause-fixed : goal.returns-in_err-make-clause-fixed
+returns-in_err-make-clause-fixed g c = fixed_as_before c.args.plan.now.0.base (g.I.ImageBytes.bytes c.args.image.now) (g.I.ImageBytes.bytes c.make.new.image) c.in_err-make.ensures.same
 
 pub returns-clause-fixed : goal.returns-clause-fixed
 returns-clause-fixed g c =
@@ -95,10 +89,10 @@ returns-clause-fixed g c =
     let due = due_by_it c.args.plan.now.0 c.args.plan.now.1 c.args.layout.now old c.in-Step.step c.in-Step.ensures.0
     c.in-Some.update.now c.in-Step.ensures.1 c.in-Some.ensures in
     let plan = subst (λ s. IsPlan s c.args.plan.now.1) c.spec.ensures.is c.spec.ensures.plan in
-    let told = subst (λ s. IsEntryOf s c.args.layout.now c.in-Step.step c.in-Some.update.now old new c.in_ok-entry.entry)
-    c.spec.ensures.is c.in_ok-entry.ensures.made in
+    let told = subst (λ s. IsEntryOf s c.args.layout.now c.in-Step.step c.in-Some.update.now old new c.in_ok-make.ensures.made.entry)
+    c.spec.ensures.is c.in_ok-make.ensures.made.told in
     fixed_stay c.args.plan.now.0 c.args.plan.now.1 c.args.layout.now old c.in-Step.step c.in-Some.update.now
-    c.requires.modelled.image plan due new c.in_ok-entry.entry told
+    c.requires.modelled.image plan due new c.in_ok-make.ensures.made.entry told
 
 pub returns-clause-taken : goal.returns-clause-taken
 returns-clause-taken g c =
@@ -106,11 +100,11 @@ returns-clause-taken g c =
     let new = g.I.ImageBytes.bytes c.make.new.image in
     let due = due_by_it c.args.plan.now.0 c.args.plan.now.1 c.args.layout.now old c.in-Step.step c.in-Step.ensures.0
     c.in-Some.update.now c.in-Step.ensures.1 c.in-Some.ensures in
-    let told = subst (λ s. IsEntryOf s c.args.layout.now c.in-Step.step c.in-Some.update.now old new c.in_ok-entry.entry)
-    c.spec.ensures.is c.in_ok-entry.ensures.made in
+    let told = subst (λ s. IsEntryOf s c.args.layout.now c.in-Step.step c.in-Some.update.now old new c.in_ok-make.ensures.made.entry)
+    c.spec.ensures.is c.in_ok-make.ensures.made.told in
     record {
-      entry = c.in_ok-entry.entry;
-      pushed = c.push.ensures.entries ∙ ap (λ before. before ++ c.in_ok-entry.entry ∷ []) c.reserve.ensures.same;
+      entry = c.in_ok-make.ensures.made.entry;
+      pushed = c.in_ok-make.ensures.made.pushed;
       made = record { step = c.in-Step.step; update = c.in-Some.update.now; due = due; made = told };
       step_is = refl;
     }
@@ -122,11 +116,11 @@ returns-clause-modelled g c =
     let due = due_by_it c.args.plan.now.0 c.args.plan.now.1 c.args.layout.now old c.in-Step.step c.in-Step.ensures.0
     c.in-Some.update.now c.in-Step.ensures.1 c.in-Some.ensures in
     let plan = subst (λ s. IsPlan s c.args.plan.now.1) c.spec.ensures.is c.spec.ensures.plan in
-    let told = subst (λ s. IsEntryOf s c.args.layout.now c.in-Step.step c.in-Some.update.now old new c.in_ok-entry.entry)
-    c.spec.ensures.is c.in_ok-entry.ensures.made in
+    let told = subst (λ s. IsEntryOf s c.args.layout.now c.in-Step.step c.in-Some.update.now old new c.in_ok-make.ensures.made.entry)
+    c.spec.ensures.is c.in_ok-make.ensures.made.told in
     record {
       image = image_stays c.args.plan.now.0 c.args.plan.now.1 c.args.layout.now old c.in-Step.step c.in-Some.update.now
-          c.requires.modelled.image plan due new c.in_ok-entry.entry told;
+          c.requires.modelled.image plan due new c.in_ok-make.ensures.made.entry told;
       prepared = subst (λ s. IsPreparedFor s c.args.layout.now c.renew.new.model) c.spec-2.ensures.is c.renew.ensures.prepared;
       model = subst (λ s. IsModelOf s c.args.layout.now new c.renew.new.model) c.spec-2.ensures.is c.renew.ensures.model;
     }
@@ -138,18 +132,18 @@ returns-clause-brings g c =
     let due = due_by_it c.args.plan.now.0 c.args.plan.now.1 c.args.layout.now old c.in-Step.step c.in-Step.ensures.0
     c.in-Some.update.now c.in-Step.ensures.1 c.in-Some.ensures in
     let plan = subst (λ s. IsPlan s c.args.plan.now.1) c.spec.ensures.is c.spec.ensures.plan in
-    let told = subst (λ s. IsEntryOf s c.args.layout.now c.in-Step.step c.in-Some.update.now old new c.in_ok-entry.entry)
-    c.spec.ensures.is c.in_ok-entry.ensures.made in
-    nearer c.args.plan.now.0 c.args.plan.now.1 c.args.layout.now old new c.in-Step.step c.in-Some.update.now c.in_ok-entry.entry
+    let told = subst (λ s. IsEntryOf s c.args.layout.now c.in-Step.step c.in-Some.update.now old new c.in_ok-make.ensures.made.entry)
+    c.spec.ensures.is c.in_ok-make.ensures.made.told in
+    nearer c.args.plan.now.0 c.args.plan.now.1 c.args.layout.now old new c.in-Step.step c.in-Some.update.now c.in_ok-make.ensures.made.entry
     plan c.requires.modelled.image
     (image_stays c.args.plan.now.0 c.args.plan.now.1 c.args.layout.now old c.in-Step.step c.in-Some.update.now
-    c.requires.modelled.image plan due new c.in_ok-entry.entry told)
+    c.requires.modelled.image plan due new c.in_ok-make.ensures.made.entry told)
     due told
 
-pub returns-in_err-entry-clause-cursor : goal.returns-in_err-entry-clause-cursor
-returns-in_err-entry-clause-cursor g c =
+pub returns-in_err-make-clause-cursor : goal.returns-in_err-make-clause-cursor
+returns-in_err-make-clause-cursor g c =
     cursor_stays c.args.plan.now.0 c.args.plan.now.1 c.args.layout.now (g.I.ImageBytes.bytes c.args.image.now)
-    (g.I.ImageBytes.bytes c.make.new.image) c.args.cursor.now c.requires.cursor c.in_err-entry.ensures.same
+    (g.I.ImageBytes.bytes c.make.new.image) c.args.cursor.now c.requires.cursor c.in_err-make.ensures.same
 
 pub returns-clause-cursor : goal.returns-clause-cursor
 returns-clause-cursor g c =
@@ -158,18 +152,15 @@ returns-clause-cursor g c =
     let due = due_by_it c.args.plan.now.0 c.args.plan.now.1 c.args.layout.now old c.in-Step.step c.in-Step.ensures.0
     c.in-Some.update.now c.in-Step.ensures.1 c.in-Some.ensures in
     let plan = subst (λ s. IsPlan s c.args.plan.now.1) c.spec.ensures.is c.spec.ensures.plan in
-    let told = subst (λ s. IsEntryOf s c.args.layout.now c.in-Step.step c.in-Some.update.now old new c.in_ok-entry.entry)
-    c.spec.ensures.is c.in_ok-entry.ensures.made in
+    let told = subst (λ s. IsEntryOf s c.args.layout.now c.in-Step.step c.in-Some.update.now old new c.in_ok-make.ensures.made.entry)
+    c.spec.ensures.is c.in_ok-make.ensures.made.told in
     cursor_moves c.args.plan.now.0 c.args.plan.now.1 c.args.layout.now old new c.args.cursor.now c.requires.cursor c.in-Step.step
     c.in-Some.update.now due
-    (nearer c.args.plan.now.0 c.args.plan.now.1 c.args.layout.now old new c.in-Step.step c.in-Some.update.now c.in_ok-entry.entry
+    (nearer c.args.plan.now.0 c.args.plan.now.1 c.args.layout.now old new c.in-Step.step c.in-Some.update.now c.in_ok-make.ensures.made.entry
     plan c.requires.modelled.image
     (image_stays c.args.plan.now.0 c.args.plan.now.1 c.args.layout.now old c.in-Step.step c.in-Some.update.now
-    c.requires.modelled.image plan due new c.in_ok-entry.entry told)
+    c.requires.modelled.image plan due new c.in_ok-make.ensures.made.entry told)
     due told)
 
-pub returns-in_err-reserve-clause-rests : goal.returns-in_err-reserve-clause-rests
-returns-in_err-reserve-clause-rests g c = on_err c.from_residual.result refl
-
-pub returns-in_err-entry-clause-rests : goal.returns-in_err-entry-clause-rests
-returns-in_err-entry-clause-rests g c = on_err c.from_residual-in_err-entry.result refl
+pub returns-in_err-make-clause-rests : goal.returns-in_err-make-clause-rests
+returns-in_err-make-clause-rests g c = on_err c.from_residual.result refl

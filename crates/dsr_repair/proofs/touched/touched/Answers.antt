@@ -12,7 +12,7 @@ loop-write-init c =
     let layout = c.args.layout.now in
     let step = c.args.step.now in
     let first : c.push_span.new.spans.items ≡ option_to_list c.fresh_span.result =
-    c.in_ok-push_span.ensures ∙ ap (λ xs. xs ++ option_to_list c.fresh_span.result) c.new-spans.ensures.items in
+    c.in_ok-push_span.ensures ∙ ap (λ xs. xs ++ option_to_list c.fresh_span.result) c.clear.ensures.items in
     record {
       spans = ap (λ xs. xs ++ filter_map (write_span layout step) c.args.writes.now) (first ∙ ap option_to_list c.fresh_span.ensures.span);
       within = subst (λ xs. AreWithin xs layout.length) (sym first) (fresh_within layout.length c.fresh_span.result c.fresh_span.ensures.within);

@@ -11,15 +11,19 @@ use Rattle.dsr_repair_theory.specs.Runs.{IsRun}
 use Rattle.dsr_repair_theory.specs.declared.entries.Entry.{Entry}
 use Rattle.dsr_repair_theory.specs.declared.turns.Need.{Need}
 use Rattle.dsr_repair_theory.specs.declared.turns.Outcome.TheVariants.{Consistent, Empty}
-use Rattle.dsr_report.specs.Reports.{report_text}
+use Rattle.dsr_report.specs.Reports.{end_line, entries_text}
 use Rattle.dsr_script.specs.Moves.{shown}
 use Rattle.dsr_script.specs.Scripts.{Answer}
 use Rattle.dsr_script.specs.declared.status.Verdict.TheVariants as verdicts
 use Rattle.dsr_step_theory.specs.Images.{IsImageOf}
 
+-- the lines of all steps, and how many there are
+abbrev pub ended_answer : List ℕ → ℕ → Answer
+ended_answer lines count = record { verdict = verdicts.Ok; text = lines ++ end_line count }
+
 -- the report of all steps
 abbrev pub repaired_answer : Spec → List Entry → Answer
-repaired_answer spec entries = record { verdict = verdicts.Ok; text = report_text spec entries }
+repaired_answer spec entries = ended_answer (entries_text spec entries) (length entries)
 
 -- which pool's supply is empty, and for which literal at which binding of which constraint
 abbrev pub empty_line : Spec → Need → List ℕ
@@ -28,12 +32,17 @@ empty_line spec need =
     ++ codes " " ++ binding_text spec need.binding ++ codes " " ++ decimal (need.conj + 1)
     ++ codes "." ++ decimal (need.literal + 1) ++ codes "\n"
 
+-- the lines of the steps so far, how many there are, and what is needed
+abbrev pub stopped_answer : Spec → List ℕ → ℕ → Need → Answer
+stopped_answer spec lines count need = record {
+  verdict = verdicts.SupplyEmpty;
+  text = (lines ++ end_line count) ++ empty_line spec need;
+}
+
 -- the report of the steps so far, and what is needed
 abbrev pub empty_answer : Spec → List Entry → Need → Answer
-empty_answer spec entries need = record {
-  verdict = verdicts.SupplyEmpty;
-  text = report_text spec entries ++ empty_line spec need;
-}
+empty_answer spec entries need =
+    stopped_answer spec (entries_text spec entries) (length entries) need
 
 -- what comes of a repair: these bytes are to be saved and the answer told then, or it is told and
 -- nothing saved

@@ -53,9 +53,11 @@ pub fn repair(alloc: Global, plan: &Plan, image: Vec<u8>) -> Result<Repaired, No
     let run = repair_whole(alloc, plan, &layout, Whole::new(image))?;
     match run.outcome {
         Outcome::Consistent => {
-            let told = report_told(alloc, spec, &run.log)?;
+            let told = report_told(run.text, run.count)?;
             Ok(Repaired::Saved(run.image.into_bytes(), told))
         }
-        Outcome::Empty(need) => Ok(Repaired::Unsaved(need_told(alloc, spec, &run.log, &need)?)),
+        Outcome::Empty(need) => {
+            Ok(Repaired::Unsaved(need_told(run.text, spec, run.count, &need)?))
+        }
     }
 }

@@ -5,11 +5,9 @@ ghost use Rattle.dsr_script.specs.Moves.{shown};
 
 use dsr_answers::{constraint_name, pool_name, push, push_binding, push_named, push_number};
 use dsr_ir::{NoMemory, Spec};
-use dsr_log::Log;
 use dsr_repair_theory::Need;
-use dsr_report::text;
+use dsr_report::push_end;
 use dsr_script::{Told, Verdict};
-use std::alloc::Global;
 
 // Appends the literal for which a record is needed: its conjunction and itself, counted from 1.
 fn push_literal(text: &mut Vec<u8>, need: &Need) -> Result<(), NoMemory>
@@ -34,22 +32,27 @@ fn push_need(text: &mut Vec<u8>, spec: &Spec, need: &Need) -> Result<(), NoMemor
     push(text, b"\n")
 }
 
-/// The answer that these steps made an image consistent.
-pub fn report_told(alloc: Global, spec: &Spec, log: &Log) -> Result<Told, NoMemory>
-    ensures { IfOk result (λ told. shown told ≡ said.repaired_answer spec.now log.now.entries) }
+/// The answer that steps made an image consistent, by the lines that tell them and how many they
+/// are.
+pub fn report_told(text: Vec<u8>, count: u64) -> Result<Told, NoMemory>
+    ensures { IfOk result (λ told. shown told ≡ said.ended_answer text.items count) }
 {
+    let mut text = text;
+    push_end(&mut text, count)?;
     Ok(Told {
         verdict: Verdict::Ok,
-        text: text(alloc, spec, log)?,
+        text,
     })
 }
 
-/// The answer that a repair stopped after these steps, where a supply has no record that it needs.
-pub fn need_told(alloc: Global, spec: &Spec, log: &Log, need: &Need) -> Result<Told, NoMemory>
+/// The answer that a repair stopped after steps that these lines tell, so many of them, where a
+/// supply has no record that it needs.
+pub fn need_told(text: Vec<u8>, spec: &Spec, count: u64, need: &Need) -> Result<Told, NoMemory>
     ensures { IfOk result (λ told.
-        shown told ≡ said.empty_answer spec.now log.now.entries need.now) }
+        shown told ≡ said.stopped_answer spec.now text.items count need.now) }
 {
-    let mut text = text(alloc, spec, log)?;
+    let mut text = text;
+    push_end(&mut text, count)?;
     push_need(&mut text, spec, need)?;
     Ok(Told {
         verdict: Verdict::SupplyEmpty,

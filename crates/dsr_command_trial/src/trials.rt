@@ -72,10 +72,9 @@ fn try_image(
     let image = Whole::new(image);
     let violated = violations_of(alloc, plan.spec(), layout, &image)?;
     let run = repair_whole(alloc, plan, layout, image)?;
-    let updates = run.log.len() as u64;
     match run.outcome {
-        Outcome::Consistent => trial_told(alloc, number, bytes, violated.len() as u64, updates),
-        Outcome::Empty(need) => need_told(alloc, plan.spec(), &run.log, &need),
+        Outcome::Consistent => trial_told(alloc, number, bytes, violated.len() as u64, run.count),
+        Outcome::Empty(need) => need_told(run.text, plan.spec(), run.count, &need),
     }
 }
 

@@ -69,6 +69,15 @@ impl Log {
         }
     }
 
+    /// Takes all entries away. Their room stays for others.
+    pub fn clear(&mut self)
+        ensures { self.new.entries ≡ [] }
+    {
+        self.rows.clear();
+        self.sets.clear();
+        self.bytes.clear();
+    }
+
     /// Makes room for one more entry with so many sets and bytes at most.
     pub fn reserve(&mut self, sets: usize, bytes: usize) -> Result<(), NoMemory>
         ensures same { self.new.entries ≡ self.old.entries }

@@ -10,3 +10,4 @@ pub mod Spans
 pub mod Planned
 pub mod Stepping
 pub mod Renewing
+pub mod Rounds

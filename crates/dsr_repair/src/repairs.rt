@@ -6,29 +6,25 @@ ghost use Rattle.dsr_repair_theory.specs.Runs.{IsPartRun};
 ghost use Rattle.dsr_repair_theory.specs.Turns.{IsOutcome};
 ghost use Rattle.dsr_step_theory.specs.Images.{FixedFieldsStay, IsImageOf};
 
-use crate::cursors::Cursor;
-use crate::drafts::Draft;
-use crate::steps::step;
-use dsr_fixpoint::rebuild;
+use crate::rounds::Repair;
 use dsr_image::ImageBytes;
-use dsr_ir::{Layout, NoMemory, Spec};
+use dsr_ir::{Layout, NoMemory};
 use dsr_log::Log;
-use dsr_model::Model;
 use dsr_plan_theory::Plan;
-use dsr_repair_theory::{Outcome, Turn};
-use dsr_resolve::ResolvedRules;
+use dsr_repair_theory::Outcome;
 use std::alloc::Global;
 
-// Makes the steps that are due until none is left. That this ends is due to the bound.
-fn make_steps<I: ImageBytes>(
+/// How many steps a round has.
+const ROUND: usize = 4_096;
+
+// Makes round after round, until no step is left. That this ends is due to the bound.
+fn make_rounds<I: ImageBytes>(
     alloc: Global,
     plan: &Plan,
-    spec: &Spec,
     layout: &Layout,
     image: &mut I,
     log: &mut Log,
 ) -> Result<Outcome, NoMemory>
-    requires spec { spec.now ≡ plan.now.0 }
     requires planned { IsPlan plan.now.0 plan.now.1 }
     requires image { IsImageOf plan.now.0 layout.now (I.ImageBytes.bytes image.old) }
     requires empty { log.old.entries ≡ [] }
@@ -36,25 +32,10 @@ fn make_steps<I: ImageBytes>(
         log.new.entries (I.ImageBytes.bytes image.new) }
     ensures ends { IfOk result (IsOutcome plan.now.0 plan.now.1 layout.now (I.ImageBytes.bytes image.new)) }
 {
-    let mut cursor = Cursor::new(alloc, plan.choice())?;
-    let mut model = Model::prepare(alloc, spec, layout)?;
-    let rules = ResolvedRules::new(alloc, spec, layout)?;
-    rebuild(&mut model, spec, layout, &rules, image);
-    let mut draft = Draft::new(alloc);
-    'steps: loop {
-        match step(
-            plan,
-            layout,
-            &rules,
-            image,
-            &mut model,
-            &mut cursor,
-            &mut draft,
-            log,
-        )? {
-            Turn::Done => return Ok(Outcome::Consistent),
-            Turn::Empty(need) => return Ok(Outcome::Empty(need)),
-            Turn::Step(_) => {}
+    let mut repair = Repair::begin(alloc, plan, layout, image)?;
+    'rounds: loop {
+        if let Some(outcome) = repair.go_on(plan, layout, image, log, ROUND)? {
+            return Ok(outcome);
         }
     }
 }
@@ -80,6 +61,6 @@ pub fn repair<I: ImageBytes>(
     ensures fixed { FixedFieldsStay plan.now.0.base (I.ImageBytes.bytes image.old)
         (I.ImageBytes.bytes image.new) }
 {
-    let spec = plan.spec();
-    make_steps(alloc, plan, spec, layout, image, log)
+    let _spec = plan.spec();
+    make_rounds(alloc, plan, layout, image, log)
 }

@@ -1,12 +1,13 @@
 -- The text of an entry, whose lines are put one kind after the other.
-use Rattle.std.proofs.Common.{◌≡◌, ◌++◌, ◌∙◌, ℕ, List, [], ap, append_assoc}
+use Rattle.std.proofs.Common.{◌≡◌, ◌+◌, ◌++◌, ◌∙◌, ℕ, suc, List, [], ◌∷◌, length, ap, sym, append_assoc, arith}
 use Rattle.std.specs.List.{flat_map}
 use Rattle.std.specs.Option.{option_map_or}
 use Rattle.dsr_ir.specs.declared.declarations.Spec.{Spec}
+use Rattle.dsr_meaning.specs.Lists.{each_at}
 use Rattle.dsr_repair_theory.specs.declared.entries.ByteChange.{ByteChange}
 use Rattle.dsr_repair_theory.specs.declared.entries.CellSet.{CellSet}
 use Rattle.dsr_repair_theory.specs.declared.entries.Entry.{Entry}
-use Rattle.dsr_report.specs.Reports.{byte_line, entry_text, reset_line, set_line, update_line}
+use Rattle.dsr_report.specs.Reports.{byte_line, entries_behind, entries_text, entry_text, reset_line, set_line, update_line}
 
 -- a text to which four pieces were put, each behind what was there
 put_four : {T : Type 0} (start one two three four a b c d : List T)
@@ -29,3 +30,20 @@ entry_put spec number entry start one two three four first second sets sets_are 
     (flat_map (set_line spec) entry.sets) (flat_map byte_line entry.bytes) first second
     (third ∙ ap (λ xs. two ++ flat_map (set_line spec) xs) sets_are)
     (fourth ∙ ap (λ xs. three ++ flat_map byte_line xs) bytes_are)
+
+-- ---- entries behind others
+
+-- what each of two lists in a row gives
+each_joined : {S T : Type 0} (f : ℕ → S → List T) (n : ℕ) (xs ys : List S)
+    → each_at f n (xs ++ ys) ≡ each_at f n xs ++ each_at f (n + length xs) ys
+each_joined f n [] ys = ap (λ k. each_at f k ys) (omega arith)
+each_joined f n (x ∷ xs) ys =
+    ap (λ t. f n x ++ t) (each_joined f (suc n) xs ys ∙ ap (λ k. each_at f (suc n) xs ++ each_at f k ys) (omega arith))
+    ∙ sym (append_assoc (f n x) (each_at f (suc n) xs) (each_at f (n + length (x ∷ xs)) ys))
+
+-- the lines of some entries, and those of others that stand behind them, are those of all
+pub entries_joined : (spec : Spec) (entries others : List Entry)
+    → entries_text spec (entries ++ others) ≡ entries_text spec entries ++ entries_behind spec (length entries) others
+entries_joined spec entries others =
+    each_joined (entry_text spec) 1 entries others
+    ∙ ap (λ k. entries_text spec entries ++ each_at (entry_text spec) k others) (omega arith)

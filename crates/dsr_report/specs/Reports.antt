@@ -57,9 +57,13 @@ entry_text spec number entry =
     update_line spec number entry ++ option_map_or (reset_line spec) entry.reset []
     ++ flat_map (set_line spec) entry.sets ++ flat_map byte_line entry.bytes
 
+-- the lines of entries that stand behind so many others
+abbrev pub entries_behind : Spec → ℕ → List Entry → List ℕ
+entries_behind spec before entries = each_at (entry_text spec) (before + 1) entries
+
 -- the lines of all entries, which count from 1
 abbrev pub entries_text : Spec → List Entry → List ℕ
-entries_text spec entries = each_at (entry_text spec) 1 entries
+entries_text spec entries = entries_behind spec 0 entries
 
 abbrev pub end_line : ℕ → List ℕ
 end_line count = codes "updates " ++ decimal count ++ codes "\n"

@@ -1,5 +1,5 @@
 // The text that tells what each step of a repair changed.
-ghost use Rattle.std.specs.Prelude.{◌≡◌, ◌++◌, IfOk, OnOk, [], length};
+ghost use Rattle.std.specs.Prelude.{◌≡◌, ◌<◌, ◌+◌, ◌++◌, ◌^◌, IfOk, OnOk, [], length};
 ghost use Rattle.std.specs.List.{flat_map};
 ghost use Rattle.std.specs.Option.{option_map_or};
 ghost use Rattle.dsr_log.specs.Entries.{entry_of};
@@ -153,17 +153,23 @@ fn push_entry(
     push_changes(text, entry.bytes())
 }
 
-/// Appends the lines of all entries, which count from 1.
-pub fn push_entries(text: &mut Vec<u8>, spec: &Spec, log: &Log) -> Result<(), NoMemory>
+/// Appends the lines of all entries of a log, behind so many others that were told before.
+pub fn push_entries(
+    text: &mut Vec<u8>,
+    spec: &Spec,
+    before: u64,
+    log: &Log,
+) -> Result<(), NoMemory>
+    requires few { before + length log.now.entries < 2 ^ 64 }
     ensures { OnOk result (text.new.items ≡ text.old.items
-        ++ said.entries_text spec.now log.now.entries) }
+        ++ said.entries_behind spec.now before log.now.entries) }
 {
     let mut entries = log.entries();
     for place in 0..log.len() {
         let Some(entry) = entries.next() else {
             unreachable!();
         };
-        push_entry(text, spec, place as u64 + 1, &entry)?;
+        push_entry(text, spec, before + place as u64 + 1, &entry)?;
     }
     Ok(())
 }
@@ -181,8 +187,9 @@ pub fn push_end(text: &mut Vec<u8>, count: u64) -> Result<(), NoMemory>
 pub fn text(alloc: Global, spec: &Spec, log: &Log) -> Result<Vec<u8>, NoMemory>
     ensures { IfOk result (λ text. text.items ≡ said.report_text spec.now log.now.entries) }
 {
+    let count = log.len() as u64;
     let mut text = Vec::new(alloc);
-    push_entries(&mut text, spec, log)?;
-    push_end(&mut text, log.len() as u64)?;
+    push_entries(&mut text, spec, 0, log)?;
+    push_end(&mut text, count)?;
     Ok(text)
 }

@@ -10,7 +10,7 @@ use Rattle.dsr_bound_laws.specs.Bounds.{bound}
 use Rattle.dsr_step_theory.specs.Images.{IsImageOf}
 use Rattle.std.proofs.lemmas.List.{length-append}
 use Rattle.dsr_repair_theory.specs.Runs.{IsDueEntry, IsPartRun}
-use Rattle.dsr_repair_theory.specs.Runs.IsPartRun.{goes_on}
+use Rattle.dsr_repair_theory.specs.Runs.IsPartRun.{begins, goes_on}
 use Rattle.dsr_repair_theory.specs.declared.entries.Entry.{Entry}
 
 module _ (spec : Spec) (choice : Choice) (layout : Layout) where
@@ -39,7 +39,29 @@ module _ (spec : Spec) (choice : Choice) (layout : Layout) where
       subst (λ es. IsPartRun spec choice layout old es new) (append_assoc entries more (entry ∷ []))
       (goes_on entry (runs_joined run steps) is)
 
+  -- ---- rounds
+
+  pub round_begins : (bytes : List ℕ) (entries : List Entry) → IsRound spec choice layout bytes entries bytes entries
+  round_begins bytes entries = record { made = []; pushed = sym (append-nil entries); run = begins }
+
+  pub round_on :
+      (old middle new : List ℕ) (before entries after : List Entry) (entry : Entry)
+      → IsRound spec choice layout old before middle entries → IsDueEntry spec choice layout middle entry new
+      → after ≡ entries ++ entry ∷ [] → IsRound spec choice layout old before new after
+  round_on old middle new before entries after entry round due pushed = record {
+    made = round.made ++ entry ∷ [];
+    pushed = pushed ∙ (ap (λ es. es ++ entry ∷ []) round.pushed ∙ append_assoc before round.made (entry ∷ []));
+    run = goes_on entry round.run due;
+  }
+
   -- a round behind a run
+  pub run_of_round :
+      (old middle new : List ℕ) (before after : List Entry) → IsPartRun spec choice layout old before middle
+      → IsRound spec choice layout middle before new after → IsPartRun spec choice layout old after new
+  run_of_round old middle new before after run round =
+      subst (λ es. IsPartRun spec choice layout old es new) (sym round.pushed) (runs_joined run round.run)
+
+  -- one whose entries stand alone
   pub round_joined :
       (old middle new : List ℕ) (entries before after : List Entry) → IsPartRun spec choice layout old entries middle
       → before ≡ [] → IsRound spec choice layout middle before new after

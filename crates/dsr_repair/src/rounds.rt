@@ -19,12 +19,22 @@ use std::alloc::Global;
 
 /// A repair under way: rules on its layout, the model of the bytes that were reached, where the
 /// next step is looked for, and room to draft it.
-#[derive(Drop)]
 pub struct Repair {
-    pub(crate) rules: ResolvedRules,
-    pub(crate) model: Model,
-    pub(crate) cursor: Cursor,
-    pub(crate) draft: Draft,
+    rules: ResolvedRules,
+    model: Model,
+    cursor: Cursor,
+    draft: Draft,
+}
+
+impl Drop for Repair {
+    fn drop(self) {
+        let Repair {
+            rules: _,
+            model: _,
+            cursor: _,
+            draft: _,
+        } = self;
+    }
 }
 
 impl Repair {

@@ -14,10 +14,11 @@ use Rattle.dsr_repair_theory.specs.declared.entries.Entry.{Entry}
 use Rattle.dsr_repair_theory.specs.declared.turns.Need.{Need}
 use Rattle.dsr_repair_theory.specs.declared.turns.Outcome.{Outcome}
 use Rattle.dsr_repair_theory.specs.declared.turns.Outcome.TheVariants.{Consistent, Empty}
+use Rattle.dsr_report.specs.Reports.{entries_text}
 use Rattle.dsr_step_theory.specs.Images.{IsImageOf}
 use Rattle.dsr_script.specs.Moves.{shown}
 use Rattle.dsr_script.specs.declared.moves.Told.{Told}
-use Rattle.dsr_command_image.specs.Repaired.{IsRepairOf, Saves, Tells, empty_answer, repaired_answer}
+use Rattle.dsr_command_image.specs.Repaired.{IsRepairOf, Saves, Tells, ended_answer, stopped_answer}
 use Rattle.dsr_command_image.specs.Repaired.IsRepairOf.{mended, stopped, unlaid}
 
 module _ (spec : Spec) (choice : Choice) (image : List ℕ) where
@@ -50,21 +51,21 @@ module _ (spec : Spec) (choice : Choice) (image : List ℕ) where
 
   pub mended_told :
       (its : Spec) (layout : Layout) (bytes before new saved : List ℕ) (entries : List Entry) (outcome : Outcome)
-      (told : Told) → its ≡ spec → bytes ≡ image → before ≡ image → saved ≡ new
+      (lines : List ℕ) (count : ℕ) (told : Told) → its ≡ spec → bytes ≡ image → before ≡ image → saved ≡ new
       → IsImageOf its layout bytes → IsRun spec choice layout before entries new outcome
-      → outcome ≡ Consistent → shown told ≡ repaired_answer its entries
-      → IsRepairOf spec choice image (Saves saved (shown told))
-  mended_told its layout bytes before new saved entries outcome told same held begun stays of run ends says =
+      → outcome ≡ Consistent → lines ≡ entries_text spec entries → count ≡ length entries
+      → shown told ≡ ended_answer lines count → IsRepairOf spec choice image (Saves saved (shown told))
+  mended_told its layout bytes before new saved entries outcome lines count told same held begun stays of run ends lines_are counted says =
       subst (λ b. IsRepairOf spec choice image (Saves b (shown told))) (sym stays)
-      (subst (λ a. IsRepairOf spec choice image (Saves new a)) (sym (says ∙ ap (λ s. repaired_answer s entries) same))
+      (subst (λ a. IsRepairOf spec choice image (Saves new a)) (sym (says ∙ (λ i. ended_answer (lines_are i) (counted i))))
       (mended layout entries new (image_of its bytes layout same held of) (run_ended layout before new entries outcome Consistent begun ends run)))
 
   pub stopped_told :
       (its : Spec) (layout : Layout) (bytes before new : List ℕ) (entries : List Entry) (outcome : Outcome)
-      (need : Need) (told : Told) → its ≡ spec → bytes ≡ image → before ≡ image
+      (need : Need) (lines : List ℕ) (count : ℕ) (told : Told) → its ≡ spec → bytes ≡ image → before ≡ image
       → IsImageOf its layout bytes → IsRun spec choice layout before entries new outcome
-      → outcome ≡ Empty need → shown told ≡ empty_answer its entries need
-      → IsRepairOf spec choice image (Tells (shown told))
-  stopped_told its layout bytes before new entries outcome need told same held begun of run ends says =
-      subst (λ a. IsRepairOf spec choice image (Tells a)) (sym (says ∙ ap (λ s. empty_answer s entries need) same))
+      → outcome ≡ Empty need → lines ≡ entries_text spec entries → count ≡ length entries
+      → shown told ≡ stopped_answer its lines count need → IsRepairOf spec choice image (Tells (shown told))
+  stopped_told its layout bytes before new entries outcome need lines count told same held begun of run ends lines_are counted says =
+      subst (λ a. IsRepairOf spec choice image (Tells a)) (sym (says ∙ (λ i. stopped_answer (same i) (lines_are i) (counted i) need)))
       (stopped layout entries new need (image_of its bytes layout same held of) (run_ended layout before new entries outcome (Empty need) begun ends run))

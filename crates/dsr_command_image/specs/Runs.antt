@@ -16,10 +16,10 @@ pub record AreTold (spec : Spec) (choice : Choice) (layout : Layout) (old new : 
   pub told : text ≡ entries_text spec entries
   pub counted : count ≡ length entries
 
--- no step is left then, or a supply is empty
+-- and no step is left, or a supply is empty
 pub record IsToldRun (spec : Spec) (choice : Choice) (layout : Layout) (old : List ℕ)
     (run : Run) : Type 0 where
   pub entries : List Entry
-  pub run : IsRun spec choice layout old entries run.image run.outcome
+  pub is : IsRun spec choice layout old entries run.image run.outcome
   pub told : run.text.items ≡ entries_text spec entries
   pub counted : run.count ≡ length entries

@@ -53,21 +53,20 @@ pub fn repair_whole(
     requires image { IsImageOf plan.now.0 layout.now image }
     ensures run { IfOk result (IsToldRun plan.now.0 plan.now.1 layout.now image) }
 {
-    let spec = plan.spec();
-    let mut image = image;
+    let mut repair = Repair::begin(alloc, plan, layout, &image)?;
+    let mut fixed = image;
     let mut log = Log::new(alloc);
     let mut text = Vec::new(alloc);
     let mut count = 0;
-    let mut repair = Repair::begin(alloc, plan, layout, &image)?;
     'rounds: loop {
         log.clear();
-        let ended = repair.go_on(plan, layout, &mut image, &mut log, ROUND)?;
-        count = tell_log(&mut text, spec, count, &log)?;
+        let ended = repair.go_on(plan, layout, &mut fixed, &mut log, ROUND)?;
+        count = tell_log(&mut text, plan.spec(), count, &log)?;
         if let Some(outcome) = ended {
             return Ok(Run {
                 text,
                 count,
-                image,
+                image: fixed,
                 outcome,
             });
         }

@@ -154,12 +154,7 @@ fn push_entry(
 }
 
 /// Appends the lines of all entries of a log, behind so many others that were told before.
-pub fn push_entries(
-    text: &mut Vec<u8>,
-    spec: &Spec,
-    before: u64,
-    log: &Log,
-) -> Result<(), NoMemory>
+pub fn push_entries(text: &mut Vec<u8>, spec: &Spec, before: u64, log: &Log) -> Result<(), NoMemory>
     requires few { before + length log.now.entries < 2 ^ 64 }
     ensures { OnOk result (text.new.items ≡ text.old.items
         ++ said.entries_behind spec.now before log.now.entries) }

@@ -24,16 +24,18 @@ returns-in-Err c =
 pub returns-in-Consistent : goal.returns-in-Consistent
 returns-in-Consistent c =
     let run = c.in_ok-run.run' in
+    let told = c.in_ok-run.ensures.run in
     mended_told c.args.plan.now.0 c.args.plan.now.1 c.args.image.items c.spec-spec.result.now c.in-Ok.layout
-    c.deref.result.now c.new.result run.image c.into_bytes.result.items run.log.entries run.outcome
+    c.deref.result.now c.new.result run.image c.into_bytes.result.items told.entries run.outcome run.text.items run.count
     c.in_ok-told-in-Consistent.told c.spec-spec.ensures.is c.deref.ensures.value c.new.ensures
-    c.into_bytes.ensures c.in-Ok.ensures.image c.in_ok-run.ensures.run c.in-Consistent.is
+    c.into_bytes.ensures c.in-Ok.ensures.image told.is c.in-Consistent.is told.told told.counted
     c.in_ok-told-in-Consistent.ensures
 
 pub returns : goal.returns
 returns c =
     let run = c.in_ok-run.run' in
+    let told = c.in_ok-run.ensures.run in
     stopped_told c.args.plan.now.0 c.args.plan.now.1 c.args.image.items c.spec-spec.result.now c.in-Ok.layout
-    c.deref.result.now c.new.result run.image run.log.entries run.outcome c.in-Empty.need
+    c.deref.result.now c.new.result run.image told.entries run.outcome c.in-Empty.need run.text.items run.count
     c.in_ok-need_told-in-Empty.field-0 c.spec-spec.ensures.is c.deref.ensures.value c.new.ensures
-    c.in-Ok.ensures.image c.in_ok-run.ensures.run c.in-Empty.is c.in_ok-need_told-in-Empty.ensures
+    c.in-Ok.ensures.image told.is c.in-Empty.is told.told told.counted c.in_ok-need_told-in-Empty.ensures

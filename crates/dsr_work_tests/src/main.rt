@@ -5,6 +5,8 @@
 //! of one byte for each of the number that stands there. The image has 200,000 of them, all zero.
 #![tactic(auto)]
 
+ghost use Rattle.dsr_meaning.specs.Typed.{IsTyped};
+
 mod counted;
 
 use anyhow::bail;
@@ -36,33 +38,40 @@ fn image(alloc: Global) -> anyhow::Result<Vec<u8>> {
 }
 
 // Repairs it, and tells the number of steps and whether it was read too often.
-fn work(alloc: Global, plan: &Plan) -> anyhow::Result<String> {
+fn work(alloc: Global, plan: &Plan) -> anyhow::Result<String>
+    requires { IsTyped plan.now.0 }
+{
     let bytes = image(alloc)?;
+    if bytes.len() > 67_108_864 {
+        bail!("too long an image");
+    }
     let Ok(layout) = laid_out(alloc, plan.spec(), &bytes) else {
         bail!("no layout");
     };
     let mut counted = Counted::new(bytes);
     let mut log = Log::new(alloc);
-    let Outcome::Consistent = repair(alloc, plan, &layout, &mut counted, &mut log)? else {
-        bail!("an empty supply");
+    let Ok(Outcome::Consistent) = repair(alloc, plan, &layout, &mut counted, &mut log) else {
+        bail!("no consistent image");
     };
     let within = counted.reads() <= MOST;
     Ok(format!(in alloc; "updates {}, read within {MOST}: {within}\n", log.len())?)
 }
 
-fn plan_and_work(alloc: Global, spec: &Spec) -> anyhow::Result<String> {
-    match find(alloc, spec)? {
-        Found::Plan(choice) => work(alloc, &Plan::adopt(spec, choice)),
-        Found::Stuck(_) => bail!("no plan"),
+fn plan_and_work(alloc: Global, spec: &Spec) -> anyhow::Result<String>
+    requires { IsTyped spec.now }
+{
+    match find(alloc, spec) {
+        Ok(Found::Plan(choice)) => work(alloc, &Plan::adopt(spec, choice)),
+        _ => bail!("no plan"),
     }
 }
 
 fn main(rt: HostRuntime) -> anyhow::Result<()> {
     let alloc = rt.alloc();
     let text = io::read_to_string(alloc, rt.stdin())?;
-    let line = match read(alloc, text.as_bytes())? {
-        Reading::Means(_, spec) => plan_and_work(alloc, &spec)?,
-        Reading::Refused(_) => bail!("no specification"),
+    let line = match read(alloc, text.as_bytes()) {
+        Ok(Reading::Means(_, spec)) => plan_and_work(alloc, &spec)?,
+        _ => bail!("no specification"),
     };
     rt.print(line)?;
     Ok(())

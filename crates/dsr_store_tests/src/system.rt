@@ -1,6 +1,6 @@
 // Files and the output of the system.
 use crate::calls::{Call, first_wrong, is_missed, refusals};
-use dsr_store::{FileShelf, StdSink};
+use dsr_store::{FileShelf, Shelf, StdSink};
 use std::alloc::{AllocError, Global};
 use std::fs::{self, Permissions};
 use std::io;
@@ -119,15 +119,19 @@ fn files_are_saved_and_replaced(rt: HostRuntime) -> Result<(), Fail> {
 
 // Whether a file of this name is saved, and replaced; it is removed.
 fn is_saved_twice(rt: &HostRuntime, alloc: Global, name: &str) -> io::Result<bool> {
-    let calls = [
-        Call::Save(name, b"old", true),
-        Call::Save(name, b"new", true),
-        Call::Load(name, 99, Some(b"new")),
-        Call::Load("absent.bin", 9, None),
-    ];
-    let right = are_right(rt, alloc, &[behind(&calls, 1, false, "absent.bin")])?;
+    let mut shelf = FileShelf {
+        rt,
+        faults: 0,
+        last: None,
+    };
+    let is_saved = shelf.save(alloc, name, b"old").is_ok();
+    let is_replaced = shelf.save(alloc, name, b"new").is_ok();
+    let is_new = match shelf.load(alloc, name, 9) {
+        Ok(bytes) => bytes.as_slice() == b"new",
+        Err(_) => false,
+    };
     fs::remove_file(rt, name)?;
-    Ok(right)
+    Ok(is_saved && is_replaced && is_new)
 }
 
 #[test]

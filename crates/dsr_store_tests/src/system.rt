@@ -127,7 +127,7 @@ fn is_saved_twice(rt: &HostRuntime, alloc: Global, name: &str) -> io::Result<boo
     let is_saved = shelf.save(alloc, name, b"old").is_ok();
     let is_replaced = shelf.save(alloc, name, b"new").is_ok();
     let is_new = match shelf.load(alloc, name, 9) {
-        Ok(bytes) => bytes.as_slice() == b"new",
+        Ok(bytes) => bytes.as_slice() == b"new".as_slice(),
         Err(_) => false,
     };
     fs::remove_file(rt, name)?;

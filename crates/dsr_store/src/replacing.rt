@@ -9,8 +9,9 @@ use std::os::unix::fs::{MetadataExt, OpenOptionsExt, PermissionsExt};
 use std::path::{Path, PathBuf};
 use std::rt::Files;
 
-// How many names are tried for the new file. A save that was killed may have left one behind.
-const TRIES: u8 = 100;
+// How many names are tried for the new file. Other saves have some of them, and those that were
+// killed may have left theirs behind.
+const TRIES: u32 = 10_000;
 
 // How many links are followed, as many as Linux follows.
 const LINKS: u8 = 40;
@@ -139,7 +140,7 @@ fn new_file<R: Files>(
     rt: &R,
     path: &str,
     mode: Option<u32>,
-) -> io::Result<(String, R::File)> {
+) -> io::Result<(PathBuf, R::File)> {
     let mut how = OpenOptions::new();
     how.write(true).create_new(true);
     if let Some(mode) = mode {
@@ -156,11 +157,11 @@ fn new_file<R: Files>(
     Err(ErrorKind::AlreadyExists.into())
 }
 
-fn new_name(alloc: Global, path: &str, number: u8) -> Result<String, AllocError> {
-    if number == 0 {
-        return format!(in alloc; "{path}.dsr-new");
-    }
-    format!(in alloc; "{path}.dsr-new{number}")
+// One of the names in the path's folder. It is short and has nothing of the path's own, which may be
+// as long as a name can be.
+fn new_name(alloc: Global, path: &str, number: u32) -> Result<PathBuf, AllocError> {
+    let name = format!(in alloc; ".dsr-new-{number}")?;
+    Path::new(path).with_file_name(alloc, name.as_str())
 }
 
 // Writes all of a new file to the disk, and closes it. Its mode is set once more, since the system

@@ -60,15 +60,16 @@ fn load_front<R: Files>(alloc: Global, rt: &R, name: &str, cap: u64) -> Result<V
 
 /// The system's files, by their paths. What they hold isn't told, since others may write them too.
 ///
-/// A save never ruins a file. It makes a new file in the same folder, `NAME.dsr-new`, or where that
-/// is taken one of `NAME.dsr-new1` to `NAME.dsr-new99`, writes all bytes of it to the disk, gives
-/// it the permission bits of the file that it replaces, and renames it to NAME.
+/// A save never ruins a file. It makes a new file in the same folder, under the first of the names
+/// `.dsr-new-0` to `.dsr-new-9999` that nothing has, writes all bytes of it to the disk, gives it
+/// the permission bits of the file that it replaces, and renames it to NAME.
 ///
 /// - After a kill or a crash, NAME has all its old bytes or all the new ones; if there was no such
-///   file, there is none, or the whole new one. The file `NAME.dsr-new` may be left. No save
-///   reads it or waits for it, and it can be removed.
-/// - After a failure, for want of room, of leave or of memory, NAME is as it was, and the new file
-///   is removed. Leave is wanted to write the folder as well as the file, if there is one.
+///   file, there is none, or the whole new one. The new file may be left. No save reads it or
+///   writes over it, since it may be that of a save that goes on. It can be removed while none does.
+/// - After a failure, for want of room, of leave, of memory or of a name for the new file, NAME is
+///   as it was, and the new file is removed. Leave is wanted to write the folder as well as the
+///   file, if there is one.
 /// - Where NAME is a symbolic link, it stays, and the file that it leads to is the one that is
 ///   replaced, in that file's folder. Other hard links of a file keep the old bytes. The new
 ///   file has the user and the group of the program, and no attributes but its permission bits.

@@ -1,6 +1,6 @@
 // Files and the output of the system.
 use crate::calls::{Call, first_wrong, is_missed, refusals};
-use dsr_store::{FileShelf, StdSink};
+use dsr_store::{FileShelf, Shelf, StdSink};
 use std::alloc::{AllocError, Global};
 use std::fs::{self, Permissions};
 use std::io;
@@ -52,15 +52,18 @@ const NAME: &str = "replaced.bin";
 const LINK: &str = "replaced.link";
 
 // A save that was killed left this one.
-const LEFT: &str = "replaced.bin.dsr-new";
+const LEFT: &str = ".dsr-new-0";
 
 const REPLACING: [Call<'static>; 5] = [
     Call::Save(LINK, b"new", true),
     Call::Load(NAME, 99, Some(b"new")),
     Call::Load(LEFT, 99, Some(b"left")),
-    Call::Load("replaced.bin.dsr-new1", 99, None),
+    Call::Load(".dsr-new-1", 99, None),
     Call::Save(".", b"new", false),
 ];
+
+// How many bytes a name may have.
+const LONGEST: usize = 255;
 
 fn link(rt: &HostRuntime) -> io::Result<()> {
     fs::set_permissions(rt, NAME, Permissions::from_mode(0o640))?;
@@ -111,6 +114,31 @@ fn files_are_saved_and_replaced(rt: HostRuntime) -> Result<(), Fail> {
     link(&rt)?;
     assert!(rt; are_right(&rt, alloc, &[behind(&REPLACING, 2, true, ".")])?);
     assert!(rt; is_kept(&rt)?);
+    Ok(())
+}
+
+// Whether a file of this name is saved, and replaced; it is removed.
+fn is_saved_twice(rt: &HostRuntime, alloc: Global, name: &str) -> io::Result<bool> {
+    let mut shelf = FileShelf {
+        rt,
+        faults: 0,
+        last: None,
+    };
+    let is_saved = shelf.save(alloc, name, b"old").is_ok();
+    let is_replaced = shelf.save(alloc, name, b"new").is_ok();
+    let is_new = match shelf.load(alloc, name, 9) {
+        Ok(bytes) => bytes.as_slice() == b"new".as_slice(),
+        Err(_) => false,
+    };
+    fs::remove_file(rt, name)?;
+    Ok(is_saved && is_replaced && is_new)
+}
+
+#[test]
+fn longest_names_are_saved(rt: HostRuntime) -> Result<(), Fail> {
+    let alloc = rt.alloc();
+    let name = "n".repeat(alloc, LONGEST)?;
+    assert!(rt; is_saved_twice(&rt, alloc, name.as_str())?);
     Ok(())
 }
 

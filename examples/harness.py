@@ -111,7 +111,10 @@ def trial(form, folder, sound, stored, seed, counts):
     counts["kept"] += form.kept(read(fixed), stored)
     if form.derive:
         form.derive(fixed)
-        counts["accepted once derived parts are rebuilt"] += not form.judge(fixed)
+        complaints = form.judge(fixed)
+        counts["accepted once derived parts are rebuilt"] += not complaints
+        for complaint in complaints[:1]:
+            counts["still: %s" % complaint] += 1
     own = form.own(broken)
     if own is not None:
         counts["kept by its own tool"] += form.kept(read(own), stored)
@@ -129,6 +132,9 @@ def show(form, counts, timed):
     for name in sorted(counts, key=lambda name: (-counts[name], name)):
         if name.startswith("why: "):
             print("not accepted, %d: %s" % (counts[name], name[5:]))
+    for name in sorted(counts, key=lambda name: (-counts[name], name)):
+        if name.startswith("still: "):
+            print("nor once rebuilt, %d: %s" % (counts[name], name[7:]))
     if timed:
         print("a repair: %.1f steps, %.0f ms" % (counts["steps"] / seeds,
                                                  1000 * counts["seconds"] / seeds))

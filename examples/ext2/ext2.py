@@ -10,7 +10,7 @@ sys.path.insert(0, os.path.join(HERE, ".."))
 import harness  # noqa: E402
 
 NAME = "ext2"
-SPECS = [os.path.join(HERE, "ext2.spec")]
+SPECS = [os.path.join(HERE, name) for name in ("folders.spec", "ext2.spec")]
 TOOLS = ["mke2fs", "debugfs", "e2fsck"]
 BLOCK, BLOCKS, INODES = 1024, 1024, 96
 DATA, TABLE, INODE = 17, 5 * 1024, 128          # the first block of data, the table of inodes
@@ -133,6 +133,8 @@ def judge(path):
     kinds = {"unallocated block": "a folder without its block",
              "directory corrupted": "a folder whose block is another one's",
              "i_blocks is": "the number of blocks of a file with an indirect block",
+             "i_size is": "the size of a file that ends behind it",
+             "shared with 0 file": "one block twice in one file",
              "claimed": "shared blocks", "illegal": "illegal pointers"}
     return [kind for words, kind in kinds.items() if words in text] or [text]
 

@@ -25,6 +25,10 @@ HERE = os.path.dirname(os.path.realpath(__file__))
 PROGRAM = os.environ.get("DSR", os.path.join(HERE, "..", "dist", "dsr"))
 
 
+class Missing(Exception):
+    """What a format lacks on this machine, although its tools are there."""
+
+
 def run(words, given=None):
     """The status and the output of a program, both its streams together."""
     done = subprocess.run(words, input=given, stdout=subprocess.PIPE, stderr=subprocess.STDOUT,
@@ -151,11 +155,15 @@ def main(form):
     if lacking:
         print("%s: skipped, without %s" % (form.NAME, ", ".join(lacking)))
         return 0
-    print(form.version())
     with tempfile.TemporaryDirectory() as temporary:
         folder = words.keep or temporary
         os.makedirs(folder, exist_ok=True)
-        sound, stored = form.make(folder)
+        try:
+            sound, stored = form.make(folder)
+        except Missing as lack:
+            print("%s: skipped, without %s" % (form.NAME, lack))
+            return 0
+        print(form.version())
         path = os.path.join(folder, "sound.img")
         write(path, sound)
         if form.judge(path) or check(form.SPECS, path) != 0:

@@ -27,7 +27,9 @@ def dumps(runs):
         files.append([os.path.join(FOLDER.name, "%s%d" % (name, number)) for name in ("p", "d")])
         words += ["-ex", "run run %d %d %s" % (seed, mistake, files[-1][0]),
                   "-ex", "dump binary value %s *store" % files[-1][1], "-ex", "kill"]
-    harness.demand(words + [STORE])
+    text = harness.run(words + [STORE])[1]
+    if not all(os.path.exists(out) for _, out in files):
+        raise harness.Missing("leave to trace" if "ptrace" in text else "a debugger that runs it")
     return [(harness.read(out), dict(line.split() for line in harness.read(pairs).splitlines()))
             for pairs, out in files]
 

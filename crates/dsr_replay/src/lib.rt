@@ -1,0 +1,18 @@
+//! Reports held against images: whether a report tells the repair of an image, found by replaying
+//! it, and the image before a repair, found by taking back what its report tells.
+#![tactic(auto)]
+
+mod auditing;
+mod bytes;
+mod differences;
+mod faults;
+mod laws;
+mod lines;
+mod replaying;
+mod texts;
+mod undoing;
+
+pub use auditing::audit;
+pub use faults::AuditFault;
+pub use laws::audits_have_one_outcome;
+pub use undoing::undo;

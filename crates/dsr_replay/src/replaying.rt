@@ -1,0 +1,75 @@
+// One step of a repair, held against an entry.
+ghost use Rattle.std.specs.Prelude.{◌≡◌, IfErr, IfOk, length};
+ghost use Rattle.dsr_image.specs.Images.{AreClaimed};
+ghost use Rattle.dsr_replay.specs.Steps.{IsMatched, IsMismatch};
+ghost use Rattle.dsr_repair.specs.Cursors.{IsCursorOn};
+ghost use Rattle.dsr_repair.specs.Stepping.{IsModelled};
+ghost use Rattle.dsr_resolve.specs.Rules.{AreResolved};
+
+use crate::faults::AuditFault;
+use crate::lines::lines_back;
+use crate::texts::are_alike;
+use dsr_fixed_bits::FixedBits;
+use dsr_image::ImageBytes;
+use dsr_ir::Layout;
+use dsr_log::{EntryRef, Log};
+use dsr_model::Model;
+use dsr_plan_theory::Plan;
+use dsr_repair::{Cursor, Draft, step};
+use dsr_repair_theory::Turn;
+use dsr_resolve::ResolvedRules;
+use std::alloc::Global;
+
+/// Makes the step that is due, where it has the entry's text under this number. Else all bytes are
+/// as before: a step that was made is taken back. All of the image is claimed, so that this needs
+/// no memory. What the draft and the log of the step held is of no matter.
+pub fn replay<I: ImageBytes>(
+    alloc: Global,
+    plan: &Plan,
+    layout: &Layout,
+    rules: &ResolvedRules,
+    image: &mut I,
+    model: &mut Model,
+    cursor: &mut Cursor,
+    draft: &mut Draft,
+    made: &mut Log,
+    number: u64,
+    told: &EntryRef,
+) -> Result<(), AuditFault>
+    requires modelled { IsModelled plan.now.0 layout.now (I.ImageBytes.bytes image.old) model.old }
+    requires rules { AreResolved plan.now.0 layout.now rules.now }
+    requires cursor { IsCursorOn plan.now.0 plan.now.1 layout.now (I.ImageBytes.bytes image.old)
+        cursor.old }
+    requires claimed { AreClaimed (I.ImageBytes.claimed image.old) 0
+        (length (I.ImageBytes.bytes image.old)) }
+    ensures matched { IfOk result (λ _. IsMatched plan.now.0 plan.now.1 layout.now number told.now
+        (I.ImageBytes.bytes image.old) (I.ImageBytes.bytes image.new)) }
+    ensures modelled { IfOk result (λ _. IsModelled plan.now.0 layout.now
+        (I.ImageBytes.bytes image.new) model.new) }
+    ensures cursor { IfOk result (λ _. IsCursorOn plan.now.0 plan.now.1 layout.now
+        (I.ImageBytes.bytes image.new) cursor.new) }
+    ensures claimed { IfOk result (λ _. AreClaimed (I.ImageBytes.claimed image.new) 0
+        (length (I.ImageBytes.bytes image.new))) }
+    ensures unlike { IfErr result (IsMismatch plan.now.0 plan.now.1 layout.now number told.now
+        (I.ImageBytes.bytes image.old)) }
+    ensures stays { IfErr result (λ _. I.ImageBytes.bytes image.new
+        ≡ I.ImageBytes.bytes image.old) }
+{
+    made.clear();
+    let Turn::Step(_) = step(plan, layout, rules, image, model, cursor, draft, made)? else {
+        return Err(AuditFault::Entry(number));
+    };
+    let Some(due) = made.entries().next() else {
+        unreachable!();
+    };
+    let fault = match are_alike(alloc, plan.spec(), number, told, &due) {
+        Ok(true) => return Ok(()),
+        Ok(false) => AuditFault::Entry(number),
+        Err(_) => AuditFault::NoMemory,
+    };
+    let fixed = FixedBits::new(&plan.spec().base);
+    if lines_back(&fixed, number, due.bytes(), image).is_err() {
+        unreachable!();
+    }
+    Err(fault)
+}

@@ -23,10 +23,14 @@ pub struct FixedBits<'a> {
 }
 
 impl<'a> Model for FixedBits<'a> {
+    ghost use Rattle.std.specs.Coded.{codes};
     ghost use Rattle.dsr_fixed_bits.specs.Bits.{AreResolved};
+    ghost use Rattle.dsr_ir.specs.Exprs.{shape_code};
     ghost use Rattle.dsr_ir.specs.declared.declarations.Structures.{Structures};
 
     ghost Value = { Structures };
+
+    ghost coded = { Prim.hlevel (codes, shape_code) };
 
     ghost view = { λ f. f.base.now };
 

@@ -3,16 +3,13 @@
 #![tactic(auto)]
 
 mod auditing;
-mod bytes;
 mod differences;
 mod faults;
 mod laws;
-mod lines;
 mod replaying;
 mod texts;
-mod undoing;
 
 pub use auditing::audit;
+pub use dsr_undo::undo;
 pub use faults::AuditFault;
 pub use laws::audits_have_one_outcome;
-pub use undoing::undo;

@@ -7,7 +7,6 @@ ghost use Rattle.dsr_repair.specs.Stepping.{IsModelled};
 ghost use Rattle.dsr_resolve.specs.Rules.{AreResolved};
 
 use crate::faults::AuditFault;
-use crate::lines::lines_back;
 use crate::texts::are_alike;
 use dsr_fixed_bits::FixedBits;
 use dsr_image::ImageBytes;
@@ -18,6 +17,7 @@ use dsr_plan_theory::Plan;
 use dsr_repair::{Cursor, Draft, step};
 use dsr_repair_theory::Turn;
 use dsr_resolve::ResolvedRules;
+use dsr_undo::lines_back;
 use std::alloc::Global;
 
 /// Makes the step that is due, where it has the entry's text under this number. Else all bytes are

@@ -1,5 +1,6 @@
 -- What lies behind a place of a list, walked from the last to the first.
-use Rattle.std.proofs.Common.{◌≡◌, ◌<◌, ◌≤◌, ◌+◌, ℕ, zero, suc, List, [], ◌∷◌, drop, length, get_or, sym, subst, arith}
+use Rattle.std.proofs.Common.{◌≡◌, ◌<◌, ◌≤◌, ◌+◌, ◌∙◌, ℕ, zero, suc, List, [], ◌∷◌, ◌++◌, drop, length, get_or, sym, ap, subst, append_assoc, append-nil, length-append, arith}
+use Rattle.std.proofs.lemmas.List.{nil_from_length}
 use Rattle.std.proofs.Math.ListN.{drop_of_length-le}
 use Rattle.std.proofs.Math.Seq.{drop-cons}
 use Rattle.dsr_ir.specs.declared.declarations.Structures.{Structures}
@@ -35,20 +36,35 @@ module _ (base : Structures) where
 
   -- ---- entries
 
-  pub entries_start : (entries : List Entry) (k : ℕ) (bytes : List ℕ) → length entries ≤ k → AreTakenBack base (drop k entries) bytes bytes
-  entries_start entries k bytes past = subst (λ es. AreTakenBack base es bytes bytes) (sym (drop_of_length-le entries past)) no_entry
+  -- of all entries those behind the ones that are left are taken back
+  pub record IsWalkedBack (all left : List Entry) (old new : List ℕ) : Type 0 where
+    pub behind : List Entry
+    pub all_are : all ≡ left ++ behind
+    pub back : AreTakenBack base behind old new
 
-  pub entries_more : (entries : List Entry) (at next : ℕ) (d : Entry) (bytes middle new : List ℕ) → at < length entries → next ≡ suc at → AreTakenBack base (drop next entries) bytes middle → AreLinesBack base (get_or entries at d).bytes middle new → AreTakenBack base (drop at entries) bytes new
-  entries_more entries at next d bytes middle new within is rest own =
-      subst (λ es. AreTakenBack base es bytes new) (sym (drop-cons entries at d within))
-      (then_entry (get_or entries at d) (subst (λ n. AreTakenBack base (drop n entries) bytes middle) is rest) own)
+  pub walk_starts : (all : List Entry) (bytes : List ℕ) → IsWalkedBack all all bytes bytes
+  walk_starts all bytes = record { behind = []; all_are = sym (append-nil all); back = no_entry }
 
-  front_entries : (first : ℕ) (entries : List Entry) (k number : ℕ) (bytes new : List ℕ) (fault : UndoFault) → number ≡ first + k → IsRefused base number (drop k entries) bytes new fault → IsRefused base first entries bytes new fault
-  front_entries first entries zero number bytes new fault is refused = let same : number ≡ first = omega (arith, is) in subst (λ n. IsRefused base n entries bytes new fault) same refused
-  front_entries first [] (suc k) number bytes new fault is refused = elim refused [ ]
-  front_entries first (entry ∷ entries) (suc k) number bytes new fault is refused = later_entry entry (front_entries (suc first) entries k number bytes new fault (omega (arith, is)) refused)
+  module _ (all left rest : List Entry) (entry : Entry) (old middle new : List ℕ) (walked : IsWalkedBack all left old middle) (last : left ≡ rest ++ entry ∷ []) where
+    -- the last one that is left stands before those
+    moved : all ≡ rest ++ entry ∷ walked.behind
+    moved = walked.all_are ∙ (ap (λ es. es ++ walked.behind) last ∙ append_assoc rest (entry ∷ []) walked.behind)
 
-  pub entries_refused : (entries : List Entry) (at next : ℕ) (d : Entry) (bytes middle new : List ℕ) (fault : UndoFault) → at < length entries → next ≡ suc at → AreTakenBack base (drop next entries) bytes middle → IsRefusedIn base (at + 1) (get_or entries at d).bytes middle new fault → IsRefused base 1 entries bytes new fault
-  entries_refused entries at next d bytes middle new fault within is rest refused =
-      front_entries 1 entries at (at + 1) bytes new fault (omega arith) (subst (λ es. IsRefused base (at + 1) es bytes new fault) (sym (drop-cons entries at d within))
-      (this_entry (get_or entries at d) (subst (λ n. AreTakenBack base (drop n entries) bytes middle) is rest) refused))
+    pub walk_more : AreLinesBack base entry.bytes middle new → IsWalkedBack all rest old new
+    walk_more lines = record { behind = entry ∷ walked.behind; all_are = moved; back = then_entry entry walked.back lines }
+
+    pub walk_refused : (fault : UndoFault) → IsRefusedIn base (length left) entry.bytes middle new fault → IsRefused base 1 all old new fault
+    walk_refused fault refused =
+        let number : length left ≡ 1 + length rest = ap length last ∙ (length-append rest (entry ∷ []) ∙ omega arith) in
+        subst (λ es. IsRefused base 1 es old new fault) (sym moved)
+        (front 1 rest (subst (λ n. IsRefused base n (entry ∷ walked.behind) old new fault) number (this_entry entry walked.back refused)))
+    where
+      front : (first : ℕ) (before : List Entry) → IsRefused base (first + length before) (entry ∷ walked.behind) old new fault → IsRefused base first (before ++ entry ∷ walked.behind) old new fault
+      front first [] it = let same : first + 0 ≡ first = omega arith in subst (λ n. IsRefused base n (entry ∷ walked.behind) old new fault) same it
+      front first (e ∷ before) it =
+          let same : first + suc (length before) ≡ suc first + length before = omega arith in
+          later_entry e (front (suc first) before (subst (λ n. IsRefused base n (entry ∷ walked.behind) old new fault) same it))
+
+  pub walk_ends : (all left : List Entry) (old new : List ℕ) → length left ≡ 0 → IsWalkedBack all left old new → AreTakenBack base all old new
+  walk_ends all left old new none walked =
+      subst (λ es. AreTakenBack base es old new) (sym (walked.all_are ∙ ap (λ es. es ++ walked.behind) (nil_from_length left none))) walked.back

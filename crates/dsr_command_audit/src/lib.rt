@@ -10,7 +10,7 @@ mod texts;
 mod undos;
 
 pub use audits::audit;
-pub use laws::audited_repairs_are_taken_back;
+pub use laws::{audited_repairs_are_taken_back, reports_of_repairs_are_audited};
 pub use layouts::{Laid, lay_out};
 pub use texts::{audit_fault_told, audited_told, line_told, undo_fault_told, undone_told};
 pub use undos::{Undone, undo};

@@ -49,19 +49,23 @@ module _ (spec : Spec) (choice : Choice) (layout : Layout) where
           sym (none_run on.steps none)
     ]
 
+    Next : ℕ → List ℕ → Entry → Type 0
+    Next count reached told = (due : Entry) × (new : List ℕ) × IsDueEntry spec choice layout reached due new × HaveOneText spec (count + 1) told due
+
+    by_rest : (count more : ℕ) (reached last : List ℕ) → count < more → (one : IsReplayed spec choice layout image log count reached) (two : IsReplayed spec choice layout image log more last) (told : Entry) → slice_get log count ≡ Some told → (rest : List Entry) → IsPartRun spec choice layout reached rest last → two.run ≡ one.run ++ rest → Next count reached told
+    by_rest count more reached last less one two told told_is [] steps is = absurd (omega (arith, less, one.count_is, two.count_is, ap length is, length-append one.run []))
+    by_rest count more reached last less one two told told_is (e ∷ es) steps is =
+        let due = first_due steps e es refl in
+        let at : slice_get two.run count ≡ Some e = ap (λ xs. slice_get xs count) is ∙ (ap (slice_get (one.run ++ e ∷ es)) (sym one.count_is) ∙ at_seam one.run es e) in
+        let text : HaveOneText spec (count + 1) told e = subst (λ o. IsSomeAnd o (λ t. HaveOneText spec (count + 1) t e)) told_is (two.told count e at) in
+        (e, due.0, due.1, text)
+
     -- where more steps are replayed, the next one has the text that is told
-    next_told : (count more : ℕ) (reached last : List ℕ) → count < more → IsReplayed spec choice layout image log count reached → IsReplayed spec choice layout image log more last → (told : Entry) → slice_get log count ≡ Some told → (due : Entry) × (new : List ℕ) × IsDueEntry spec choice layout reached due new × HaveOneText spec (count + 1) told due
+    next_told : (count more : ℕ) (reached last : List ℕ) → count < more → IsReplayed spec choice layout image log count reached → IsReplayed spec choice layout image log more last → (told : Entry) → slice_get log count ≡ Some told → Next count reached told
     next_told count more reached last less one two told told_is = elim (run_fronts spec choice layout plan image_is.typed image reached last one.run two.run image_is one.steps two.steps) [
-      | inl on ↦ by_rest on.rest on.steps on.entries
+      | inl on ↦ by_rest count more reached last less one two told told_is on.rest on.steps on.entries
       | inr on ↦ absurd (omega (arith, less, one.count_is, two.count_is, ap length on.entries, length-append two.run on.rest))
-    ] where
-      by_rest : (rest : List Entry) → IsPartRun spec choice layout reached rest last → two.run ≡ one.run ++ rest → (due : Entry) × (new : List ℕ) × IsDueEntry spec choice layout reached due new × HaveOneText spec (count + 1) told due
-      by_rest [] steps is = absurd (omega (arith, less, one.count_is, two.count_is, ap length is, length-append one.run []))
-      by_rest (e ∷ es) steps is =
-          let due = first_due steps e es refl in
-          let at : slice_get two.run count ≡ Some e = ap (λ es. slice_get es count) is ∙ (ap (slice_get (one.run ++ e ∷ es)) (sym one.count_is) ∙ at_seam one.run es e) in
-          let text : HaveOneText spec (count + 1) told e = subst (λ o. IsSomeAnd o (λ t. HaveOneText spec (count + 1) t e)) told_is (two.told count e at) in
-          (e, due.0, due.1, text)
+    ]
 
     unlike_never : (number count : ℕ) (last : List ℕ) (one : IsFirstUnlike spec choice layout image log number) → one.before < count → IsReplayed spec choice layout image log count last → ⊥
     unlike_never number count last one less two =

@@ -26,6 +26,13 @@ IsMismatch spec choice layout number told bytes (faults.Entry n) =
 IsMismatch spec choice layout number told bytes faults.NoMemory = Unit {0}
 IsMismatch spec choice layout number told bytes fault = ⊥
 
+-- the step that was made has another text, and the entry's number is told; or memory is wanting
+abbrev pub IsTextFault : Spec → ℕ → Entry → Entry → AuditFault → Type 0
+IsTextFault spec number told made (faults.Entry n) =
+    (n ≡ number) × (HaveOneText spec number told made → ⊥)
+IsTextFault spec number told made faults.NoMemory = Unit {0}
+IsTextFault spec number told made fault = ⊥
+
 -- as long as entries are replayed, no other fault is told
 abbrev pub IsUnlike : Spec → Choice → Layout → List ℕ → List Entry → AuditFault → Type 0
 IsUnlike spec choice layout image log (faults.Entry number) =

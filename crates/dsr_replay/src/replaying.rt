@@ -1,7 +1,8 @@
 // One step of a repair, held against an entry.
-ghost use Rattle.std.specs.Prelude.{◌≡◌, IfErr, IfOk, length};
+ghost use Rattle.std.specs.Prelude.{◌≡◌, IfErr, IfOk, MatchOption, length};
 ghost use Rattle.dsr_image.specs.Images.{AreClaimed};
-ghost use Rattle.dsr_replay.specs.Steps.{IsMatched, IsMismatch};
+ghost use Rattle.dsr_replay.specs.Audits.{HaveOneText};
+ghost use Rattle.dsr_replay.specs.Steps.{IsMatched, IsMismatch, IsTextFault};
 ghost use Rattle.dsr_repair.specs.Cursors.{IsCursorOn};
 ghost use Rattle.dsr_repair.specs.Stepping.{IsModelled};
 ghost use Rattle.dsr_resolve.specs.Rules.{AreResolved};
@@ -10,7 +11,7 @@ use crate::faults::AuditFault;
 use crate::texts::are_alike;
 use dsr_fixed_bits::FixedBits;
 use dsr_image::ImageBytes;
-use dsr_ir::Layout;
+use dsr_ir::{Layout, Spec};
 use dsr_log::{EntryRef, Log};
 use dsr_model::Model;
 use dsr_plan_theory::Plan;
@@ -19,6 +20,24 @@ use dsr_repair_theory::Turn;
 use dsr_resolve::ResolvedRules;
 use dsr_undo::lines_back;
 use std::alloc::Global;
+
+// Why a step isn't told by an entry, if it isn't.
+fn mismatch(
+    alloc: Global,
+    spec: &Spec,
+    number: u64,
+    told: &EntryRef,
+    made: &EntryRef,
+) -> Option<AuditFault>
+    ensures { MatchOption result (HaveOneText spec.now number told.now made.now)
+        (IsTextFault spec.now number told.now made.now) }
+{
+    match are_alike(alloc, spec, number, told, made) {
+        Ok(true) => None,
+        Ok(false) => Some(AuditFault::Entry(number)),
+        Err(_) => Some(AuditFault::NoMemory),
+    }
+}
 
 /// Makes the step that is due, where it has the entry's text under this number. Else all bytes are
 /// as before: a step that was made is taken back. All of the image is claimed, so that this needs
@@ -62,10 +81,8 @@ pub fn replay<I: ImageBytes>(
     let Some(due) = made.entries().next() else {
         unreachable!();
     };
-    let fault = match are_alike(alloc, plan.spec(), number, told, &due) {
-        Ok(true) => return Ok(()),
-        Ok(false) => AuditFault::Entry(number),
-        Err(_) => AuditFault::NoMemory,
+    let Some(fault) = mismatch(alloc, plan.spec(), number, told, &due) else {
+        return Ok(());
     };
     let fixed = FixedBits::new(&plan.spec().base);
     if lines_back(&fixed, number, due.bytes(), image).is_err() {

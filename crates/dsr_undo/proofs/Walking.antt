@@ -53,17 +53,17 @@ module _ (base : Structures) where
     pub walk_more : AreLinesBack base entry.bytes middle new → IsWalkedBack all rest old new
     walk_more lines = record { behind = entry ∷ walked.behind; all_are = moved; back = then_entry entry walked.back lines }
 
+    front : (first : ℕ) (before : List Entry) (fault : UndoFault) → IsRefused base (first + length before) (entry ∷ walked.behind) old new fault → IsRefused base first (before ++ entry ∷ walked.behind) old new fault
+    front first [] fault it = let same : first + 0 ≡ first = omega arith in subst (λ n. IsRefused base n (entry ∷ walked.behind) old new fault) same it
+    front first (e ∷ before) fault it =
+        let same : first + suc (length before) ≡ suc first + length before = omega arith in
+        later_entry e (front (suc first) before fault (subst (λ n. IsRefused base n (entry ∷ walked.behind) old new fault) same it))
+
     pub walk_refused : (fault : UndoFault) → IsRefusedIn base (length left) entry.bytes middle new fault → IsRefused base 1 all old new fault
     walk_refused fault refused =
         let number : length left ≡ 1 + length rest = ap length last ∙ (length-append rest (entry ∷ []) ∙ omega arith) in
         subst (λ es. IsRefused base 1 es old new fault) (sym moved)
-        (front 1 rest (subst (λ n. IsRefused base n (entry ∷ walked.behind) old new fault) number (this_entry entry walked.back refused)))
-    where
-      front : (first : ℕ) (before : List Entry) → IsRefused base (first + length before) (entry ∷ walked.behind) old new fault → IsRefused base first (before ++ entry ∷ walked.behind) old new fault
-      front first [] it = let same : first + 0 ≡ first = omega arith in subst (λ n. IsRefused base n (entry ∷ walked.behind) old new fault) same it
-      front first (e ∷ before) it =
-          let same : first + suc (length before) ≡ suc first + length before = omega arith in
-          later_entry e (front (suc first) before (subst (λ n. IsRefused base n (entry ∷ walked.behind) old new fault) same it))
+        (front 1 rest fault (subst (λ n. IsRefused base n (entry ∷ walked.behind) old new fault) number (this_entry entry walked.back refused)))
 
   pub walk_ends : (all left : List Entry) (old new : List ℕ) → length left ≡ 0 → IsWalkedBack all left old new → AreTakenBack base all old new
   walk_ends all left old new none walked =

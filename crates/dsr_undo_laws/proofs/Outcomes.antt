@@ -14,12 +14,12 @@ use Rattle.dsr_undo_laws.specs.declared.faults.UndoFault.{UndoFault}
 module _ {base : Structures} where
   -- ---- the lines of one entry
 
-  lines_one : (changes : List ByteChange) (bytes new other : List ℕ) → AreLinesBack base changes bytes new → AreLinesBack base changes bytes other → new ≡ other
+  pub lines_one : (changes : List ByteChange) (bytes new other : List ℕ) → AreLinesBack base changes bytes new → AreLinesBack base changes bytes other → new ≡ other
   lines_one [] bytes new other no_line no_line = refl
   lines_one (line ∷ rest) bytes new other (then_line _ first one) (then_line _ second two) =
       one.put ∙ (ap (λ xs. set xs line.place line.old) (lines_one rest bytes _ _ first second) ∙ sym two.put)
 
-  lines_never : (entry : ℕ) (changes : List ByteChange) (bytes new other : List ℕ) (fault : UndoFault) → AreLinesBack base changes bytes new → IsRefusedIn base entry changes bytes other fault → ⊥
+  pub lines_never : (entry : ℕ) (changes : List ByteChange) (bytes new other : List ℕ) (fault : UndoFault) → AreLinesBack base changes bytes new → IsRefusedIn base entry changes bytes other fault → ⊥
   lines_never entry [] bytes new other fault back refused = elim refused [ ]
   lines_never entry (line ∷ rest) bytes new other _ (then_line _ first one) (here _ second (byte missing)) =
       missing (subst (IsThere line) (lines_one rest bytes _ other first second) one.there)

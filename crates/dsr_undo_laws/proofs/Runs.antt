@@ -40,7 +40,7 @@ module _ (spec : Spec) (choice : Choice) (layout : Layout) (plan : IsPlan spec c
     stepped : IsStepped spec layout due.step due.update old new
     stepped = was_stepped spec layout due.step due.update old new entry due.made
 
-    as_long : length new ≡ length old
+    pub as_long : length new ≡ length old
     as_long =
         let reset : length stepped.between ≡ length old = elim due.step.fresh as (λ o. MatchOption o (stepped.between ≡ old) (λ e. ArePut (reset_puts spec.base layout e) old stepped.between) → length stepped.between ≡ length old) [
           | None ↦ λ same. ap length same

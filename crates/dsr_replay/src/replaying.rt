@@ -74,6 +74,7 @@ pub fn replay<I: ImageBytes>(
     ensures stays { IfErr result (λ _. I.ImageBytes.bytes image.new
         ≡ I.ImageBytes.bytes image.old) }
 {
+    let spec = plan.spec();
     made.clear();
     let Turn::Step(_) = step(plan, layout, rules, image, model, cursor, draft, made)? else {
         return Err(AuditFault::Entry(number));
@@ -81,10 +82,10 @@ pub fn replay<I: ImageBytes>(
     let Some(due) = made.entries().next() else {
         unreachable!();
     };
-    let Some(fault) = mismatch(alloc, plan.spec(), number, told, &due) else {
+    let Some(fault) = mismatch(alloc, spec, number, told, &due) else {
         return Ok(());
     };
-    let fixed = FixedBits::new(&plan.spec().base);
+    let fixed = FixedBits::new(&spec.base);
     if lines_back(&fixed, number, due.bytes(), image).is_err() {
         unreachable!();
     }

@@ -35,3 +35,27 @@ pub rebuild-requires-clause-laid_out : goal.rebuild-requires-clause-laid_out
 rebuild-requires-clause-laid_out g c =
     subst (λ s. IsLaidOut s c.args.layout.now (g.I.ImageBytes.bytes c.args.image.now)) (sym c.requires.spec)
     (laid_out c.args.plan.now.0 c.args.layout.now (g.I.ImageBytes.bytes c.args.image.now) c.requires.image)
+
+pub loop-place-init : goal.loop-place-init
+loop-place-init g c =
+    let old = g.I.ImageBytes.bytes c.args.image.now in
+    record {
+      replayed = replays_none c.args.plan.now.0 c.args.plan.now.1 c.args.layout.now old c.args.log.now.entries;
+      left = c.entries-entries.ensures;
+      within = omega arith;
+      modelled = record {
+        image = c.requires.image;
+        prepared = subst (λ s. IsPreparedFor s c.args.layout.now c.rebuild.new.model) c.requires.spec c.rebuild.ensures.prepared;
+        model = subst (λ s. IsModelOf s c.args.layout.now old c.rebuild.new.model) c.requires.spec c.rebuild.ensures.model;
+      };
+      cursor = cursor_begins c.args.plan.now.0 c.args.plan.now.1 c.args.layout.now old c.in_ok-cursor.cursor
+          (subst (λ choice. IsRepairOrder choice c.in_ok-cursor.cursor.order.items) c.choice.ensures.is c.in_ok-cursor.ensures.ordered)
+          c.in_ok-cursor.ensures.begins;
+      claimed = c.requires.claimed;
+    }
+
+pub unreachable-requires : goal.unreachable-requires
+unreachable-requires g c = ?
+
+pub loop-place-preserved : goal.loop-place-preserved
+loop-place-preserved g c = ?

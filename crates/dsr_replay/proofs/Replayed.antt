@@ -1,5 +1,6 @@
 -- Steps that are replayed, one after the other.
 use Rattle.std.proofs.Common.{◌≡◌, ◌+◌, ◌<◌, ◌≤◌, ◌∙◌, ℕ, List, [], ◌∷◌, ◌++◌, Option, None, Some, IsSomeAnd, length, length-append, slice_get, inl, inr, refl, sym, ap, subst, arith}
+use Rattle.std.specs.Prelude.{Result, Ok, Err, IfErr, IsErrAnd}
 use Rattle.dsr_ir.specs.declared.declarations.Spec.{Spec}
 use Rattle.dsr_ir.specs.declared.layouts.Layout.{Layout}
 use Rattle.dsr_plan_theory.specs.declared.choices.Choice.{Choice}
@@ -65,3 +66,8 @@ module _ (spec : Spec) (choice : Choice) (layout : Layout) (image : List ℕ) (l
   fault_told fixed (faults.Short n) unlike = absurd unlike
   fault_told fixed (faults.Fixed n) unlike = absurd unlike
   fault_told fixed faults.NoMemory unlike = tt
+
+-- a fault that is handed on is the one that came
+pub handed_on : {T : Type 0} (Is : AuditFault → Type 0) (fault : AuditFault) → Is fault → (r : Result T AuditFault) → IsErrAnd r (λ e. e ≡ fault) → IfErr r Is
+handed_on Is fault is (Ok x) came = tt
+handed_on Is fault is (Err e) came = subst Is (sym came) is

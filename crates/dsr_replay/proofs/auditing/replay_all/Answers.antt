@@ -6,7 +6,8 @@ use Rattle.dsr_repair.proofs.Moved.{cursor_begins, few_rows}
 use Rattle.dsr_repair.proofs.StepMade.{laid_out}
 use Rattle.dsr_repair.specs.Orders.{IsRepairOrder}
 use Rattle.dsr_replay.proofs.Places.{left_behind, next_is, some_left}
-use Rattle.dsr_replay.proofs.Replayed.{is_unlike, parts_none, parts_some, replays_more, replays_none}
+use Rattle.dsr_replay.proofs.Replayed.{handed_on, is_unlike, parts_none, replays_more, replays_none}
+use Rattle.dsr_replay.specs.Steps.{IsUnlike}
 use Rattle.dsr_replay.specs.Audits.{IsReplayed}
 use Rattle.dsr_resolve.proofs.AcceptedLayouts.{legal_of}
 use Rattle.dsr_replay.proofs.auditing.replay_all.Goals as goal
@@ -55,7 +56,34 @@ loop-place-init g c =
     }
 
 pub unreachable-requires : goal.unreachable-requires
-unreachable-requires g c = ?
+unreachable-requires g c =
+    some_left c.args.log.now.entries c.loop-place.place (omega (arith, c.loop-place-test.true, c.len-place-end.ensures))
+    (sym c.loop-place.invariant.left ∙ c.in_default.ensures.steps.0)
+
+pub returns-in_err-replay-clause-unlike : goal.returns-in_err-replay-clause-unlike
+returns-in_err-replay-clause-unlike g c =
+    let told_is = next_is c.args.log.now.entries c.loop-place.place c.in-Some.told c.next.new.self (sym c.loop-place.invariant.left ∙ c.in-Some.ensures.steps) in
+    handed_on (IsUnlike c.args.plan.now.0 c.args.plan.now.1 c.args.layout.now (g.I.ImageBytes.bytes c.args.image.now) c.args.log.now.entries) c.in_err-replay.field-0.0
+    (is_unlike c.args.plan.now.0 c.args.plan.now.1 c.args.layout.now (g.I.ImageBytes.bytes c.args.image.now) c.args.log.now.entries c.loop-place.place (g.I.ImageBytes.bytes c.loop-place.image)
+    c.loop-place.invariant.replayed c.in-Some.told told_is c.in_err-replay.field-0.0 c.in_err-replay.ensures.unlike)
+    c.from_residual-in_err-replay.result c.from_residual-in_err-replay.ensures.1
 
 pub loop-place-preserved : goal.loop-place-preserved
-loop-place-preserved g c = ?
+loop-place-preserved g c =
+    let first = sym c.loop-place.invariant.left ∙ c.in-Some.ensures.steps in
+    let told_is = next_is c.args.log.now.entries c.loop-place.place c.in-Some.told c.next.new.self first in
+    let rest : drop (c.loop-place.place + 1) c.args.log.now.entries ≡ c.next.new.self = left_behind c.args.log.now.entries c.loop-place.place c.in-Some.told c.next.new.self first in
+    record {
+      replayed = replays_more c.args.plan.now.0 c.args.plan.now.1 c.args.layout.now (g.I.ImageBytes.bytes c.args.image.now) c.args.log.now.entries c.loop-place.place (g.I.ImageBytes.bytes c.loop-place.image)
+          c.loop-place.invariant.replayed c.in-Some.told told_is (g.I.ImageBytes.bytes c.replay.new.image) c.in_ok-replay.ensures.matched;
+      left = sym rest;
+      within = omega (arith, c.loop-place-test.true, c.len-place-end.ensures);
+      modelled = c.in_ok-replay.ensures.modelled;
+      cursor = c.in_ok-replay.ensures.cursor;
+      claimed = c.in_ok-replay.ensures.claimed;
+    }
+
+pub returns-clause-replayed : goal.returns-clause-replayed
+returns-clause-replayed g c =
+    let all : c.loop-place.place ≡ length c.args.log.now.entries = omega (arith, c.loop-place-test.false, c.len-place-end.ensures, c.loop-place.invariant.within) in
+    subst (λ n. IsReplayed c.args.plan.now.0 c.args.plan.now.1 c.args.layout.now (g.I.ImageBytes.bytes c.args.image.now) c.args.log.now.entries n (g.I.ImageBytes.bytes c.loop-place.image)) all c.loop-place.invariant.replayed

@@ -21,12 +21,7 @@ pub enum Undone {
 }
 
 /// Takes back what a report tells of a repair that led to the fixed bytes.
-pub fn undo(
-    alloc: Global,
-    spec: &Spec,
-    fixed: Vec<u8>,
-    report: &[u8],
-) -> Result<Undone, NoMemory>
+pub fn undo(alloc: Global, spec: &Spec, fixed: Vec<u8>, report: &[u8]) -> Result<Undone, NoMemory>
     requires typed { IsTyped spec.now }
     requires small { length fixed.items ≤ 67108864 }
     ensures { IfOk result (λ undone. IsUndoOf spec.now fixed.items report.now (ending_of undone)) }

@@ -137,12 +137,7 @@ fn changes_field(order: Order, bit: Option<u64>, field: &Field, line: &ByteChang
 
 // Whether it changes a bit of one of the fixed fields among fields that follow each other from a
 // bit on.
-fn changes_one_of(
-    order: Order,
-    start: Option<u64>,
-    fields: &[Field],
-    line: &ByteChange,
-) -> bool
+fn changes_one_of(order: Order, start: Option<u64>, fields: &[Field], line: &ByteChange) -> bool
     requires { line.now.place ≤ 67108864 }
     ensures { MatchBool result (ChangesOneOf order start fields.now line.now)
         (ChangesOneOf order start fields.now line.now → ⊥) }

@@ -23,5 +23,9 @@ pub fn first_difference<I: ImageBytes>(bytes: &[u8], image: &I) -> Option<u64>
         }
     }
     let count = bytes.len() as u64;
-    if count < image.len() { Some(count) } else { None }
+    if count < image.len() {
+        Some(count)
+    } else {
+        None
+    }
 }

@@ -26,7 +26,7 @@ returns-in_default g c =
     }
 
 pub returns-in_default-mismatch-clause-claimed : goal.returns-in_default-mismatch-clause-claimed
-returns-in_default-mismatch-clause-claimed g c = 
+returns-in_default-mismatch-clause-claimed g c =
     let old = g.I.ImageBytes.bytes c.args.image.now in
     let new = g.I.ImageBytes.bytes c.step.new.image in
     let plan = subst (λ s. IsPlan s c.args.plan.now.1) c.spec-spec.ensures.is c.spec-spec.ensures.plan in
@@ -35,7 +35,7 @@ returns-in_default-mismatch-clause-claimed g c =
     λ i from before. c.in_ok-step.ensures.kept i (c.requires.claimed i from (subst (λ n. i < 0 + n) long before))
 
 pub lines_back-requires-clause-claimed : goal.lines_back-requires-clause-claimed
-lines_back-requires-clause-claimed g c = 
+lines_back-requires-clause-claimed g c =
     let old = g.I.ImageBytes.bytes c.args.image.now in
     let new = g.I.ImageBytes.bytes c.step.new.image in
     let plan = subst (λ s. IsPlan s c.args.plan.now.1) c.spec-spec.ensures.is c.spec-spec.ensures.plan in

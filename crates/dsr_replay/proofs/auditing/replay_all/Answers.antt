@@ -1,5 +1,5 @@
 -- The entries, one after the other.
-use Rattle.std.proofs.Common.{◌≡◌, ◌≤◌, ◌<◌, ◌+◌, ◌∙◌, Some, [], ◌∷◌, drop, length, refl, sym, ap, subst, arith}
+use Rattle.std.proofs.Common.{◌≡◌, ◌≤◌, ◌+◌, ◌∙◌, suc, drop, length, refl, sym, subst, arith}
 use Rattle.dsr_fixpoint.specs.Models.{IsLaidOut, IsModelOf, IsPreparedFor}
 use Rattle.dsr_plan_theory.specs.declared.choices.Choice.{Choice}
 use Rattle.dsr_repair.proofs.Moved.{cursor_begins, few_rows}
@@ -72,7 +72,9 @@ pub loop-place-preserved : goal.loop-place-preserved
 loop-place-preserved g c =
     let first = sym c.loop-place.invariant.left ∙ c.in-Some.ensures.steps in
     let told_is = next_is c.args.log.now.entries c.loop-place.place c.in-Some.told c.next.new.self first in
-    let rest : drop (c.loop-place.place + 1) c.args.log.now.entries ≡ c.next.new.self = left_behind c.args.log.now.entries c.loop-place.place c.in-Some.told c.next.new.self first in
+    let next : suc c.loop-place.place ≡ c.loop-place.place + 1 = omega arith in
+    let rest : drop (c.loop-place.place + 1) c.args.log.now.entries ≡ c.next.new.self =
+    subst (λ n. drop n c.args.log.now.entries ≡ c.next.new.self) next (left_behind c.args.log.now.entries c.loop-place.place c.in-Some.told c.next.new.self first) in
     record {
       replayed = replays_more c.args.plan.now.0 c.args.plan.now.1 c.args.layout.now (g.I.ImageBytes.bytes c.args.image.now) c.args.log.now.entries c.loop-place.place (g.I.ImageBytes.bytes c.loop-place.image)
           c.loop-place.invariant.replayed c.in-Some.told told_is (g.I.ImageBytes.bytes c.replay.new.image) c.in_ok-replay.ensures.matched;

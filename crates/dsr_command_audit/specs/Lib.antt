@@ -1,5 +1,0 @@
-pub mod ReportTexts
-pub mod Laid
-pub mod Logs
-pub mod Audited
-pub mod Undone

@@ -53,3 +53,32 @@ shared_pushed rows row sets more bytes other shared more_is other_is = record {
   sets_are = omega (arith, sets_more rows row, shared.sets_are, length-append sets more, more_is);
   bytes_are = omega (arith, bytes_more rows row, shared.bytes_are, length-append bytes other, other_is);
 }
+
+-- ---- the last entry
+
+module _ (rows front : List Row) (row : Row) (sets ss more : List CellSet) (bytes bs other : List ByteChange)
+    (rows_are : rows ≡ front ++ row ∷ []) (sets_are : sets ≡ ss ++ more) (bytes_are : bytes ≡ bs ++ other) (shared : AreShared rows sets bytes) where
+  -- the last row's sets and bytes are some of all
+  pub last_sets : row.sets ≤ length sets
+  last_sets = omega (arith, shared.sets_are, ap set_count rows_are, sets_more front row)
+
+  pub last_bytes : row.bytes ≤ length bytes
+  last_bytes = omega (arith, shared.bytes_are, ap byte_count rows_are, bytes_more front row)
+
+  module _ (more_is : length more ≡ row.sets) (other_is : length other ≡ row.bytes) where
+    -- what stands before them is shared by the other rows
+    pub shared_before : AreShared front ss bs
+    shared_before = record {
+      sets_are = omega (arith, shared.sets_are, ap set_count rows_are, sets_more front row, ap length sets_are, length-append ss more, more_is);
+      bytes_are = omega (arith, shared.bytes_are, ap byte_count rows_are, bytes_more front row, ap length bytes_are, length-append bs other, other_is);
+    }
+
+    -- and the last entry has them
+    pub last_entry : entries_of rows sets bytes ≡ entries_of front ss bs ++ entry_of row.head more other ∷ []
+    last_entry =
+        (λ i. entries_of (rows_are i) (sets_are i) (bytes_are i))
+        ∙ entry_pushed front row ss more bs other shared_before.sets_are shared_before.bytes_are (sym more_is) (sym other_is)
+
+-- one entry more at the end is one more
+pub one_longer : (es fs : List Entry) (e : Entry) → es ≡ fs ++ e ∷ [] → length es ≡ length fs + 1
+one_longer es fs e is = ap length is ∙ length-append fs (e ∷ [])

@@ -92,6 +92,15 @@ impl Log {
         Ok(())
     }
 
+    /// Leaves no entries, and all room. Takes no memory.
+    pub fn clear(&mut self)
+        ensures entries { self.new.entries ≡ [] }
+    {
+        self.rows.clear();
+        self.sets.clear();
+        self.bytes.clear();
+    }
+
     /// Notes an entry, for which there is room. Takes no memory.
     pub fn push(&mut self, entry: &EntryRef)
         requires room { 0 < self.old.spare }
@@ -147,6 +156,24 @@ impl<'a> Iterator for Entries<'a> {
         let (row, rows) = self.rows.split_first()?;
         let (sets, other_sets) = self.sets.split_at(row.sets);
         let (bytes, other_bytes) = self.bytes.split_at(row.bytes);
+        *self = Entries {
+            rows,
+            sets: other_sets,
+            bytes: other_bytes,
+        };
+        Some(EntryRef::new(row.head, sets, bytes))
+    }
+}
+
+impl<'a> DoubleEndedIterator for Entries<'a> {
+    ghost use Rattle.std.specs.Iterator.{YieldsLast};
+
+    ghost next_back_gives = { YieldsLast (λ left. left) };
+
+    fn next_back(&mut self) -> Option<EntryRef<'a>> {
+        let (row, rows) = self.rows.split_last()?;
+        let (other_sets, sets) = self.sets.split_at(self.sets.len() - row.sets);
+        let (other_bytes, bytes) = self.bytes.split_at(self.bytes.len() - row.bytes);
         *self = Entries {
             rows,
             sets: other_sets,

@@ -1,5 +1,6 @@
 // One step.
 ghost use Rattle.std.specs.Prelude.{◌≡◌, IfOk, OnErr, option_map};
+ghost use Rattle.dsr_image.specs.Images.{StayClaimed};
 ghost use Rattle.dsr_repair.specs.Cursors.{IsCursorOn};
 ghost use Rattle.dsr_repair.specs.Planned.{chosen_update};
 ghost use Rattle.dsr_repair.specs.Stepping.{Brings, IsModelled, IsMoved, TakesTurn, state};
@@ -66,6 +67,7 @@ pub fn step<I: ImageBytes>(
     ensures cursor { IsCursorOn plan.now.0 plan.now.1 layout.now (I.ImageBytes.bytes image.new) cursor.new }
     ensures moved { IfOk result (IsMoved cursor.old cursor.new) }
     ensures rests { OnErr result (cursor.new ≡ cursor.old) }
+    ensures kept { StayClaimed (I.ImageBytes.claimed image.old) (I.ImageBytes.claimed image.new) }
 {
     let turn = due_from(plan, layout, image, model, cursor);
     let Turn::Step(step) = turn else {

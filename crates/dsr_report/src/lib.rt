@@ -4,4 +4,6 @@
 mod texts;
 
 pub use dsr_log::Log;
-pub use texts::{push_change, push_end, push_entries, push_reset, push_set, push_update, text};
+pub use texts::{
+    push_change, push_end, push_entries, push_entry, push_reset, push_set, push_update, text,
+};

@@ -136,8 +136,8 @@ fn push_changes(text: &mut Vec<u8>, changes: &[ByteChange]) -> Result<(), NoMemo
     Ok(())
 }
 
-// Appends the lines of the entry with this number.
-fn push_entry(
+/// Appends the lines of the entry with this number.
+pub fn push_entry(
     text: &mut Vec<u8>,
     spec: &Spec,
     number: u64,

@@ -158,7 +158,7 @@ module _ (spec : Spec) where
   entry_of number head reset sets bytes =
       update_of number head ++ option_map_or (reset_line spec) reset [] ++ sets ++ flat_map byte_line bytes
 
-  text_of_entry : (number : ℕ) (entry other : Entry) → IsReadAs spec entry other → entry_text spec number other ≡ entry_text spec number entry
+  pub text_of_entry : (number : ℕ) (entry other : Entry) → IsReadAs spec entry other → entry_text spec number other ≡ entry_text spec number entry
   text_of_entry number entry other its =
       let sets = sets_text entry.sets other.sets its.sets in
       λ i. entry_of number (its.head i) (its.reset i) (sets i) (its.bytes i)

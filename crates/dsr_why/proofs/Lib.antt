@@ -6,3 +6,5 @@ pub mod Changing
 pub mod Noting
 pub mod Visits
 pub mod Reading
+pub mod Starting
+pub mod Turning

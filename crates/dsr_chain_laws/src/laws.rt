@@ -14,15 +14,13 @@ ghost use Rattle.dsr_meaning.specs.Models.{Chain, IsDerived};
 pub fn first_chains_are_shortest()
     ensures { (spec : Spec) (layout : Layout) (bytes : List ℕ) (is : List Instance) (fact : Fact)
         → FirstChain spec layout bytes is fact → IsShortest spec layout bytes is fact }
-{
-}
+{}
 
 /// One chain at most is given for a fact.
 pub fn first_chains_are_unique()
     ensures { (spec : Spec) (layout : Layout) (bytes : List ℕ) (is js : List Instance) (fact : Fact)
         → FirstChain spec layout bytes is fact → FirstChain spec layout bytes js fact → is ≡ js }
-{
-}
+{}
 
 /// The levels of members are the lengths of their shortest chains.
 pub fn levels_are_lengths()
@@ -34,8 +32,7 @@ pub fn levels_are_lengths()
         (level : ℕ → Element → ℕ) (is : List Instance) (set : ℕ) (e : Element)
         → AreLevels spec layout bytes kept level → kept set ≡ true
         → Chain spec layout bytes is (Member set e) → level set e ≤ length is }
-{
-}
+{}
 
 /// Of the instances that give a fact and start from a member that is reached, the first of those
 /// whose member has the least level is the first that ends a shortest chain. What is read back by
@@ -53,5 +50,4 @@ pub fn chains_are_read_back()
         (level : ℕ → Element → ℕ) (fact : Fact) → AreLevels spec layout bytes kept level
         → ((i : Instance) → IsGiver spec layout bytes level fact i → ⊥)
         → IsDerived spec layout bytes fact → ⊥ }
-{
-}
+{}

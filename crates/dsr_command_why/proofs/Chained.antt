@@ -1,11 +1,13 @@
 -- The instances of a chain fire, and their lines.
 use Rattle.std.proofs.Common.{◌≡◌, ◌<◌, ◌+◌, ◌∙◌, ◌↔◌, ◌++◌, ℕ, List, [], ◌∷◌, Option, None, Some, length, option_map, slice_get, get_or, take, inl, inr, refl, sym, ap, subst, arith}
-use Rattle.std.proofs.lemmas.List.{reverse-append}
+use Rattle.std.proofs.lemmas.Grind.{common_steps}
+use Rattle.std.proofs.lemmas.List.{reverse-append, take_more}
 use Rattle.std.proofs.lemmas.Option.{get_or_from_slice_get, slice_get_within}
 use Rattle.std.specs.Prelude.{reverse}
 use Rattle.dsr_chain_laws.specs.Shortest.{FirstChain}
 use Rattle.dsr_chain_laws.specs.Shortest.FirstChain.{begin, follow}
-use Rattle.dsr_command_why.specs.Whys.{GivesSome}
+use Rattle.dsr_command_why.specs.Whys.{AreLines, GivesSome, PushesLine, instance_line}
+use Rattle.dsr_command_why.specs.Whys.AreLines.{more}
 use Rattle.dsr_ir.specs.declared.declarations.Spec.{Spec}
 use Rattle.dsr_ir.specs.declared.layouts.Layout.{Layout}
 use Rattle.dsr_ir.specs.declared.tuples.Fact.{Fact}
@@ -18,8 +20,13 @@ use Rattle.dsr_resolve.proofs.GivenFacts.{same_fact}
 use Rattle.dsr_resolve.proofs.RuleReads.{can_read}
 use Rattle.dsr_resolve.specs.Laws.{CanRead}
 use Rattle.dsr_resolve.specs.Rules.{AreResolved, fact_in, resolved_of}
+use Rattle.dsr_resolve.specs.declared.resolved.Gives.TheVariants as gives
 use Rattle.dsr_resolve.specs.declared.resolved.Resolved.{Resolved}
 use Rattle.dsr_step_theory.specs.Images.{IsImageOf}
+
+-- what a look-up shows behind the last rule
+abbrev pub no_rule : Resolved
+no_rule = record { rule = 0; premise = None; entries = 0; conditions = []; gives = gives.Own 0 }
 
 in_reverse : {A : Type 0} (x : A) (xs : List A) → IsIn x xs → IsIn x (reverse xs)
 in_reverse x [] is = absurd is
@@ -67,3 +74,22 @@ module _ (spec : Spec) (layout : Layout) (bytes : List ℕ) where
 
     pub given : (fact : Fact) → fact_in bytes (get_or rules i.rule d) i.elem i.index ≡ Some fact → Gives spec layout bytes i some.rule fact
     given fact is = (gives_same fact).0 is
+
+  -- one line more
+  pub line_more :
+      (chain : List Instance) (k : ℕ) (d : Instance) (old new : List ℕ) → k < length chain
+      → AreLines spec layout bytes (take k chain) old → PushesLine spec layout bytes (k + 1) (get_or chain k d) old new
+      → AreLines spec layout bytes (take (k + 1) chain) new
+  line_more chain k d old new below lines pushes =
+      let i = get_or chain k d in
+      let long : length (take k chain) ≡ k = take_long chain k below in
+      let text : new ≡ old ++ instance_line spec (length (take k chain) + 1) i pushes.some.rule.span pushes.some.fact =
+      pushes.new_is ∙ ap (λ n. old ++ instance_line spec (n + 1) i pushes.some.rule.span pushes.some.fact) (sym long) in
+      subst (λ xs. AreLines spec layout bytes xs new) (sym (take_next chain k d below))
+      (subst (AreLines spec layout bytes (take k chain ++ i ∷ [])) (sym text) (more i pushes.some.rule pushes.some.fact lines pushes.some.gives))
+    where
+      take_long : (xs : List Instance) (n : ℕ) → n < length xs → length (take n xs) ≡ n
+      take_long xs n h = grind (arith, common_steps)
+
+      take_next : (xs : List Instance) (n : ℕ) (x : Instance) → n < length xs → take (n + 1) xs ≡ take n xs ++ get_or xs n x ∷ []
+      take_next xs n x h = grind (arith, common_steps, take_more)

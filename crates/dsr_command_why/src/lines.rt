@@ -27,6 +27,23 @@ fn push_index(text: &mut Vec<u8>, span: Span, index: u64) -> Result<(), NoMemory
     }
 }
 
+// Appends the number of the line, and where the instance is.
+fn push_place(
+    text: &mut Vec<u8>,
+    spec: &Spec,
+    number: u64,
+    instance: &Instance,
+) -> Result<(), NoMemory>
+    ensures { OnOk result (text.new.items ≡ text.old.items
+        ++ said.place_text spec.now number instance.now) }
+{
+    push_number(text, number)?;
+    push(text, b" rule ")?;
+    push_number(text, u64::from(instance.rule) + 1)?;
+    push(text, b" at ")?;
+    push_element(text, spec, instance.elem)
+}
+
 // Appends the line of an instance that gives the fact.
 fn push_line(
     text: &mut Vec<u8>,
@@ -39,11 +56,7 @@ fn push_line(
     ensures { OnOk result (text.new.items ≡ text.old.items
         ++ said.instance_line spec.now number instance.now span fact.now) }
 {
-    push_number(text, number)?;
-    push(text, b" rule ")?;
-    push_number(text, u64::from(instance.rule) + 1)?;
-    push(text, b" at ")?;
-    push_element(text, spec, instance.elem)?;
+    push_place(text, spec, number, instance)?;
     push_index(text, span, instance.index)?;
     push(text, b" gives ")?;
     push_fact(text, spec, fact)?;

@@ -151,7 +151,7 @@ module _ (spec : Spec) (layout : Layout) (model : ModelView) where
         no_member = λ set decl at plain member. (are.only e is).1 set decl at (plain, (same_facts spec layout image model of prepared (Member set e)).1 member);
       },
       λ is. are.all e is.is_slot
-      (λ set decl at holds. is.no_member set decl at holds.0 ((same_facts spec layout image model of prepared (Member set e)).0 holds.1))
-      (inl (let low = is.is_slot.declared in omega (arith, low, all))),
+          (λ set decl at holds. is.no_member set decl at holds.0 ((same_facts spec layout image model of prepared (Member set e)).0 holds.1))
+          (inl (let low = is.is_slot.declared in omega (arith, low, all))),
     );
   }

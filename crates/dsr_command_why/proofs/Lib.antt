@@ -1,4 +1,0 @@
-pub mod Chained
-pub mod Naming
-pub mod Whying
-pub mod Answering

@@ -1,4 +1,0 @@
-use Rattle.dsr_command_why.proofs.whys.chain_told.Goals as goal
-
-pub returns : goal.returns
-returns c = ?

@@ -1,4 +1,0 @@
-pub mod Facts
-pub mod Named
-pub mod Whys
-pub mod Losts

@@ -1,0 +1,93 @@
+// The groups of a script.
+ghost use Rattle.std.specs.Prelude.{◌≡◌, Decides, IfErr, IfOk, List, length, map};
+ghost use Rattle.bstr.specs.Text.{lines_of};
+ghost use Rattle.dsr_edit_text.specs.Scripts as said;
+ghost use Rattle.dsr_edit_text.specs.Scripts.{IsFirstWrong, IsScript, SetText, Tells};
+ghost use Rattle.dsr_edit_text.specs.Shown.{shown, shown_groups, texts_of};
+ghost use Rattle.dsr_edit_text.specs.Reads.{ReadsGroups, ReadsSet};
+ghost use Rattle.dsr_edit_text.specs.Lenient.{IsWord};
+
+use crate::faults::ScriptFault;
+use crate::lines::{SetLine, is_set, set_in};
+use crate::names::is_name;
+use bstr::ByteSlice;
+use dsr_ir::NoMemory;
+use std::alloc::Global;
+
+// The lines of the text, with their line feeds.
+fn split<'a>(alloc: Global, text: &'a [u8]) -> Result<Vec<&'a [u8]>, NoMemory>
+    ensures { IfOk result (λ lines. texts_of lines.items ≡ lines_of text.entry.now) }
+{
+    Ok(text.lines_with_terminator().collect(alloc)?)
+}
+
+// Whether what is named is the head, or a slot of something that has a name.
+fn is_record(second: bool, set: &SetLine) -> bool
+    requires { IsWord set.now.pool.now }
+    ensures { Decides result (said.IsRecordText second (shown set.now)) }
+{
+    match set.slot {
+        Some(_) => is_name(second, set.pool),
+        None => set.pool == b"head".as_slice(),
+    }
+}
+
+// The line that the text is, where it is one that sets a value.
+fn read_set<'a>(
+    alloc: Global,
+    second: bool,
+    text: &'a [u8],
+) -> Result<Option<SetLine<'a>>, NoMemory>
+    ensures { IfOk result (ReadsSet second text.entry.now) }
+{
+    let set = set_in(text);
+    if !is_record(second, &set) || !is_name(second, set.field) {
+        return Ok(None);
+    }
+    if !is_set(alloc, &set, text)? {
+        return Ok(None);
+    }
+    Ok(Some(set))
+}
+
+// All groups of the lines.
+fn read_groups<'a>(
+    alloc: Global,
+    second: bool,
+    texts: &[&'a [u8]],
+) -> Result<Vec<Vec<SetLine<'a>>>, ScriptFault>
+    ensures { ReadsGroups second (texts_of texts.now) result }
+{
+    let mut groups = Vec::new(alloc);
+    let mut group = Vec::new(alloc);
+    for place in 0..texts.len() {
+        let text = texts[place];
+        if text == b"commit\n".as_slice() {
+            groups.push(group)?;
+            group = Vec::new(alloc);
+            continue;
+        }
+        let Some(set) = read_set(alloc, second, text)? else {
+            return Err(ScriptFault::Line(place as u64 + 1));
+        };
+        group.push(set)?;
+    }
+    if !group.is_empty() {
+        return Err(ScriptFault::Line(texts.len() as u64 + 1));
+    }
+    Ok(groups)
+}
+
+/// The groups of which the text is the script, each with its lines; `second` says whether names are
+/// those of a specification of version 2.
+pub fn read<'a>(
+    alloc: Global,
+    second: bool,
+    text: &'a [u8],
+) -> Result<Vec<Vec<SetLine<'a>>>, ScriptFault>
+    ensures read { IfOk result (λ groups. IsScript second text.entry.now (shown_groups groups.items)) }
+    ensures fault { IfErr result (Tells (IsFirstWrong second text.entry.now)) }
+{
+    let texts = split(alloc, text)?;
+    read_groups(alloc, second, &texts)
+}

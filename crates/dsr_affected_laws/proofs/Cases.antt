@@ -63,7 +63,7 @@ at_byte_3 = record {
 
 alike : AreAlikeBut example layout fields image valued
 alike = record {
-  image = record { typed = example_0.applied.typed; bytes = bytes_of_image; layout_is = example_0.applied.layout_is; small = omega arith };
+  image = example_0.applied.image;
   new_bytes = bytes_of_valued;
   differ = one_differs example layout fields (slot 0) value 0 (byte_cell 3) image valued (inl refl) at_byte_3 puts_byte_3.puts.others;
 }

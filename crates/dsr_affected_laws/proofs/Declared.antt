@@ -29,7 +29,7 @@ found_below xs i x is = elim (slice_get_cases xs i).1 as (λ _. i < length xs) [
   none_is e = absurd cc
 
 there : {A : Type 0} (xs : List A) (i : ℕ) (P : A → Type 0) → IsSomeAnd (slice_get xs i) P → i < length xs
-there xs i P h = let x = some_and (slice_get xs i) P h in found_below xs i x.0 x.1
+there xs i P h = let x = some_and (slice_get xs i) P h in found_below xs i x.0 x.1.0
 
 given_declared : (base : Structures) (rule : Rule) (inc : Inc) → IsTypedInc base rule inc → IsDeclared base (symbol_of inc)
 given_declared base rule (Own set) typed = there base.sets set _ typed

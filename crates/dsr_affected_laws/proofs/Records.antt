@@ -20,5 +20,5 @@ pub of_set : (base : Structures) (e : Element) (set : SetDecl) (structure : ℕ)
 of_set base e set structure typed among pool down =
     let its = of_all (IsTypedSet base) base.sets set typed.sets among in
     let d = some_and (pool_at base set.pool) (λ x. Descends base.structures set.structure x.structure) its.view in
-    inr (and_some (pool_at base e.pool) (λ x. IsTrue (are_related base x.structure structure)) d.0 (subst (λ p. pool_at base p ≡ Some d.0) pool d.1)
-    (lines_related base d.0.structure structure (in_line base typed (set.structure + 1) set.structure (omega arith) d.0.structure structure d.2 down)))
+    inr (and_some (pool_at base e.pool) (λ x. IsTrue (are_related base x.structure structure)) d.0 (subst (λ p. pool_at base p ≡ Some d.0) pool d.1.0)
+    (lines_related base d.0.structure structure (in_line base typed (set.structure + 1) set.structure (omega arith) d.0.structure structure d.1.1 down)))

@@ -1,5 +1,5 @@
 -- Marks of the symbols that some fields affect.
-use Rattle.std.specs.Prelude.{◌≡◌, ◌<◌, ◌↔◌, ◌||◌, ℕ, Bool, true, false, IsTrue, List, Some, slice_get, slice_index_or, slice_set}
+use Rattle.std.specs.Prelude.{◌≡◌, ◌<◌, ◌↔◌, ◌||◌, ℕ, Bool, true, false, IsTrue, List, [], ◌∷◌, Some, slice_get, slice_index_or, slice_set}
 use Rattle.std.specs.Option.{option_map_or}
 use Rattle.dsr_affected.specs.declared.marks.Marks.{Marks}
 use Rattle.dsr_affected_laws.specs.Affected.{IsAffected, IsAffectedConstraint, atom_symbols, quant_symbols, reads_any}
@@ -14,8 +14,8 @@ use Rattle.dsr_ir.specs.declared.declarations.Structures.{Structures}
 use Rattle.dsr_ir.specs.declared.rules.Rule.{Rule}
 use Rattle.dsr_ir.specs.declared.updates.Symbol.{Symbol}
 use Rattle.dsr_ir.specs.declared.updates.Symbol.TheVariants.{Set, Rel}
+use Rattle.dsr_meaning.specs.Counting.{IsIn}
 use Rattle.dsr_meaning.specs.Lists.{any_of}
-use Rattle.dsr_update_theory.specs.Effects.{IsDeclared}
 
 -- ---- marks
 
@@ -77,11 +77,10 @@ pub record IsNextComplement (spec : Spec) (marks : Marks) (symbol : Symbol) : Ty
   pub symbol_is : Set set ≡ symbol
   pub base : IsTrue (is_base_marked marks declared)
 
--- it isn't marked, is declared, and is affected where the marked ones are
+-- it isn't marked, and is affected where the marked ones are
 pub record IsNext (spec : Spec) (fields : List FieldRef) (marks : Marks)
     (symbol : Symbol) : Type 0 where
   pub unmarked : has_mark marks symbol ≡ false
-  pub declared : IsDeclared spec.base symbol
   pub follows :
       ((other : Symbol) → IsTrue (has_mark marks other) → IsAffected spec fields other)
       → IsAffected spec fields symbol
@@ -97,9 +96,22 @@ Precedes (Rel r) (Rel q) = r < q
 
 -- each comes before all later ones
 abbrev pub AreInOrder : List Symbol → Type 0
-AreInOrder symbols =
-    (i j : ℕ) (a b : Symbol) → i < j → slice_get symbols i ≡ Some a
-    → slice_get symbols j ≡ Some b → Precedes a b
+AreInOrder [] = Unit {0}
+AreInOrder (a ∷ rest) = ((b : Symbol) → IsIn b rest → Precedes a b) × AreInOrder rest
+
+-- ---- symbols that are collected
+
+-- the symbol is one of so many sets, or of so many relations
+abbrev pub IsAmong : ℕ → ℕ → Symbol → Type 0
+IsAmong sets rels (Set set) = set < sets
+IsAmong sets rels (Rel rel) = rel < rels
+
+-- exactly those of so many sets and so many relations that are marked, in order
+pub record AreCollected (marks : Marks) (sets rels : ℕ) (symbols : List Symbol) : Type 0 where
+  pub exactly :
+      (symbol : Symbol)
+      → IsIn symbol symbols ↔ (IsAmong sets rels symbol × IsTrue (has_mark marks symbol))
+  pub order : AreInOrder symbols
 
 -- ---- constraints
 

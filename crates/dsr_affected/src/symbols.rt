@@ -109,13 +109,15 @@ pub fn affected(
     ensures order { IfOk result (λ list. AreInOrder list.items) }
 {
     let marks = marks_of(spec, fields);
+    let sets = spec.base.sets.items().len() as u32;
+    let rels = spec.base.rels.items().len() as u32;
     let mut symbols = Vec::new(alloc);
-    for set in 0..spec.base.sets.items().len() as u32 {
+    for set in 0..sets {
         if marks.has(Symbol::Set(set)) {
             symbols.push(Symbol::Set(set))?;
         }
     }
-    for rel in 0..spec.base.rels.items().len() as u32 {
+    for rel in 0..rels {
         if marks.has(Symbol::Rel(rel)) {
             symbols.push(Symbol::Rel(rel))?;
         }

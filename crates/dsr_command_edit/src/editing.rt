@@ -1,7 +1,11 @@
 // An image is edited as a script says.
-ghost use Rattle.std.specs.Prelude.{◌≡◌, ◌≤◌, ◌<◌, ◌+◌, ◌^◌, IfOk, List, length, map};
-ghost use Rattle.dsr_command_edit.specs.Edited.{IsEditOf, IsOutcome, ending_of};
-ghost use Rattle.dsr_command_edit.specs.Named.{IsJudgement};
+ghost use Rattle.std.specs.Prelude.{◌≡◌, ◌≤◌, ◌<◌, ◌^◌, IfOk, MatchOption, length, map};
+ghost use Rattle.dsr_command_edit.specs.Edited.{IsEditOf};
+ghost use Rattle.dsr_command_edit.specs.Ends.{IsJudgement, IsOutcome, ending_of};
+ghost use Rattle.dsr_command_edit.specs.Named.{CanBeMade, IsWriteOf};
+ghost use Rattle.dsr_edit.specs.Edits.{MayWriteSome};
+ghost use Rattle.dsr_edit_text.specs.Scripts.{script_texts};
+ghost use Rattle.dsr_meaning.specs.Typed.{IsTyped};
 ghost use Rattle.dsr_edit_text.specs.Shown.{shown, shown_groups};
 
 use crate::named::write_of;
@@ -45,6 +49,10 @@ enum Outcome {
 
 // The write that the line names, where it can be made.
 fn writable(session: &Session, spec: &Spec, set: &SetLine) -> Option<CellWrite>
+    requires spec { session.now.0 ≡ spec.now }
+    requires typed { IsTyped spec.now }
+    ensures { MatchOption result (CanBeMade spec.now session.now.1 (shown set.now) → ⊥)
+        (λ write. IsWriteOf spec.now (shown set.now) write × MayWriteSome spec.now session.now.1 write) }
 {
     let Some(write) = write_of(spec, set) else {
         return None;
@@ -63,6 +71,9 @@ fn judge(
     spec: &Spec,
     group: &[SetLine],
 ) -> Result<Judgement, NoMemory>
+    requires spec { session.now.0 ≡ spec.now }
+    requires typed { IsTyped spec.now }
+    ensures { IfOk result (IsJudgement spec.now session.now.1 (map shown group.now)) }
 {
     let mut writes = Vec::with_capacity(alloc, group.len())?;
     for (place, set) in group.iter().enumerate() {
@@ -81,6 +92,12 @@ fn edit_groups(
     spec: &Spec,
     groups: &[Vec<SetLine>],
 ) -> Result<Outcome, NoMemory>
+    requires spec { session.old.0 ≡ spec.now }
+    requires typed { IsTyped spec.now }
+    requires few { length (script_texts (shown_groups groups.now)) < 2 ^ 63 }
+    ensures same { session.new.1 ≡ session.old.1 }
+    ensures outcome { IfOk result (IsOutcome spec.now session.old.1 (shown_groups groups.now) session.old.2
+        session.new.2) }
 {
     let mut line = 1;
     for (number, group) in groups.iter().enumerate() {

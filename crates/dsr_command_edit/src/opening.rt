@@ -1,6 +1,7 @@
 // An image that is to be edited.
 ghost use Rattle.std.specs.Prelude.{◌≤◌, IfOk, length};
-ghost use Rattle.dsr_command_edit.specs.Opened.{HasReady, IsOpening, opening_of};
+ghost use Rattle.dsr_command_edit.specs.Ends.{HasReady, opening_of};
+ghost use Rattle.dsr_command_edit.specs.Opened.{IsOpening};
 ghost use Rattle.dsr_meaning.specs.Typed.{IsTyped};
 
 use crate::ready::Ready;

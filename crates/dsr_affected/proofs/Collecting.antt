@@ -7,6 +7,7 @@ use Rattle.dsr_affected.specs.Marking.{AreAffected, AreCollected, AreInOrder, Ar
 use Rattle.dsr_affected.specs.declared.marks.Marks.{Marks}
 use Rattle.dsr_affected_laws.specs.Affected.{HasSymbol, IsAffected, IsAffectedConstraint, atom_symbols, quant_symbols}
 use Rattle.dsr_affected_laws.specs.Affected.HasSymbol.{of_literal, quantified}
+use Rattle.dsr_affected_laws.proofs.Declared.{declared}
 use Rattle.dsr_effect_laws.proofs.WrittenFields.{some_of}
 use Rattle.dsr_ir.specs.declared.constraints.Conj.{Conj}
 use Rattle.dsr_ir.specs.declared.constraints.Constraint.{Constraint}
@@ -18,6 +19,8 @@ use Rattle.dsr_ir.specs.declared.updates.Symbol.TheVariants.{Set, Rel}
 use Rattle.dsr_meaning.proofs.Items.{in_either, in_left, in_right, item_at, none_of}
 use Rattle.dsr_meaning.specs.Counting.{IsIn}
 use Rattle.dsr_meaning.specs.Lists.{any_of}
+use Rattle.dsr_meaning.specs.Typed.{IsTyped}
+use Rattle.dsr_update_theory.specs.Effects.{IsDeclared}
 
 -- ---- one constraint
 
@@ -92,12 +95,12 @@ pub record IsOrdering (spec : Spec) (fields : List FieldRef) (order : List ℕ) 
 pub ordering_begins : (spec : Spec) (fields : List FieldRef) → IsOrdering spec fields [] 0
 ordering_begins spec fields = record {
   covers = λ k c less _. absurd (omega (arith, less));
-  only = λ at k is. absurd (none k is);
-  below = λ at k is. absurd (none k is);
-  rising = λ i j m k less is _. absurd (none m is);
+  only = λ at k is. absurd (none at k is);
+  below = λ at k is. absurd (none at k is);
+  rising = λ i j m k less is _. absurd (none i m is);
 } where
-  none : (k : ℕ) → slice_get {A = ℕ} [] 0 ≡ Some k → ⊥
-  none k is = absurd cc
+  none : (at k : ℕ) → slice_get (let none : List ℕ = [] in none) at ≡ Some k → ⊥
+  none at k is = absurd cc
 
 module _ (spec : Spec) (fields : List FieldRef) (order : List ℕ) (n : ℕ) (far : IsOrdering spec fields order n) (c : Constraint) (is : slice_get spec.constraints n ≡ Some c) where
   here_or : (P : ℕ → Constraint → Type 0) (k : ℕ) (d : Constraint) → k < n + 1 → slice_get spec.constraints k ≡ Some d → (k < n → P k d) → P n c → P k d
@@ -245,3 +248,16 @@ rel_marked marks sets n symbols far marked = collected_more marks sets n sets (n
 
 pub rel_unmarked : (marks : Marks) (sets n : ℕ) (symbols : List Symbol) → AreCollected marks sets n symbols → has_mark marks (Rel n) ≡ false → AreCollected marks sets (n + 1) symbols
 rel_unmarked marks sets n symbols far unmarked = collected_same marks sets n sets (n + 1) symbols (Rel n) far (rel_more sets n) (rel_kept sets n) (omega arith) (rel_last sets n) unmarked
+
+-- all sets were asked
+pub grown : (marks : Marks) (n all : ℕ) (symbols : List Symbol) → n ≤ all → all ≤ n → AreCollected marks n 0 symbols → AreCollected marks all 0 symbols
+grown marks n all symbols one two far = let same : n ≡ all = omega (arith, one, two) in subst (λ m. AreCollected marks m 0 symbols) same far
+
+pub collected_ends : (spec : Spec) (fields : List FieldRef) (marks : Marks) → IsTyped spec → AreMarksOf spec fields marks → (sets rels : ℕ) (symbols : List Symbol) → length spec.base.sets ≤ sets → length spec.base.rels ≤ rels → AreCollected marks sets rels symbols → (symbol : Symbol) → IsIn symbol symbols ↔ IsAffected spec fields symbol
+collected_ends spec fields marks typed exact sets rels symbols all every far symbol = (
+  λ is. (exact symbol).0 ((far.exactly symbol).0 is).1,
+  λ affected. (far.exactly symbol).1 (among symbol (declared spec fields symbol typed affected), (exact symbol).1 affected),
+) where
+  among : (s : Symbol) → IsDeclared spec.base s → IsAmong sets rels s
+  among (Set n) low = omega (arith, low, all)
+  among (Rel n) low = omega (arith, low, every)

@@ -1,10 +1,10 @@
 -- Symbols are marked until none follows from the marked ones.
-use Rattle.std.proofs.Common.{◌≡◌, ◌<◌, ◌≤◌, ◌+◌, ◌↔◌, ◌∙◌, ℕ, Bool, true, false, List, [], ◌∷◌, ◌++◌, length, get_or, set, replicate, Option, None, Some, IsTrue, slice_get, inl, inr, refl, sym, ap, subst, arith}
-use Rattle.std.specs.Prelude.{MatchOption, ◌||◌}
+use Rattle.std.proofs.Common.{◌≡◌, ◌<◌, ◌≤◌, ◌+◌, ◌↔◌, ◌∙◌, ℕ, zero, suc, Bool, true, false, List, [], ◌∷◌, ◌++◌, length, get_or, set, replicate, Option, None, Some, IsTrue, slice_get, inl, inr, refl, sym, ap, subst, arith}
+use Rattle.std.specs.Prelude.{MatchOption, ◌&&◌, ◌||◌, not}
 use Rattle.std.specs.Option.{option_and_then, option_map_or}
 use Rattle.std.proofs.lemmas.Bool.{cases_lt, eq-eqb}
 use Rattle.std.proofs.lemmas.List.{length-set}
-use Rattle.std.proofs.lemmas.Option.{same_Some}
+use Rattle.std.proofs.lemmas.Option.{same_Some, slice_get_within}
 use Rattle.dsr_affected.specs.Marking.{AreComplementsMarked, AreMarksOf, AreReachedMarked, IsNext, IsNextComplement, IsNextReached, has_mark, is_base_marked, is_premise_marked, is_reached, with_mark}
 use Rattle.dsr_affected.specs.declared.marks.Marks.{Marks}
 use Rattle.dsr_affected_laws.proofs.Declared.{declared}
@@ -157,3 +157,29 @@ below_next P xs i x is before here k y less there = elim (cases_lt k i) as (λ _
       let one : x ≡ y = same_Some x y (sym is ∙ (ap (slice_get xs) same ∙ there)) in
       subst (λ z. P k z) one (subst (λ j. P j x) same here)
 ]
+
+-- where a test fails that something passes and something else doesn't, whatever passes is so
+pub passed_is : (marked reached : Bool) → (not marked && reached) ≡ false → reached ≡ true → marked ≡ true
+passed_is true reached none is = refl
+passed_is false true none is = absurd cc
+passed_is false false none is = absurd cc
+
+pub both_are : (marked reached : Bool) → (not marked && reached) ≡ true → (marked ≡ false) × (reached ≡ true)
+both_are true reached is = absurd cc
+both_are false reached is = (refl, is)
+
+-- the item at a place of a loop
+pub there_got : {A : Type 0} (xs ys : List A) (i : ℕ) (x : A) → xs ≡ ys → i < length xs → x ≡ get_or xs i x → slice_get ys i ≡ Some x
+there_got {A = A} xs ys i x same less is = subst (λ zs. slice_get zs i ≡ Some x) same (got xs i less is) where
+  got : (zs : List A) (j : ℕ) → j < length zs → x ≡ get_or zs j x → slice_get zs j ≡ Some x
+  got [] j low e = absurd (omega (arith, low))
+  got (z ∷ zs) zero low e = ap Some (sym e)
+  got (z ∷ zs) (suc j) low e = got zs j (omega (arith, low)) e
+
+pub within : {A : Type 0} (xs ys : List A) (i k : ℕ) (y : A) → xs ≡ ys → length xs ≤ i → slice_get ys k ≡ Some y → k < i
+within xs ys i k y same all there = let low = slice_get_within ys k y there in let long = ap length same in omega (arith, low, long, all)
+
+pub set_past : (xs : List Bool) (n : ℕ) (x : Bool) → length xs ≤ n → xs ≡ set xs n x
+set_past [] n x past = refl
+set_past (y ∷ ys) zero x past = absurd (omega (arith, past))
+set_past (y ∷ ys) (suc n) x past = ap (λ zs. y ∷ zs) (set_past ys n x (omega (arith, past)))

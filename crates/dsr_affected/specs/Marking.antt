@@ -1,5 +1,5 @@
 -- Marks of the symbols that some fields affect.
-use Rattle.std.specs.Prelude.{◌≡◌, ◌<◌, ◌↔◌, ◌||◌, ℕ, Bool, true, false, IsTrue, List, [], ◌∷◌, Some, slice_get, slice_index_or, slice_set}
+use Rattle.std.specs.Prelude.{◌≡◌, ◌<◌, ◌↔◌, ◌&&◌, ◌||◌, ℕ, Bool, true, false, not, IsTrue, List, [], ◌∷◌, Some, slice_get, slice_index_or, slice_set}
 use Rattle.std.specs.Option.{option_map_or}
 use Rattle.dsr_affected.specs.declared.marks.Marks.{Marks}
 use Rattle.dsr_affected_laws.specs.Affected.{IsAffected, IsAffectedConstraint, atom_symbols, quant_symbols, reads_any}
@@ -44,6 +44,15 @@ is_reached base fields marks rule = is_premise_marked marks rule || reads_any ba
 -- the set is the complement of a marked one
 abbrev pub is_base_marked : Marks → SetDecl → Bool
 is_base_marked marks set = option_map_or (λ base. has_mark marks (Set base)) set.except false
+
+-- the rule is reached, and its symbol isn't marked
+abbrev pub is_next : Structures → List FieldRef → Marks → Rule → Bool
+is_next base fields marks rule =
+    not (has_mark marks (symbol_of rule.inc)) && is_reached base fields marks rule
+
+-- the set with this number is the complement of a marked one, and isn't marked
+abbrev pub is_next_complement : Marks → ℕ → SetDecl → Bool
+is_next_complement marks number set = not (has_mark marks (Set number)) && is_base_marked marks set
 
 -- the symbol of each rule that is reached is marked
 abbrev pub AreReachedMarked : Spec → List FieldRef → Marks → Type 0

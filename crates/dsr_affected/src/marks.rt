@@ -18,8 +18,9 @@ pub struct Marks {
 fn set_mark(marks: &mut [bool; MOST_SYMBOLS], number: u32)
     ensures { marks.new ≡ slice_set marks.old number true }
 {
-    if let Some(mark) = marks.get_mut(number as usize) {
-        *mark = true;
+    let place = number as usize;
+    if place < marks.len() {
+        marks[place] = true;
     }
 }
 

@@ -30,6 +30,14 @@ fn is_reached(spec: &Spec, fields: &[FieldRef], marks: &Marks, rule: &Rule) -> b
     is_premise_marked(marks, rule) || reads_any(spec, fields, rule)
 }
 
+// Whether the rule is reached, and its symbol isn't marked.
+fn is_next(spec: &Spec, fields: &[FieldRef], marks: &Marks, rule: &Rule) -> bool
+    requires typed { IsTyped spec.now }
+    ensures { result ≡ said.is_next spec.now.base fields.now marks.now rule.now }
+{
+    !marks.has(rule.inc.symbol()) && is_reached(spec, fields, marks, rule)
+}
+
 // The symbol of the first rule that is reached whose symbol isn't marked.
 fn next_reached(spec: &Spec, fields: &[FieldRef], marks: &Marks) -> Option<Symbol>
     requires typed { IsTyped spec.now }
@@ -37,9 +45,8 @@ fn next_reached(spec: &Spec, fields: &[FieldRef], marks: &Marks) -> Option<Symbo
         (IsNextReached spec.now fields.now marks.now) }
 {
     for rule in spec.rules.items() {
-        let symbol = rule.inc.symbol();
-        if !marks.has(symbol) && is_reached(spec, fields, marks, rule) {
-            return Some(symbol);
+        if is_next(spec, fields, marks, rule) {
+            return Some(rule.inc.symbol());
         }
     }
     None
@@ -55,6 +62,13 @@ fn is_base_marked(marks: &Marks, set: &SetDecl) -> bool
     }
 }
 
+// Whether the set with this number is the complement of a marked one, and isn't marked.
+fn is_next_complement(marks: &Marks, number: u32, set: &SetDecl) -> bool
+    ensures { result ≡ said.is_next_complement marks.now number set.now }
+{
+    !marks.has(Symbol::Set(number)) && is_base_marked(marks, set)
+}
+
 // The first complement of a marked set that isn't marked.
 fn next_complement(spec: &Spec, marks: &Marks) -> Option<Symbol>
     requires typed { IsTyped spec.now }
@@ -62,9 +76,8 @@ fn next_complement(spec: &Spec, marks: &Marks) -> Option<Symbol>
         (IsNextComplement spec.now marks.now) }
 {
     for (number, set) in spec.base.sets.items().iter().enumerate() {
-        let symbol = Symbol::Set(number as u32);
-        if !marks.has(symbol) && is_base_marked(marks, set) {
-            return Some(symbol);
+        if is_next_complement(marks, number as u32, set) {
+            return Some(Symbol::Set(number as u32));
         }
     }
     None

@@ -1,5 +1,6 @@
 // Values that are put into cells of an image, and taken back.
-ghost use Rattle.std.specs.Prelude.{◌≡◌, IfOk, length, All};
+ghost use Rattle.std.specs.Prelude.{◌≡◌, IfOk, length};
+ghost use Rattle.dsr_meaning.specs.Writes.{AreBytes};
 ghost use Rattle.dsr_edit.specs.Puts.{AreCellsOf};
 ghost use Rattle.dsr_step_theory.specs.Puts.{ArePut};
 
@@ -22,6 +23,7 @@ pub fn put_all(image: &mut Whole, puts: &[(Cell, u64)])
 pub fn put_noting(image: &mut Whole, puts: &[(Cell, u64)], undo: &mut [(Cell, u64)])
     requires cells { AreCellsOf image.old puts.now }
     requires room { length undo.old ≡ length puts.now }
+    requires bytes { AreBytes image.old }
     ensures made { ArePut puts.now image.old image.new }
     ensures back { ArePut undo.new image.new image.old }
     ensures cells { AreCellsOf image.new undo.new }

@@ -1,0 +1,4 @@
+pub mod Entries
+pub mod Making
+pub mod Taking
+pub mod Outcomes

@@ -1,5 +1,5 @@
 -- A record has the entries of its fields, and their cells lie in the image.
-use Rattle.std.proofs.Common.{◌≡◌, ◌<◌, ◌≤◌, ◌+◌, ◌-◌, ◌*◌, ◌∙◌, ℕ, Bool, true, false, nat_eq, List, length, Option, None, Some, IsSome, IsSomeAnd, MatchBool, slice_get, unwrap_or, inl, inr, refl, sym, ap, subst, arith}
+use Rattle.std.proofs.Common.{◌≡◌, ◌<◌, ◌≤◌, ◌+◌, ◌-◌, ◌*◌, ◌^◌, ◌∙◌, ℕ, Bool, true, false, nat_eq, nat_lt, List, length, Option, None, Some, IsSome, IsSomeAnd, MatchBool, slice_get, unwrap_or, inl, inr, refl, sym, ap, subst, arith}
 use Rattle.std.specs.Prelude.{if◌then◌else◌, option_map}
 use Rattle.std.proofs.lemmas.Bool.{ne_eqb}
 use Rattle.std.proofs.lemmas.Bool.Decides.{nat_tests}
@@ -29,7 +29,7 @@ use Rattle.dsr_layout.proofs.SameCounts.{records_of}
 use Rattle.dsr_layout_laws.specs.Entries.{IsEntry}
 use Rattle.dsr_meaning.proofs.Items.{item_there, of_all, place_of}
 use Rattle.dsr_meaning.proofs.Options.{some_and, some_of}
-use Rattle.dsr_meaning.specs.Cells.{IsCellOf, placed_cell, record_start, width_bits}
+use Rattle.dsr_meaning.specs.Cells.{IsCellOf, cell_of, placed_cell, record_start, width_bits}
 use Rattle.dsr_meaning.specs.FixedFields.{fixed_value}
 use Rattle.dsr_meaning.specs.Instances.{declared_field, record_count}
 use Rattle.dsr_meaning.specs.Legal.{HasBits, HasEntry, IsLegalLayout, entry_count}
@@ -162,3 +162,10 @@ module _ (spec : Spec) (bytes : List ℕ) (layout : Layout) (is : IsLayoutOf spe
         form = entry_form layout write.elem write.field (entry_of write) cell legal entry;
         within = subst (λ (c : Cell). c.bit + c.width ≤ 8 * length bytes) (same_Some (placed_cell layout.order start (entry_of write) place) cell both) (omega (arith, within, long));
       }
+
+  pub fits_cell : (e : Element) (field : FieldRef) (index : ℕ) (place : FieldPlace) (cell : Cell) (value : ℕ) → field_place layout field ≡ Some place → cell_of layout e field index ≡ Some cell → nat_lt value (2 ^ width_bits place.width) ≡ true → value < 2 ^ cell.width
+  fits_cell e field index place cell value place_is cell_is fits =
+      let at = placed_cell layout.order (record_start layout e) index in
+      let same : at place ≡ cell = same_Some (at place) cell (ap (option_map at) (sym place_is) ∙ cell_is) in
+      let less : value < 2 ^ width_bits place.width = grind (arith, nat_tests) in
+      subst (λ (c : Cell). value < 2 ^ c.width) same less

@@ -1,8 +1,8 @@
 -- Values that were put are taken back by putting those that were there, the last one first.
-use Rattle.std.proofs.Common.{◌≡◌, ◌<◌, ◌≤◌, ◌+◌, ◌-◌, ◌^◌, ◌∙◌, ℕ, suc, zero, List, [], ◌∷◌, All, length, drop, set, get_or, refl, sym, ap, subst, arith}
+use Rattle.std.proofs.Common.{◌≡◌, ◌<◌, ◌≤◌, ◌+◌, ◌-◌, ◌^◌, ◌∙◌, ℕ, suc, zero, List, [], ◌∷◌, length, drop, take, set, get_or, Some, slice_get, refl, sym, ap, subst, arith}
 use Rattle.std.proofs.lemmas.List.{length-set}
-use Rattle.std.proofs.lemmas.List.Elements.{All-cons, All-nil}
-use Rattle.dsr_edit.proofs.Making.{cells_kept as kept_cells}
+use Rattle.std.proofs.lemmas.Option.{same_Some}
+use Rattle.dsr_edit.proofs.Made.{cells_kept as kept_cells}
 use Rattle.dsr_edit.specs.Puts.{AreCellsOf, IsPutOf}
 use Rattle.dsr_ir.specs.declared.layouts.Cell.{Cell}
 use Rattle.dsr_meaning.specs.Cells.{IsCellOf, cell_value}
@@ -69,7 +69,7 @@ pub record IsNoting (all : List (Cell × ℕ)) (i : ℕ) (undo : List (Cell × �
   pub noted : AreCellsOf now (drop left undo)
   pub back : ArePut (drop left undo) now first
 
-drop_all : {A : Type 0} (xs : List A) (n : ℕ) → length xs ≤ n → drop n xs ≡ []
+pub drop_all : {A : Type 0} (xs : List A) (n : ℕ) → length xs ≤ n → drop n xs ≡ []
 drop_all [] zero less = refl
 drop_all [] (suc n) less = refl
 drop_all (x ∷ xs) zero less = absurd (omega (arith, less))
@@ -86,7 +86,7 @@ noting_begins all undo first room bytes cells = record {
   left_is = omega (arith, room);
   bytes = bytes;
   putting = putting_begins all first cells;
-  noted = subst (AreCellsOf first) (sym none) (All-nil (IsPutOf first));
+  noted = subst (AreCellsOf first) (sym none) tt;
   back = subst (λ r. ArePut r first first) (sym none) done;
 } where
   none : drop (length undo) undo ≡ []
@@ -98,14 +98,42 @@ noting_more all undo i left left' first now next c left_is below is so_far cell 
   left_is = omega (arith, left_is, so_far.left_is);
   bytes = one.bytes;
   putting = putting_more all (drop i all) (drop (i + 1) all) first now next c is so_far.putting one;
-  noted = subst (AreCellsOf next) (sym tail) (All-cons (IsPutOf next) back (cell_there, fits) (kept_cells now next one.puts.length (drop left undo) so_far.noted));
+  noted = subst (AreCellsOf next) (sym tail) ((cell_there, fits), kept_cells now next one.puts.length (drop left undo) so_far.noted);
   back = subst (λ r. ArePut r next first) (sym tail) (put c.0 (cell_value now c.0) (put_back c.0 c.1 now next so_far.bytes one) so_far.back);
 } where
-  abbrev back : Cell × ℕ
-  back = (c.0, cell_value now c.0)
-
-  tail : drop left' (set undo left' back) ≡ back ∷ drop left undo
-  tail = drop_set undo left' back (omega (arith, left_is, so_far.left_is, so_far.room, below)) ∙ ap (λ n. back ∷ drop n undo) (sym left_is)
+  tail : drop left' (set undo left' (c.0, cell_value now c.0)) ≡ (c.0, cell_value now c.0) ∷ drop left undo
+  tail = drop_set undo left' (c.0, cell_value now c.0) (omega (arith, left_is, so_far.left_is, so_far.room, below)) ∙ ap (λ n. (c.0, cell_value now c.0) ∷ drop n undo) (sym left_is)
 
   cell_there : IsCellOf next c.0
   cell_there = let within = cell.within in let long = one.puts.length in record { form = cell.form; within = omega (arith, within, long) }
+
+drop_next : {A : Type 0} (xs : List A) (i : ℕ) (x : A) → slice_get xs i ≡ Some x → drop i xs ≡ x ∷ drop (suc i) xs
+drop_next [] i x is = absurd cc
+drop_next (y ∷ ys) zero x is = ap (λ z. z ∷ ys) (same_Some y x is)
+drop_next (y ∷ ys) (suc i) x is = drop_next ys i x is
+
+pub drop_got : {A : Type 0} (xs : List A) (i : ℕ) (x : A) → slice_get xs i ≡ Some x → drop i xs ≡ x ∷ drop (i + 1) xs
+drop_got xs i x is = let next : suc i ≡ i + 1 = omega arith in subst (λ n. drop i xs ≡ x ∷ drop n xs) next (drop_next xs i x is)
+
+pub take_whole : {A : Type 0} (xs : List A) (n : ℕ) → length xs ≤ n → take n xs ≡ xs
+take_whole [] zero less = refl
+take_whole [] (suc n) less = refl
+take_whole (x ∷ xs) zero less = absurd (omega (arith, less))
+take_whole (x ∷ xs) (suc n) less = ap (λ ys. x ∷ ys) (take_whole xs n (omega (arith, less)))
+
+-- what takes back leads to where it began
+pub taken_back : (cells slice : List (Cell × ℕ)) (new back old : List ℕ) → slice ≡ cells → AreCellsOf new cells → ArePut slice new back → ArePut cells new old → back ≡ old
+taken_back cells slice new back old same are one two = puts_once cells new new back old refl are (subst (λ c. ArePut c new back) same one) two
+
+pub noting_made : (all undo : List (Cell × ℕ)) (i left : ℕ) (first now : List ℕ) → length all ≤ i → IsNoting all i undo left first now → ArePut all first now
+noting_made all undo i left first now every so_far = putting_ends all (drop i all) first now (drop_all all i every) so_far.putting
+
+pub noting_back : (all undo : List (Cell × ℕ)) (i left : ℕ) (first now : List ℕ) → length all ≤ i → IsNoting all i undo left first now → ArePut undo now first
+noting_back all undo i left first now every so_far =
+    let none : left ≡ 0 = omega (arith, every, so_far.left_is) in
+    subst (λ n. ArePut (drop n undo) now first) none so_far.back
+
+pub noting_cells : (all undo : List (Cell × ℕ)) (i left : ℕ) (first now : List ℕ) → length all ≤ i → IsNoting all i undo left first now → AreCellsOf now undo
+noting_cells all undo i left first now every so_far =
+    let none : left ≡ 0 = omega (arith, every, so_far.left_is) in
+    subst (λ n. AreCellsOf now (drop n undo)) none so_far.noted

@@ -1,6 +1,6 @@
 // The cells that writes name.
-ghost use Rattle.std.specs.Prelude.{◌<◌, ◌^◌, Decides, IfErr, IfOk, MatchOption};
-ghost use Rattle.dsr_edit.specs.Edits.{ArePutsOf, IsEntryPlace, IsUnwritable, MayWrite};
+ghost use Rattle.std.specs.Prelude.{◌≡◌, ◌<◌, ◌^◌, nat_lt, Decides, IfErr, IfOk, MatchOption, Some, length, slice_get};
+ghost use Rattle.dsr_edit.specs.Edits.{ArePutsOf, IsEntryPlace, IsUnwritable, MayWrite, MayWriteSome};
 ghost use Rattle.dsr_ir.specs.declared.declarations.Field as fields;
 ghost use Rattle.dsr_ir.specs.declared.layouts.Cell as cells;
 ghost use Rattle.dsr_ir.specs.declared.layouts.FieldPlace as places;
@@ -21,7 +21,7 @@ use std::alloc::Global;
 
 // Whether a value fits an entry.
 fn fits(width: Width, value: u64) -> bool
-    ensures { Decides result (value < 2 ^ widths.width_bits width) }
+    ensures { result ≡ nat_lt value (2 ^ widths.width_bits width) }
 {
     let bits = width_bits(width);
     bits >= 64 || value >> bits == 0
@@ -99,6 +99,27 @@ pub fn cell_for(spec: &Spec, layout: &Layout, write: &CellWrite) -> Option<Cell>
     Some(cell(layout, write.elem, write.field, write.index.unwrap_or(0)))
 }
 
+/// Whether a write names a cell of a field that isn't fixed, and its value fits it.
+pub fn can_write(spec: &Spec, layout: &Layout, write: &CellWrite) -> bool
+    requires typed { IsTyped spec.now }
+    requires layout { IsLayoutFor spec.now layout.now }
+    requires legal { IsLegalLayout layout.now }
+    ensures { Decides result (MayWriteSome spec.now layout.now write.now) }
+{
+    match cell_for(spec, layout, write) {
+        Some(_) => true,
+        None => false,
+    }
+}
+
+// The write at a place.
+fn write_at(group: &[CellWrite], place: usize) -> CellWrite
+    requires { place < length group.now }
+    ensures { slice_get group.now place ≡ Some result }
+{
+    group[place]
+}
+
 /// The cells of a group with their values, where each of its writes can be made. `Cell` tells the
 /// first one that can't.
 pub fn puts_of(
@@ -114,8 +135,9 @@ pub fn puts_of(
     ensures refused { IfErr result (IsUnwritable spec.now layout.now group.now) }
 {
     let mut puts = Vec::with_capacity(alloc, group.len())?;
-    for (place, write) in group.iter().enumerate() {
-        match cell_for(spec, layout, write) {
+    for place in 0..group.len() {
+        let write = write_at(group, place);
+        match cell_for(spec, layout, &write) {
             Some(cell) => puts.push((cell, write.value))?,
             None => return Err(EditFault::Cell(place as u64)),
         }

@@ -21,9 +21,5 @@ pub struct CellWrite {
 pub fn fields_of(alloc: Global, group: &[CellWrite]) -> Result<Vec<FieldRef>, NoMemory>
     ensures { IfOk result (λ fields. fields.items ≡ map (λ write. write.field) group.now) }
 {
-    let mut fields = Vec::with_capacity(alloc, group.len())?;
-    for write in group {
-        fields.push(write.field)?;
-    }
-    Ok(fields)
+    Ok(group.iter().map(|write| write.field).collect(alloc)?)
 }

@@ -5,6 +5,8 @@
 mod cells;
 mod faults;
 mod groups;
+mod making;
+mod preparing;
 mod puts;
 mod session;
 

@@ -1,81 +1,29 @@
 // An image that is edited and stays consistent.
-ghost use Rattle.std.specs.Prelude.{◌≡◌, ℕ, IfErr, IfOk, List, MatchOption};
-ghost use Rattle.dsr_edit.specs.Edits.{IsBroken, IsEditFault, IsEdited, IsUnwritable};
-ghost use Rattle.dsr_edit.specs.Sessions.{IsOpenFault, IsPreparedGroup, IsSession};
-ghost use Rattle.dsr_edit.specs.declared.faults.EditFault.TheVariants as edit_faults;
-ghost use Rattle.dsr_meaning.specs.Consistency.{IsConsistent, bound_constraint};
+ghost use Rattle.std.specs.Prelude.{◌≡◌, nat_eq, length, Decides, IfErr, IfOk};
+ghost use Rattle.dsr_edit.specs.Edits.{IsEditFault, IsEdited, MayWriteSome};
+ghost use Rattle.dsr_edit.specs.Opened.{IsOpenFault};
+ghost use Rattle.dsr_meaning.specs.Consistency.{IsConsistent};
 ghost use Rattle.dsr_step_theory.specs.Images.{IsImageOf};
 
-use crate::cells::{cell_for, puts_of};
+use crate::cells::can_write;
 use crate::faults::{EditFault, OpenFault};
-use crate::groups::{CellWrite, fields_of};
-use crate::puts::{copied, put_all, put_noting};
-use dsr_affected::affected_constraints;
+use crate::groups::CellWrite;
+use crate::making::edit_group;
+use crate::puts::copied;
 use dsr_fixpoint::rebuild;
 use dsr_image::Whole;
-use dsr_ir::{Binding, Cell, Layout, NoMemory, Spec};
+use dsr_ir::{Binding, Layout, NoMemory, Spec};
 use dsr_model::Model;
 use dsr_resolve::ResolvedRules;
-use dsr_truth::{first_violated, violations};
+use dsr_truth::violations;
 use std::alloc::Global;
 use std::marker;
 
-/// All that a group needs, before its first write.
-#[derive(Drop)]
-struct Prepared {
-    /// The cells that are written, with their values.
-    puts: Vec<(Cell, u64)>,
-    /// Room for what takes the writes back.
-    undo: Vec<(Cell, u64)>,
-    /// The constraints on which the writes may bear.
-    order: Vec<u32>,
-}
-
-// Judges the writes of a group, and takes the memory that it needs.
-fn prepare(
-    alloc: Global,
-    spec: &Spec,
-    layout: &Layout,
-    group: &[CellWrite],
-) -> Result<Prepared, EditFault>
-    requires image { HasImage spec.now layout.now }
-    ensures prepared { IfOk result (IsPreparedGroup spec.now layout.now group.now) }
-    ensures refused { IfErr result (IsUnwritable spec.now layout.now group.now) }
+// Whether nothing is found.
+fn is_none(found: &[(u32, Binding)]) -> bool
+    ensures { result ≡ nat_eq (length found.now) 0 }
 {
-    let puts = puts_of(alloc, spec, layout, group)?;
-    let fields = fields_of(alloc, group)?;
-    let order = affected_constraints(alloc, spec, &fields)?;
-    let undo = puts.clone()?;
-    Ok(Prepared { puts, undo, order })
-}
-
-// Makes the writes of a group, and takes them back where a constraint is violated then.
-fn make(
-    spec: &Spec,
-    layout: &Layout,
-    rules: &ResolvedRules,
-    image: &mut Whole,
-    model: &mut Model,
-    _group: &[CellWrite],
-    prepared: Prepared,
-) -> Option<(u32, Binding)>
-    requires session { IsSession spec.now layout.now rules.now image.old model.old }
-    requires prepared { IsPreparedGroup spec.now layout.now _group.now prepared }
-    ensures session { IsSession spec.now layout.now rules.now image.new model.new }
-    ensures outcome { MatchOption result
-        (IsEdited spec.now layout.now _group.now image.old image.new)
-        (λ v. IsBroken spec.now layout.now _group.now image.old (bound_constraint v)
-        × (image.new ≡ image.old)) }
-{
-    let mut undo = prepared.undo;
-    put_noting(image, &prepared.puts, &mut undo);
-    rebuild(model, spec, layout, rules, image);
-    let found = first_violated(model, spec, &prepared.order);
-    if found.is_some() {
-        put_all(image, &undo);
-        rebuild(model, spec, layout, rules, image);
-    }
-    found
+    found.is_empty()
 }
 
 /// An image that is consistent under a specification and its layout, and stays so whatever is edited.
@@ -123,7 +71,7 @@ impl<'a> Session<'a> {
         let mut model = Model::prepare(alloc, spec, layout)?;
         rebuild(&mut model, spec, layout, &rules, &image);
         let found = violations(alloc, &model, spec)?;
-        if !found.is_empty() {
+        if !is_none(&found) {
             return Err(OpenFault::Violated(found));
         }
         Ok(Session {
@@ -139,7 +87,7 @@ impl<'a> Session<'a> {
     pub fn may_write(&self, write: &CellWrite) -> bool
         ensures { Decides result (MayWriteSome self.now.0 self.now.1 write.now) }
     {
-        cell_for(self.spec, self.layout, write).is_some()
+        can_write(self.spec, self.layout, write)
     }
 
     /// Makes the writes of a group, in order, where each of them can be made and the image is consistent
@@ -151,23 +99,16 @@ impl<'a> Session<'a> {
         ensures edited { IfOk result (λ _. IsEdited self.old.0 self.old.1 group.now self.old.2 self.new.2) }
         ensures kept { IfErr result (λ _. self.new.2 ≡ self.old.2) }
         ensures refused { IfErr result (IsEditFault self.old.0 self.old.1 group.now self.old.2) }
-        ensures allowed { (new : List ℕ) → IsEdited self.old.0 self.old.1 group.now self.old.2 new
-            → IfErr result (λ fault. fault ≡ edit_faults.NoMemory) }
     {
-        let prepared = prepare(alloc, self.spec, self.layout, group)?;
-        let found = make(
+        edit_group(
+            alloc,
             self.spec,
             self.layout,
             &self.rules,
             &mut self.image,
             &mut self.model,
             group,
-            prepared,
-        );
-        match found {
-            Some((constraint, binding)) => Err(EditFault::Broken(constraint, binding)),
-            None => Ok(()),
-        }
+        )
     }
 
     /// A copy of the bytes of the image.
@@ -179,8 +120,8 @@ impl<'a> Session<'a> {
 
     /// The bytes of the image.
     pub fn into_bytes(self) -> Vec<u8>
-        ensures bytes { result.items ≡ self.2 }
-        ensures consistent { IsConsistent self.0 self.1 self.2 }
+        ensures bytes { result.items ≡ self.entry.2 }
+        ensures consistent { IsConsistent self.entry.0 self.entry.1 self.entry.2 }
     {
         self.image.into_bytes()
     }

@@ -3,5 +3,5 @@ use Rattle.std.proofs.Common.{drop}
 use Rattle.dsr_edit.proofs.Taking.{IsPutting}
 use Rattle.dsr_edit.proofs.puts.put_all.Given as goal
 
-abbrev pub invariant-loop-cell : goal.invariant-loop-cell
-invariant-loop-cell l = IsPutting l.puts (drop l.cell-index l.puts) l.fn.image l.image
+abbrev pub invariant-loop-place : goal.invariant-loop-place
+invariant-loop-place l = IsPutting l.puts (drop l.place l.puts) l.fn.image l.image

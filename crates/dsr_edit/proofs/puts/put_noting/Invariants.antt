@@ -3,5 +3,5 @@ use Rattle.std.proofs.Common.{drop}
 use Rattle.dsr_edit.proofs.Taking.{IsNoting}
 use Rattle.dsr_edit.proofs.puts.put_noting.Given as goal
 
-abbrev pub invariant-loop-cell : goal.invariant-loop-cell
-invariant-loop-cell l = IsNoting l.puts l.cell-index l.undo l.left l.fn.image l.image
+abbrev pub invariant-loop-place : goal.invariant-loop-place
+invariant-loop-place l = IsNoting l.puts l.place l.undo l.left l.fn.image l.image

@@ -111,11 +111,7 @@ pub fn marks_of(spec: &Spec, fields: &[FieldRef]) -> Marks
 /// one of the fields, or one that may share bytes with it; of those of which a rule has a premise
 /// that is among them; and of the complements whose base is. Sets come before relations, each in
 /// order of declaration.
-pub fn affected(
-    alloc: Global,
-    spec: &Spec,
-    fields: &[FieldRef],
-) -> Result<Vec<Symbol>, NoMemory>
+pub fn affected(alloc: Global, spec: &Spec, fields: &[FieldRef]) -> Result<Vec<Symbol>, NoMemory>
     requires typed { IsTyped spec.now }
     ensures exactly { IfOk result (λ list. (symbol : symbols.Symbol)
         → IsIn symbol list.items ↔ IsAffected spec.now fields.now symbol) }

@@ -34,7 +34,7 @@ pub rebuild-requires-in-Some-clause-laid_out : goal.rebuild-requires-in-Some-cla
 rebuild-requires-in-Some-clause-laid_out c = subst (IsLaidOut c.args.spec.now c.args.layout.now) (sym (taken_back c.put_noting.new.undo c.put_noting.new.undo c.put_noting.new.image c.put_all.new.image c.args.image.now refl c.put_noting.ensures.cells c.put_all.ensures c.put_noting.ensures.back)) (layout_laid_out c.args.spec.now c.args.layout.now c.args.image.now c.requires.session.image)
 
 pub returns-in-Some : goal.returns-in-Some
-returns-in-Some c = 
+returns-in-Some c =
     let same = (taken_back c.put_noting.new.undo c.put_noting.new.undo c.put_noting.new.image c.put_all.new.image c.args.image.now refl c.put_noting.ensures.cells c.put_all.ensures c.put_noting.ensures.back) in
     record {
       session = record {
@@ -56,15 +56,15 @@ returns-in-Some c =
 
 pub returns-clause-session : goal.returns-clause-session
 returns-clause-session c = record {
-      image = (image_stays c.args.spec.now c.args.layout.now c.args.image.now c.put_noting.new.image c.requires.session.image c.args._group.now (group_made c.args.spec.now c.args.layout.now c.args._group.now c.args.prepared.puts.items c.deref.result.now c.args.image.now c.put_noting.new.image c.deref.ensures.value c.requires.prepared.puts c.put_noting.ensures.made));
-      consistent = consistent c.args.spec.now c.args.layout.now c.args.image.now c.put_noting.new.image c.requires.session.image c.args._group.now (group_made c.args.spec.now c.args.layout.now c.args._group.now c.args.prepared.puts.items c.deref.result.now c.args.image.now c.put_noting.new.image c.deref.ensures.value c.requires.prepared.puts c.put_noting.ensures.made) c.args.prepared.order.items c.requires.prepared.order c.requires.session.consistent c.rebuild.new.model c.rebuild.ensures.model c.rebuild.ensures.prepared (subst (NoneIsViolated (IsInModel c.rebuild.new.model) c.args.spec.now) c.deref-2.ensures.value c.in-None.ensures);
-      rules = c.requires.session.rules;
-      prepared = c.rebuild.ensures.prepared;
-      model = c.rebuild.ensures.model;
-    }
+  image = (image_stays c.args.spec.now c.args.layout.now c.args.image.now c.put_noting.new.image c.requires.session.image c.args._group.now (group_made c.args.spec.now c.args.layout.now c.args._group.now c.args.prepared.puts.items c.deref.result.now c.args.image.now c.put_noting.new.image c.deref.ensures.value c.requires.prepared.puts c.put_noting.ensures.made));
+  consistent = consistent c.args.spec.now c.args.layout.now c.args.image.now c.put_noting.new.image c.requires.session.image c.args._group.now (group_made c.args.spec.now c.args.layout.now c.args._group.now c.args.prepared.puts.items c.deref.result.now c.args.image.now c.put_noting.new.image c.deref.ensures.value c.requires.prepared.puts c.put_noting.ensures.made) c.args.prepared.order.items c.requires.prepared.order c.requires.session.consistent c.rebuild.new.model c.rebuild.ensures.model c.rebuild.ensures.prepared (subst (NoneIsViolated (IsInModel c.rebuild.new.model) c.args.spec.now) c.deref-2.ensures.value c.in-None.ensures);
+  rules = c.requires.session.rules;
+  prepared = c.rebuild.ensures.prepared;
+  model = c.rebuild.ensures.model;
+}
 
 pub returns-clause-outcome : goal.returns-clause-outcome
 returns-clause-outcome c = record {
-      made = (group_made c.args.spec.now c.args.layout.now c.args._group.now c.args.prepared.puts.items c.deref.result.now c.args.image.now c.put_noting.new.image c.deref.ensures.value c.requires.prepared.puts c.put_noting.ensures.made);
-      consistent = consistent c.args.spec.now c.args.layout.now c.args.image.now c.put_noting.new.image c.requires.session.image c.args._group.now (group_made c.args.spec.now c.args.layout.now c.args._group.now c.args.prepared.puts.items c.deref.result.now c.args.image.now c.put_noting.new.image c.deref.ensures.value c.requires.prepared.puts c.put_noting.ensures.made) c.args.prepared.order.items c.requires.prepared.order c.requires.session.consistent c.rebuild.new.model c.rebuild.ensures.model c.rebuild.ensures.prepared (subst (NoneIsViolated (IsInModel c.rebuild.new.model) c.args.spec.now) c.deref-2.ensures.value c.in-None.ensures);
-    }
+  made = (group_made c.args.spec.now c.args.layout.now c.args._group.now c.args.prepared.puts.items c.deref.result.now c.args.image.now c.put_noting.new.image c.deref.ensures.value c.requires.prepared.puts c.put_noting.ensures.made);
+  consistent = consistent c.args.spec.now c.args.layout.now c.args.image.now c.put_noting.new.image c.requires.session.image c.args._group.now (group_made c.args.spec.now c.args.layout.now c.args._group.now c.args.prepared.puts.items c.deref.result.now c.args.image.now c.put_noting.new.image c.deref.ensures.value c.requires.prepared.puts c.put_noting.ensures.made) c.args.prepared.order.items c.requires.prepared.order c.requires.session.consistent c.rebuild.new.model c.rebuild.ensures.model c.rebuild.ensures.prepared (subst (NoneIsViolated (IsInModel c.rebuild.new.model) c.args.spec.now) c.deref-2.ensures.value c.in-None.ensures);
+}

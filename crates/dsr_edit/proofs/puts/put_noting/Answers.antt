@@ -7,7 +7,7 @@ pub loop-place-init : goal.loop-place-init
 loop-place-init c = noting_begins c.args.puts.now c.args.undo.now c.args.image.now c.requires.room c.requires.bytes c.requires.cells
 
 pub loop-place-preserved : goal.loop-place-preserved
-loop-place-preserved c = 
+loop-place-preserved c =
     let is = drop_got c.args.puts.now c.loop-place.place c.put_at-put.result c.put_at-put.ensures in
     let cells = subst (AreCellsOf c.loop-place.image) is c.loop-place.invariant.putting.cells in
     subst (λ v. IsNoting c.args.puts.now (c.loop-place.place + 1) (set c.loop-place.undo (c.loop-place.left - 1) (c.put_at-put.result.0, v)) (c.loop-place.left - 1) c.args.image.now c.put.new.self) (sym c.get-was.ensures.value)

@@ -15,12 +15,12 @@ returns-then-not-is_none-clause-refused c = (found_are c.args.spec.now c.args.la
 
 pub invariant_of-result : goal.invariant_of-result
 invariant_of-result c = record {
-      image = c.requires.image;
-      consistent = none_found c.args.spec.now c.args.layout.now c.args.image c.in_ok-found.found.items (no_items c.in_ok-found.found.items (subst (λ xs. nat_eq (length xs) 0 ≡ true) c.deref.ensures.value (sym c.is_none.ensures ∙ c.if-not-is_none.false))) (found_are c.args.spec.now c.args.layout.now c.args.image c.rebuild.new.model c.rebuild.ensures.model c.rebuild.ensures.prepared (map bound_constraint c.in_ok-found.found.items) c.in_ok-found.ensures);
-      rules = c.in_ok-rules.ensures;
-      prepared = c.rebuild.ensures.prepared;
-      model = c.rebuild.ensures.model;
-    }
+  image = c.requires.image;
+  consistent = none_found c.args.spec.now c.args.layout.now c.args.image c.in_ok-found.found.items (no_items c.in_ok-found.found.items (subst (λ xs. nat_eq (length xs) 0 ≡ true) c.deref.ensures.value (sym c.is_none.ensures ∙ c.if-not-is_none.false))) (found_are c.args.spec.now c.args.layout.now c.args.image c.rebuild.new.model c.rebuild.ensures.model c.rebuild.ensures.prepared (map bound_constraint c.in_ok-found.found.items) c.in_ok-found.ensures);
+  rules = c.in_ok-rules.ensures;
+  prepared = c.rebuild.ensures.prepared;
+  model = c.rebuild.ensures.model;
+}
 
 pub returns-clause-consistent : goal.returns-clause-consistent
 returns-clause-consistent c = none_found c.args.spec.now c.args.layout.now c.args.image c.in_ok-found.found.items (no_items c.in_ok-found.found.items (subst (λ xs. nat_eq (length xs) 0 ≡ true) c.deref.ensures.value (sym c.is_none.ensures ∙ c.if-not-is_none.false))) (found_are c.args.spec.now c.args.layout.now c.args.image c.rebuild.new.model c.rebuild.ensures.model c.rebuild.ensures.prepared (map bound_constraint c.in_ok-found.found.items) c.in_ok-found.ensures)

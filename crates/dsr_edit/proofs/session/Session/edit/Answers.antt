@@ -3,12 +3,12 @@ use Rattle.dsr_edit.proofs.session.Session.edit.Goals as goal
 
 pub returns : goal.returns
 returns c = record {
-      spec = rw (← c.self.view_is) refl;
-      layout = rw (← c.self.view_is) refl;
-      edited = rw (← c.self.view_is) c.edit_group.ensures.edited;
-      kept = rw (← c.self.view_is) c.edit_group.ensures.kept;
-      refused = rw (← c.self.view_is) c.edit_group.ensures.refused;
-    }
+  spec = rw (← c.self.view_is) refl;
+  layout = rw (← c.self.view_is) refl;
+  edited = rw (← c.self.view_is) c.edit_group.ensures.edited;
+  kept = rw (← c.self.view_is) c.edit_group.ensures.kept;
+  refused = rw (← c.self.view_is) c.edit_group.ensures.refused;
+}
 
 pub edit_group-requires : goal.edit_group-requires
 edit_group-requires c = record { session = c.self.invariant }

@@ -46,13 +46,6 @@ fn field_of<'a>(spec: &'a Spec, write: &CellWrite) -> Option<&'a Field>
     Some(field)
 }
 
-// Whether the field is a fixed one, which is never written.
-fn is_fixed(field: &Field) -> bool
-    ensures { result ≡ field.now.fixed }
-{
-    field.fixed
-}
-
 // Whether the record is there.
 fn has_record(layout: &Layout, write: &CellWrite) -> bool
     ensures { Decides result
@@ -91,7 +84,7 @@ pub fn cell_for(spec: &Spec, layout: &Layout, write: &CellWrite) -> Option<Cell>
     let Some(field) = field_of(spec, write) else {
         return None;
     };
-    if is_fixed(field) {
+    if field.fixed {
         return None;
     }
     if !has_record(layout, write) {

@@ -22,6 +22,6 @@ returns c =
         entry = c.in-Some-entry_place.ensures;
         cell_is = cell_is;
       };
-      free = sym c.is_fixed.ensures ∙ c.if-is_fixed.false;
+      free = c.if-field.false;
       fits = fits_cell c.args.spec.now c.requires.layout.0 c.args.layout.now c.requires.layout.1 c.requires.typed c.args.write.now.elem c.args.write.now.field (entry_of c.args.write.now) c.in-Some-entry_place.place c.cell.result c.args.write.now.value c.in-Some-entry_place.ensures.place_is cell_is (sym c.fits.ensures ∙ c.if-not-fits.false);
     }

@@ -1,4 +1,0 @@
-pub mod Opened
-pub mod Named
-pub mod Edited
-pub mod Ends

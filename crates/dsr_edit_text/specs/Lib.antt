@@ -1,4 +1,0 @@
-pub mod Scripts
-pub mod Shown
-pub mod Lenient
-pub mod Reads

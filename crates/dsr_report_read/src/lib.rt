@@ -20,5 +20,7 @@ mod sets;
 
 pub use back::read_back;
 pub use faults::ReadFault;
+pub use fields::{has_name, is_of_pool};
 pub use lines::{Head, Kind, Line, State};
+pub use numbers::{number_ahead, skip};
 pub use reading::read;

@@ -1,0 +1,9 @@
+pub mod Least
+pub mod Declared
+pub mod Unmoved
+pub mod Facts
+pub mod Violated
+pub mod Keeping
+pub mod Records
+pub mod Writing
+pub mod Cases

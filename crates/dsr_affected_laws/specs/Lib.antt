@@ -1,0 +1,3 @@
+pub mod Affected
+pub mod Differing
+pub mod Cases

@@ -1,0 +1,5 @@
+pub mod Entries
+pub mod Made
+pub mod Taking
+pub mod Outcomes
+pub mod Judged

@@ -1,0 +1,5 @@
+pub mod Edits
+pub mod Opened
+pub mod Prepared
+pub mod Puts
+pub mod Sessions

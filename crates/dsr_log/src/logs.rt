@@ -69,7 +69,7 @@ impl Log {
         }
     }
 
-    /// Takes all entries away. Their room stays for others.
+    /// Takes all entries away. Their room stays for others. Takes no memory.
     pub fn clear(&mut self)
         ensures { self.new.entries ≡ [] }
     {
@@ -90,15 +90,6 @@ impl Log {
         self.sets.reserve(sets)?;
         self.bytes.reserve(bytes)?;
         Ok(())
-    }
-
-    /// Leaves no entries, and all room. Takes no memory.
-    pub fn clear(&mut self)
-        ensures entries { self.new.entries ≡ [] }
-    {
-        self.rows.clear();
-        self.sets.clear();
-        self.bytes.clear();
     }
 
     /// Notes an entry, for which there is room. Takes no memory.

@@ -6,6 +6,7 @@
 //! OOPSLA 2003.
 #![tactic(auto)]
 
+mod backing;
 mod bindings;
 mod choosing;
 mod cursors;
@@ -23,6 +24,7 @@ mod spans;
 mod steps;
 mod touched;
 
+pub use backing::Backing;
 pub use bindings::Violation;
 pub use cursors::Cursor;
 pub use drafts::Draft;

@@ -6,6 +6,7 @@ ghost use Rattle.dsr_repair_theory.specs.Runs.{IsPartRun};
 ghost use Rattle.dsr_repair_theory.specs.Turns.{IsOutcome};
 ghost use Rattle.dsr_step_theory.specs.Images.{FixedFieldsStay, IsImageOf};
 
+use crate::backing::Backing;
 use crate::cursors::Cursor;
 use crate::drafts::Draft;
 use crate::steps::step;
@@ -40,6 +41,7 @@ fn make_steps<I: ImageBytes>(
     let mut model = Model::prepare(alloc, spec, layout)?;
     let rules = ResolvedRules::new(alloc, spec, layout)?;
     rebuild(&mut model, spec, layout, &rules, image);
+    let mut backing = Backing::new(alloc);
     let mut draft = Draft::new(alloc);
     'steps: loop {
         match step(
@@ -48,6 +50,7 @@ fn make_steps<I: ImageBytes>(
             &rules,
             image,
             &mut model,
+            &mut backing,
             &mut cursor,
             &mut draft,
             log,

@@ -7,6 +7,7 @@ ghost use Rattle.dsr_repair_theory.specs.Turns.{IsTurn};
 ghost use Rattle.dsr_resolve.specs.Rules.{AreResolved};
 ghost use Rattle.dsr_step_theory.specs.Images.{FixedFieldsStay};
 
+use crate::backing::Backing;
 use crate::bindings::Violation;
 use crate::cursors::Cursor;
 use crate::drafts::Draft;
@@ -45,6 +46,7 @@ pub fn step<I: ImageBytes>(
     rules: &ResolvedRules,
     image: &mut I,
     model: &mut Model,
+    backing: &mut Backing,
     cursor: &mut Cursor,
     draft: &mut Draft,
     log: &mut Log,
@@ -74,8 +76,9 @@ pub fn step<I: ImageBytes>(
     let Some(update) = update_of(plan, &step) else {
         unreachable!();
     };
+    backing.prepare(plan.spec(), layout, rules, update, &step);
     make(plan.spec(), layout, &step, update, image, draft, log)?;
-    renew(model, plan.spec(), layout, rules, image, update, &step);
+    renew(model, backing, plan.spec(), layout, rules, image, update, &step);
     cursor.last = Some(Violation {
         constraint: step.constraint,
         binding: step.binding,

@@ -1,9 +1,9 @@
 -- The instances of a chain fire, and their lines.
-use Rattle.std.proofs.Common.{◌≡◌, ◌<◌, ◌+◌, ◌∙◌, ◌↔◌, ◌++◌, ℕ, List, [], ◌∷◌, Option, None, Some, length, option_map, slice_get, get_or, take, inl, inr, refl, sym, ap, subst, arith}
+use Rattle.std.proofs.Common.{◌≡◌, ◌<◌, ◌≤◌, ◌+◌, ◌∙◌, ◌↔◌, ◌++◌, ℕ, List, [], ◌∷◌, Option, None, Some, Result, Ok, Err, length, option_map, slice_get, get_or, take, inl, inr, refl, sym, ap, subst, arith}
 use Rattle.std.proofs.lemmas.Grind.{common_steps}
 use Rattle.std.proofs.lemmas.List.{reverse-append, take_more}
 use Rattle.std.proofs.lemmas.Option.{get_or_from_slice_get, slice_get_within}
-use Rattle.std.specs.Prelude.{reverse}
+use Rattle.std.specs.Prelude.{OnOk, reverse}
 use Rattle.dsr_chain_laws.specs.Shortest.{FirstChain}
 use Rattle.dsr_chain_laws.specs.Shortest.FirstChain.{begin, follow}
 use Rattle.dsr_command_why.specs.Whys.{AreLines, GivesSome, PushesLine, instance_line}
@@ -12,6 +12,8 @@ use Rattle.dsr_ir.specs.declared.declarations.Spec.{Spec}
 use Rattle.dsr_ir.specs.declared.layouts.Layout.{Layout}
 use Rattle.dsr_ir.specs.declared.tuples.Fact.{Fact}
 use Rattle.dsr_ir.specs.declared.tuples.Instance.{Instance}
+use Rattle.dsr_ir.specs.declared.rules.Rule.{Rule}
+use Rattle.dsr_meaning.proofs.Firing.{some_same}
 use Rattle.dsr_meaning.proofs.Items.{in_left, in_right, item_at}
 use Rattle.dsr_meaning.specs.Counting.{IsIn}
 use Rattle.dsr_meaning.specs.Instances.{Gives}
@@ -93,3 +95,22 @@ module _ (spec : Spec) (layout : Layout) (bytes : List ℕ) where
 
       take_next : (xs : List Instance) (n : ℕ) (x : Instance) → n < length xs → take (n + 1) xs ≡ take n xs ++ get_or xs n x ∷ []
       take_next xs n x h = grind (arith, common_steps, take_more)
+
+  -- the line of an instance, with the fact that its rule gives, is put
+  pub line_pushed :
+      {A E : Type 0} (r : Result A E) (number : ℕ) (i : Instance) (some : GivesSome spec layout bytes i) (rule : Rule) (fact : Fact) (old new : List ℕ)
+      → slice_get spec.rules i.rule ≡ Some rule → Gives spec layout bytes i some.rule fact
+      → OnOk r (new ≡ old ++ instance_line spec number i rule.span fact) → OnOk r (PushesLine spec layout bytes number i old new)
+  line_pushed (Err e) number i some rule fact old new at gives put = tt
+  line_pushed (Ok x) number i some rule fact old new at gives put =
+      let rules : some.rule ≡ rule = some_same _ some.rule rule gives.is_instance.rule_is at in
+      record {
+        some = record { rule = some.rule; fact = fact; gives = gives };
+        new_is = put ∙ ap (λ (r : Rule). old ++ instance_line spec number i r.span fact) (sym rules);
+      }
+
+  -- all lines
+  pub all_lines : (chain : List Instance) (k : ℕ) (text : List ℕ) → length chain ≤ k → AreLines spec layout bytes (take k chain) text → AreLines spec layout bytes chain text
+  all_lines chain k text all lines = subst (λ xs. AreLines spec layout bytes xs text) (whole chain k all) lines where
+    whole : (xs : List Instance) (n : ℕ) → length xs ≤ n → take n xs ≡ xs
+    whole xs n h = grind (arith, common_steps)

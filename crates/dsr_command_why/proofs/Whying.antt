@@ -1,7 +1,7 @@
 -- The answers for facts, by what was found of them.
-use Rattle.std.proofs.Common.{◌≡◌, ◌<◌, ◌≤◌, ◌+◌, ◌∙◌, ℕ, true, false, List, Option, None, Some, length, drop, slice_get, inl, inr, refl, sym, ap, subst, arith}
+use Rattle.std.proofs.Common.{◌≡◌, ◌<◌, ◌≤◌, ◌+◌, ◌++◌, ◌∙◌, ℕ, true, false, List, Option, None, Some, length, drop, slice_get, inl, inr, refl, sym, ap, subst, arith}
 use Rattle.std.specs.Option.{option_map_or}
-use Rattle.std.specs.Prelude.{if◌then◌else◌, nat_eq, option_and_then}
+use Rattle.std.specs.Prelude.{codes, decimal, if◌then◌else◌, nat_eq, option_and_then}
 use Rattle.std.proofs.lemmas.Bool.{eqb-true}
 use Rattle.dsr_answers.specs.Texts.{pool_name}
 use Rattle.dsr_report_read.specs.Lenient.{element_ahead, narrow, number_ahead}
@@ -118,3 +118,9 @@ module _ (spec : Spec) (layout : Layout) (bytes : List ℕ) (image : IsImageOf s
   no_fact sets rels (Pair r e target) is text =
       let range : IsPairInRange spec layout r e target = fact_in_range spec bytes layout image.layout_is.numbers image.typed (Pair r e target) is in
       rels r (slice_get_within spec.base.rels r range.decl range.declared) (Pair r e target) refl is text
+
+-- the text of a chain, piece by piece
+pub told_text :
+    (lines a b new : List ℕ) (n count : ℕ) → a ≡ lines ++ codes "chain " → b ≡ a ++ decimal n → new ≡ b ++ codes "\n" → n ≡ count
+    → new ≡ lines ++ codes "chain " ++ decimal count ++ codes "\n"
+told_text lines a b new n count first second third same = third ∙ ap (λ x. x ++ codes "\n") (second ∙ (λ k. first k ++ decimal (same k)))

@@ -1,10 +1,12 @@
 -- The answers for facts, by what was found of them.
-use Rattle.std.proofs.Common.{◌≡◌, ◌<◌, ◌≤◌, ◌+◌, ◌++◌, ◌∙◌, ℕ, true, false, List, Option, None, Some, length, drop, slice_get, inl, inr, refl, sym, ap, subst, arith}
+use Rattle.std.proofs.Common.{◌≡◌, ◌<◌, ◌≤◌, ◌+◌, ◌++◌, ◌∙◌, ℕ, true, false, List, Option, None, Some, MatchOption, Vec, Global, length, drop, slice_get, inl, inr, refl, sym, ap, subst, arith}
 use Rattle.std.specs.Option.{option_map_or}
-use Rattle.std.specs.Prelude.{codes, decimal, if◌then◌else◌, nat_eq, option_and_then}
+use Rattle.std.specs.Prelude.{codes, decimal, if◌then◌else◌, nat_eq, option_and_then, reverse}
 use Rattle.std.proofs.lemmas.Bool.{eqb-true}
 use Rattle.dsr_answers.specs.Texts.{pool_name}
 use Rattle.dsr_report_read.specs.Lenient.{element_ahead, narrow, number_ahead}
+use Rattle.dsr_chain_laws.proofs.Firsts.{is_chain}
+use Rattle.dsr_chain_laws.specs.Shortest.{FirstChain}
 use Rattle.dsr_command_why.proofs.Naming.{member_read, pair_read}
 use Rattle.dsr_command_why.specs.Facts.{fact_text}
 use Rattle.dsr_command_why.specs.Named.{member_ahead, pair_ahead}
@@ -17,6 +19,7 @@ use Rattle.dsr_ir.specs.declared.layouts.Layout.{Layout}
 use Rattle.dsr_ir.specs.declared.tuples.Element.{Element}
 use Rattle.dsr_ir.specs.declared.tuples.Fact.{Fact}
 use Rattle.dsr_ir.specs.declared.tuples.Fact.TheVariants.{Member, Pair}
+use Rattle.dsr_ir.specs.declared.tuples.Instance.{Instance}
 use Rattle.dsr_ir.specs.declared.updates.Symbol.{Symbol}
 use Rattle.dsr_ir.specs.declared.updates.Symbol.TheVariants as symbols
 use Rattle.dsr_layout.proofs.RangeOfFacts.{fact_in_range}
@@ -124,3 +127,19 @@ pub told_text :
     (lines a b new : List ℕ) (n count : ℕ) → a ≡ lines ++ codes "chain " → b ≡ a ++ decimal n → new ≡ b ++ codes "\n" → n ≡ count
     → new ≡ lines ++ codes "chain " ++ decimal count ++ codes "\n"
 told_text lines a b new n count first second third same = third ∙ ap (λ x. x ++ codes "\n") (second ∙ (λ k. first k ++ decimal (same k)))
+
+-- a chain that is found derives its fact
+pub found_derived :
+    (spec : Spec) (layout : Layout) (bytes : List ℕ) (fact : Fact) (found : Option (Vec Instance Global))
+    → MatchOption found (IsDerived spec layout bytes fact → ⊥) (λ is. FirstChain spec layout bytes (reverse is.items) fact)
+    → (is : Vec Instance Global) → found ≡ Some is → IsDerived spec layout bytes fact
+found_derived spec layout bytes fact found of is at =
+    let first = subst (λ (o : Option (Vec Instance Global)). MatchOption o (IsDerived spec layout bytes fact → ⊥) (λ is. FirstChain spec layout bytes (reverse is.items) fact)) at of in
+    (reverse is.items, is_chain spec layout bytes (reverse is.items) fact first)
+
+pub none_derived :
+    (spec : Spec) (layout : Layout) (bytes : List ℕ) (fact : Fact) (found : Option (Vec Instance Global))
+    → MatchOption found (IsDerived spec layout bytes fact → ⊥) (λ is. FirstChain spec layout bytes (reverse is.items) fact)
+    → found ≡ None → IsDerived spec layout bytes fact → ⊥
+none_derived spec layout bytes fact found of at =
+    subst (λ (o : Option (Vec Instance Global)). MatchOption o (IsDerived spec layout bytes fact → ⊥) (λ is. FirstChain spec layout bytes (reverse is.items) fact)) at of

@@ -37,7 +37,7 @@ use Rattle.dsr_report_read.proofs.ReadBack.{number_back, regroup}
 use Rattle.dsr_report_read.specs.Forms.{IsRecord}
 use Rattle.dsr_report_read.specs.Lenient.{behind_element, element_ahead, number_ahead}
 use Rattle.dsr_resolve.proofs.RuleReads.{path_read, rule_typed}
-use Rattle.dsr_resolve.specs.Readings.{reading_of}
+use Rattle.dsr_resolve.specs.Readings.{cell_at, reading_of}
 use Rattle.dsr_step_theory.specs.Images.{IsImageOf}
 
 -- ---- numbers fit 64 bits
@@ -57,8 +57,9 @@ module _ (spec : Spec) (layout : Layout) (bytes : List ℕ) (image : IsImageOf s
   read_small : (i : Instance) (rule : Rule) (path : Path) (n : ℕ) → IsInstance spec layout i rule → IsTypedPath spec.base rule path → value_at layout bytes i.elem i.index path ≡ Some n → n < 2 ^ 64
   read_small i rule path n instance typed at =
       let its = path_read spec bytes layout image.layout_is image.typed legal i rule instance path typed in
-      let fits = value_fits bytes image.bytes _ its.there.cell.form in
-      let wide : 2 ^ (reading_of layout (premise_pool spec rule) path).width ≤ 2 ^ 64 = pow_mono (narrow_cell _ its.there.cell.form) in
+      let cell = cell_at (reading_of layout (premise_pool spec rule) path) i.elem.slot i.index in
+      let fits = value_fits bytes image.bytes cell its.there.cell.form in
+      let wide : 2 ^ (reading_of layout (premise_pool spec rule) path).width ≤ 2 ^ 64 = pow_mono (narrow_cell cell its.there.cell.form) in
       let same = some_same _ n _ at its.read in
       omega (arith, fits, wide, same)
 

@@ -1,5 +1,5 @@
 -- The answers for facts, by what was found of them.
-use Rattle.std.proofs.Common.{◌≡◌, ◌<◌, ◌≤◌, ◌+◌, ◌++◌, ◌∙◌, ℕ, true, false, List, Option, None, Some, MatchOption, Vec, Global, length, drop, slice_get, inl, inr, refl, sym, ap, subst, arith}
+use Rattle.std.proofs.Common.{◌≡◌, ◌<◌, ◌≤◌, ◌+◌, ◌++◌, ◌∙◌, ℕ, Bool, true, false, List, Option, None, Some, MatchOption, Vec, Global, length, drop, slice_get, inl, inr, refl, sym, ap, subst, arith}
 use Rattle.std.specs.Option.{option_map_or}
 use Rattle.std.specs.Prelude.{codes, decimal, if◌then◌else◌, nat_eq, option_and_then, reverse}
 use Rattle.std.proofs.lemmas.Bool.{eqb-true}
@@ -33,11 +33,15 @@ use Rattle.dsr_script.specs.Moves.{shown}
 use Rattle.dsr_script.specs.declared.moves.Told.{Told}
 use Rattle.dsr_step_theory.specs.Images.{IsImageOf}
 
+either_pool : (b : Bool) (pool : ℕ) (x y : Element) → (b ≡ true → x.pool ≡ pool) → (b ≡ false → y.pool ≡ pool) → (let e : Element = (if b then x else y) in e.pool) ≡ pool
+either_pool true pool x y head other = head refl
+either_pool false pool x y head other = other refl
+
 ahead_pool : (spec : Spec) (pool : ℕ) (text : List ℕ) → (element_ahead spec pool text).pool ≡ pool
-ahead_pool spec pool text = elim (nat_eq pool 0) as (λ b. nat_eq pool 0 ≡ b → (if b then record { pool = 0; slot = 0 } else record { pool = pool; slot = narrow (number_ahead (drop (length (pool_name spec pool) + 1) text)) }).pool ≡ pool) [
-  | true ↦ λ is. sym (eqb-true pool 0 is)
-  | false ↦ λ _. refl
-] refl
+ahead_pool spec pool text =
+    either_pool (nat_eq pool 0) pool (record { pool = 0; slot = 0 })
+    (record { pool = pool; slot = narrow (number_ahead (drop (length (pool_name spec pool) + 1) text)) })
+    (λ is. sym (eqb-true pool 0 is)) (λ _. refl)
 
 module _ (spec : Spec) (layout : Layout) (bytes : List ℕ) (image : IsImageOf spec layout bytes) (legal : IsLegalLayout layout) (word : List ℕ) where
   -- ---- one set

@@ -30,15 +30,15 @@ index_text (Array field) index = codes " index " ++ decimal index
 index_text (Slots pool) index = codes " index " ++ decimal index
 
 -- the number of the line, and where the instance is; lines and rules are counted from 1
-abbrev pub place_text : Spec → ℕ → Instance → List ℕ
-place_text spec number i =
+abbrev pub place_text : Spec → ℕ → Instance → Span → List ℕ
+place_text spec number i span =
     decimal number ++ codes " rule " ++ decimal (i.rule + 1) ++ codes " at "
-    ++ element_text spec i.elem
+    ++ element_text spec i.elem ++ index_text span i.index
 
 -- the line of an instance of a rule with this index, and the fact that it gives
 abbrev pub instance_line : Spec → ℕ → Instance → Span → Fact → List ℕ
 instance_line spec number i span fact =
-    place_text spec number i ++ index_text span i.index ++ codes " gives " ++ fact_text spec fact
+    place_text spec number i span ++ codes " gives " ++ fact_text spec fact
     ++ codes "\n"
 
 -- the text has a line for each instance, in order, with the fact that the instance gives

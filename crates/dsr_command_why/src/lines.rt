@@ -33,15 +33,17 @@ fn push_place(
     spec: &Spec,
     number: u64,
     instance: &Instance,
+    span: Span,
 ) -> Result<(), NoMemory>
     ensures { OnOk result (text.new.items ≡ text.old.items
-        ++ said.place_text spec.now number instance.now) }
+        ++ said.place_text spec.now number instance.now span) }
 {
     push_number(text, number)?;
     push(text, b" rule ")?;
     push_number(text, u64::from(instance.rule) + 1)?;
     push(text, b" at ")?;
-    push_element(text, spec, instance.elem)
+    push_element(text, spec, instance.elem)?;
+    push_index(text, span, instance.index)
 }
 
 // Appends the line of an instance that gives the fact.
@@ -56,8 +58,7 @@ fn push_line(
     ensures { OnOk result (text.new.items ≡ text.old.items
         ++ said.instance_line spec.now number instance.now span fact.now) }
 {
-    push_place(text, spec, number, instance)?;
-    push_index(text, span, instance.index)?;
+    push_place(text, spec, number, instance, span)?;
     push(text, b" gives ")?;
     push_fact(text, spec, fact)?;
     push(text, b"\n")

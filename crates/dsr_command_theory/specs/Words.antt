@@ -5,10 +5,16 @@ use Rattle.std.specs.Str.Parse.{digits_value}
 
 -- a command, with the names of its files
 pub data Asked : Type 0 where
+  -- whether a report is that of the repair of an image, and another image what that repair left
+  Audit : (spec image report fixed : List ℕ) → Asked
   -- a certificate of the plan of a specification, saved under the second name
   Certify : (spec certificate : List ℕ) → Asked
   -- whether an image is consistent under a specification
   Check : (spec image : List ℕ) → Asked
+  -- groups of writes, by a script, to an image under a specification, saved under the last name
+  Edit : (spec image script out : List ℕ) → Asked
+  -- the records of an image that no set has
+  Lost : (spec image : List ℕ) → Asked
   -- the plan of a specification
   Plan : (spec : List ℕ) → Asked
   -- a repair of an image under a specification, saved under the last name
@@ -17,8 +23,12 @@ pub data Asked : Type 0 where
   Text : (spec : List ℕ) → Asked
   -- the trial of this number
   Trial : (number : ℕ) → Asked
+  -- what a report tells is taken back from an image, and the image saved under the last name
+  Undo : (spec fixed report out : List ℕ) → Asked
   -- whether a certificate is one of a plan of the specification
   Verify : (spec certificate : List ℕ) → Asked
+  -- a shortest chain of rules that gives the fact of this text in an image
+  Why : (spec image fact : List ℕ) → Asked
 
 -- an empty word, or one that begins with a dash
 abbrev pub is_odd : List ℕ → Bool
@@ -53,16 +63,35 @@ with_two command spec file =
     if bytes_eq command (codes "check") then Some (Check spec file)
     else if bytes_eq command (codes "certify") then to_certify spec file
     else if bytes_eq command (codes "verify") then Some (Verify spec file)
+    else if bytes_eq command (codes "lost") then Some (Lost spec file)
     else None
 
 -- what is saved has another name than the specification, and may have that of the image
 abbrev pub to_repair : (spec image out : List ℕ) → Option Asked
 to_repair spec image out = if bytes_eq out spec then None else Some (Repair spec image out)
 
--- the one with three
-abbrev pub with_three : (command spec image out : List ℕ) → Option Asked
-with_three command spec image out =
-    if bytes_eq command (codes "repair") then to_repair spec image out else None
+-- those with three
+abbrev pub with_three : (command spec image word : List ℕ) → Option Asked
+with_three command spec image word =
+    if bytes_eq command (codes "repair") then to_repair spec image word
+    else if bytes_eq command (codes "why") then Some (Why spec image word)
+    else None
+
+abbrev pub to_undo : (spec fixed report out : List ℕ) → Option Asked
+to_undo spec fixed report out =
+    if bytes_eq out spec then None else Some (Undo spec fixed report out)
+
+abbrev pub to_edit : (spec image script out : List ℕ) → Option Asked
+to_edit spec image script out =
+    if bytes_eq out spec then None else Some (Edit spec image script out)
+
+-- those with four
+abbrev pub with_four : (command spec image file word : List ℕ) → Option Asked
+with_four command spec image file word =
+    if bytes_eq command (codes "audit") then Some (Audit spec image file word)
+    else if bytes_eq command (codes "undo") then to_undo spec image file word
+    else if bytes_eq command (codes "edit") then to_edit spec image file word
+    else None
 
 -- What the words ask for. None where they are no command: there is no word, the first one is none
 -- of the commands, not so many words stand behind it as it takes, one of these is an odd word,
@@ -71,6 +100,9 @@ abbrev pub command_of : List (List ℕ) → Option Asked
 command_of (command ∷ word ∷ []) = if is_odd word then None else with_one command word
 command_of (command ∷ spec ∷ file ∷ []) =
     if is_odd spec || is_odd file then None else with_two command spec file
-command_of (command ∷ spec ∷ image ∷ out ∷ []) =
-    if is_odd spec || is_odd image || is_odd out then None else with_three command spec image out
+command_of (command ∷ spec ∷ image ∷ word ∷ []) =
+    if is_odd spec || is_odd image || is_odd word then None else with_three command spec image word
+command_of (command ∷ spec ∷ image ∷ file ∷ word ∷ []) =
+    if is_odd spec || is_odd image || is_odd file || is_odd word then None
+    else with_four command spec image file word
 command_of _ = None

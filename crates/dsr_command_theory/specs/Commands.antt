@@ -7,6 +7,8 @@ use Rattle.dsr_command_audit.specs.Laid.{Lies, Refused as Unlaid}
 use Rattle.dsr_command_audit.specs.Undone.{IsUndoOf}
 use Rattle.dsr_command_certify.specs.Certified.{certified_answer}
 use Rattle.dsr_command_certify.specs.Verified.{IsVerifyAnswer}
+use Rattle.dsr_command_edit.specs.Edited.{IsEditOf}
+use Rattle.dsr_command_edit.specs.Opened.{IsOpening, Opening, Opens, Refuses}
 use Rattle.dsr_command_image.specs.Checked.{IsCheckAnswer}
 use Rattle.dsr_ir.specs.declared.declarations.Spec.{Spec}
 use Rattle.dsr_command_plan.specs.Planned as planned
@@ -19,6 +21,8 @@ use Rattle.dsr_command_image.specs.Repaired.{Ending, IsRepairOf, Saves, Tells}
 use Rattle.dsr_script.specs.Scripts.{Answer, Script, loads, picks, saves, tells}
 use Rattle.dsr_script.specs.declared.status.Verdict.TheVariants as verdicts
 use Rattle.dsr_command_trial.specs.Trials.{IsTrial}
+use Rattle.dsr_command_why.specs.Losts.{IsLostAnswer}
+use Rattle.dsr_command_why.specs.Whys.{IsWhyAnswer}
 use Rattle.dsr_syntax_theory.specs.Canonical.{canonical}
 use Rattle.dsr_tree.specs.Trees.{TreeShape}
 use Rattle.dsr_language_theory.specs.Specifications.{specification}
@@ -140,7 +144,7 @@ repair_after image out text = reads text (λ tree. plans_repair image out (speci
 
 -- a chain of the fact is told
 abbrev pub explains : List ℕ → Spec → List ℕ → Script
-explains fact spec image = tells (IsWhyAnswer spec fact image)
+explains fact spec image = tells (IsWhyAnswer spec image fact)
 
 abbrev pub loads_explained : (image fact : List ℕ) → Spec → Script
 loads_explained image fact spec = loads_for image spec (explains fact spec)
@@ -167,9 +171,9 @@ edits out spec image script = picks (IsEditOf spec image script) (ends out)
 
 -- the script is loaded where the image may be edited; where it may not, that is told
 abbrev pub loads_script : (script out : List ℕ) → Spec → List ℕ → Opening → Script
-loads_script script out spec image Ready =
+loads_script script out spec image Opens =
     loads script script_limit (codes "too long script\n") (edits out spec image)
-loads_script script out spec image (Refused answer) = tells (λ told. told ≡ answer)
+loads_script script out spec image (Refuses answer) = tells (λ told. told ≡ answer)
 
 abbrev pub opens : (script out : List ℕ) → Spec → List ℕ → Script
 opens script out spec image = picks (IsOpening spec image) (loads_script script out spec image)
@@ -236,13 +240,13 @@ abbrev pub script_of : Option Asked → Script
 script_of None = tells (λ told. told ≡ usage)
 script_of (Some (Audit spec image report fixed)) =
     loads_spec spec (audit_after image report fixed)
-script_of (Some (Text spec)) = loads_spec spec text_after
+script_of (Some (Certify spec certificate)) = loads_spec spec (certify_after certificate)
+script_of (Some (Check spec image)) = loads_spec spec (check_after image)
 script_of (Some (Edit spec image script out)) = loads_spec spec (edit_after image script out)
 script_of (Some (Lost spec image)) = loads_spec spec (lost_after image)
 script_of (Some (Plan spec)) = loads_spec spec plan_after
-script_of (Some (Check spec image)) = loads_spec spec (check_after image)
-script_of (Some (Certify spec certificate)) = loads_spec spec (certify_after certificate)
 script_of (Some (Repair spec image out)) = loads_spec spec (repair_after image out)
+script_of (Some (Text spec)) = loads_spec spec text_after
 script_of (Some (Trial number)) = tells (IsTrial number)
 script_of (Some (Undo spec fixed report out)) = loads_spec spec (undo_after fixed report out)
 script_of (Some (Verify spec certificate)) = loads_spec spec (verify_after certificate)

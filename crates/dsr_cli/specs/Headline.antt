@@ -1,9 +1,12 @@
 -- What the program does: the theorem of the whole.
 use Rattle.std.specs.Prelude.{ℕ, List}
 use Rattle.dsr_command_theory.specs.Commands.{asked}
+use Rattle.dsr_command_laws.specs.EditHeadlines.{EditsImages, EditsNothingElse}
+use Rattle.dsr_command_laws.specs.FactHeadlines.{ExplainsFacts, ExplainsNothingElse, ListsNothingElse, ListsRecords}
 use Rattle.dsr_command_laws.specs.ImageHeadlines.{ChecksImages, ChecksNothingElse, PrintsTexts, TellsUsage}
 use Rattle.dsr_command_laws.specs.PlanHeadlines.{CertifiesNothingElse, CertifiesPlans, FindsNothingElse, FindsPlans, VerifiesCertificates, VerifiesNothingElse}
 use Rattle.dsr_command_laws.specs.RepairHeadlines.{RepairsImages, RepairsLast, RepairsNothingElse, TellsTrials}
+use Rattle.dsr_command_laws.specs.ReportHeadlines.{AuditsNothingElse, AuditsReports, UndoesAudited, UndoesNothingElse, UndoesRepairs}
 use Rattle.dsr_script.specs.Causes.{Causes}
 use Rattle.dsr_script.specs.Outside.{Outside}
 use Rattle.dsr_script.specs.Runs.{Runs}
@@ -44,3 +47,23 @@ pub record Headline (words : List (List ℕ)) (before after : Outside) (status :
   pub lasting : RepairsLast words before after status
   -- `trial` tells the answer of its number, and saves nothing
   pub trials : TellsTrials words before after status
+  -- `why` tells the first of the shortest chains of a fact, or outside of which set the record is,
+  -- or that no fact has the text, exactly where that is so
+  pub facts : ExplainsFacts words before after status
+  pub no_other_facts : ExplainsNothingElse words before after status
+  -- `lost` tells exactly the records that no set has
+  pub lost : ListsRecords words before after status
+  pub no_others_lost : ListsNothingElse words before after status
+  -- `audit` calls a report sound exactly where it is that of the repair of the image, by the plan
+  -- that is taken, which led to the fixed bytes, and tells the first reason otherwise
+  pub audits : AuditsReports words before after status
+  pub no_other_audits : AuditsNothingElse words before after status
+  -- `undo` saves what the entries of a report lead back to, or tells the first line that it can't
+  -- take back; of a sound report that is the image from which the repair began
+  pub undone : UndoesRepairs words before after status
+  pub no_others_undone : UndoesNothingElse words before after status
+  pub taken_back : UndoesAudited words before after status
+  -- `edit` saves what all groups of a script leave, each of which leaves the image consistent, or
+  -- tells the first reason why not all can be made
+  pub edits : EditsImages words before after status
+  pub no_other_edits : EditsNothingElse words before after status

@@ -30,4 +30,15 @@ returns g c =
       no_other_repairs = c.images_are_repaired.ensures.nothing_else words before after status runs;
       lasting = c.images_are_repaired.ensures.last words before after status runs;
       trials = c.trials_are_told.ensures words before after status runs;
+      facts = c.facts_are_explained.ensures.facts words before after status runs;
+      no_other_facts = c.facts_are_explained.ensures.nothing_else words before after status runs;
+      lost = c.lost_records_are_listed.ensures.records words before after status runs;
+      no_others_lost = c.lost_records_are_listed.ensures.nothing_else words before after status runs;
+      audits = c.reports_are_audited.ensures.reports words before after status runs;
+      no_other_audits = c.reports_are_audited.ensures.nothing_else words before after status runs;
+      undone = c.repairs_are_undone.ensures.repairs words before after status runs;
+      no_others_undone = c.repairs_are_undone.ensures.nothing_else words before after status runs;
+      taken_back = c.repairs_are_undone.ensures.audited words before after status runs;
+      edits = c.images_are_edited.ensures.edits words before after status runs;
+      no_other_edits = c.images_are_edited.ensures.nothing_else words before after status runs;
     }

@@ -7,11 +7,10 @@ use Rattle.dsr_command_laws.specs.FactHeadlines.{ExplainsFacts, ExplainsNothingE
 use Rattle.dsr_command_laws.specs.FactHeadlines.IsWhy.{chained, no_chain, outside}
 use Rattle.dsr_command_theory.specs.Commands.{asked, image_limit, script_of}
 use Rattle.dsr_command_theory.specs.Words.{Lost, Why, command_of}
-use Rattle.dsr_command_why.specs.Losts as losts
 use Rattle.dsr_command_why.specs.Losts.{IsLostAnswer}
-use Rattle.dsr_command_why.specs.Losts.IsLostAnswer as lost_answers
+use Rattle.dsr_command_why.specs.Losts.IsLostAnswer.{listed, unlaid as lost_unlaid}
 use Rattle.dsr_command_why.specs.Whys.{IsWhyAnswer}
-use Rattle.dsr_command_why.specs.Whys.IsWhyAnswer as why_answers
+use Rattle.dsr_command_why.specs.Whys.IsWhyAnswer.{chained as why_chained, no_chain as why_no_chain, outside as why_outside, unlaid as why_unlaid}
 use Rattle.dsr_compile_laws.specs.Meanings.{HaveOneMeaning}
 use Rattle.dsr_ir.specs.declared.declarations.Spec.{Spec}
 use Rattle.dsr_ir.specs.declared.layouts.Layout.{Layout}
@@ -45,8 +44,8 @@ module _ (before after : Outside) (verdict : Verdict) (spec : Spec) (image word 
   -- on an image that has a layout, what is told is why
   why_told : (layout : Layout) → IsLayoutOf spec image layout → (answer : Answer) → IsWhyAnswer spec image word answer
       → Speaks before after verdict answer → (verdict ≡ verdicts.Ok) × IsWhy spec layout image word before after
-  why_told layout laid _ (why_answers.unlaid refusal first) speaks = absurd (none_first (refusals spec image) refusal laid.accepted first)
-  why_told layout laid _ (why_answers.chained other fact is lines its text_is first are_lines) speaks =
+  why_told layout laid _ (why_unlaid refusal first) speaks = absurd (none_first (refusals spec image) refusal laid.accepted first)
+  why_told layout laid _ (why_chained other fact is lines its text_is first are_lines) speaks =
       subst (λ l. (verdict ≡ verdicts.Ok) × IsWhy spec l image word before after) (one_layout spec image other layout its laid)
       (speaks.says, chained (record {
         fact = fact;
@@ -58,7 +57,7 @@ module _ (before after : Outside) (verdict : Verdict) (spec : Spec) (image word 
         are_lines = are_lines;
         told = speaks.put;
       }))
-  why_told layout laid _ (why_answers.outside other set base elem its text_is base_is member) speaks =
+  why_told layout laid _ (why_outside other set base elem its text_is base_is member) speaks =
       subst (λ l. (verdict ≡ verdicts.Ok) × IsWhy spec l image word before after) (one_layout spec image other layout its laid)
       (speaks.says, outside (record {
         set = set;
@@ -69,32 +68,32 @@ module _ (before after : Outside) (verdict : Verdict) (spec : Spec) (image word 
         member = member;
         told = speaks.put;
       }))
-  why_told layout laid _ (why_answers.no_chain other its none) speaks =
+  why_told layout laid _ (why_no_chain other its none) speaks =
       subst (λ l. (verdict ≡ verdicts.Ok) × IsWhy spec l image word before after) (one_layout spec image other layout its laid)
       (speaks.says, no_chain (record { none = none; told = speaks.put }))
 
   -- what is told with any other verdict than that of a refused layout is told of one
   why_laid : (answer : Answer) → IsWhyAnswer spec image word answer → Speaks before after verdict answer
       → verdict ≢ verdicts.LayoutRefused → (layout : Layout) × IsLayoutOf spec image layout
-  why_laid _ (why_answers.unlaid refusal first) speaks other = absurd (other speaks.says)
-  why_laid _ (why_answers.chained layout fact is lines its text_is first are_lines) speaks other = (layout, its)
-  why_laid _ (why_answers.outside layout set base elem its text_is base_is member) speaks other = (layout, its)
-  why_laid _ (why_answers.no_chain layout its none) speaks other = (layout, its)
+  why_laid _ (why_unlaid refusal first) speaks other = absurd (other speaks.says)
+  why_laid _ (why_chained layout fact is lines its text_is first are_lines) speaks other = (layout, its)
+  why_laid _ (why_outside layout set base elem its text_is base_is member) speaks other = (layout, its)
+  why_laid _ (why_no_chain layout its none) speaks other = (layout, its)
 
 -- ---- lost records
 
 module _ (before after : Outside) (verdict : Verdict) (spec : Spec) (image : List ℕ) where
   lost_told : (layout : Layout) → IsLayoutOf spec image layout → (answer : Answer) → IsLostAnswer spec image answer
       → Speaks before after verdict answer → (verdict ≡ verdicts.Ok) × ListsLost spec layout image before after
-  lost_told layout laid _ (lost_answers.unlaid refusal first) speaks = absurd (none_first (refusals spec image) refusal laid.accepted first)
-  lost_told layout laid _ (lost_answers.listed other es its lost) speaks =
+  lost_told layout laid _ (lost_unlaid refusal first) speaks = absurd (none_first (refusals spec image) refusal laid.accepted first)
+  lost_told layout laid _ (listed other es its lost) speaks =
       subst (λ l. (verdict ≡ verdicts.Ok) × ListsLost spec l image before after) (one_layout spec image other layout its laid)
       (speaks.says, record { lost = es; are_lost = lost; told = speaks.put })
 
   lost_laid : (answer : Answer) → IsLostAnswer spec image answer → Speaks before after verdict answer
       → verdict ≢ verdicts.LayoutRefused → (layout : Layout) × IsLayoutOf spec image layout
-  lost_laid _ (lost_answers.unlaid refusal first) speaks other = absurd (other speaks.says)
-  lost_laid _ (lost_answers.listed layout es its lost) speaks other = (layout, its)
+  lost_laid _ (lost_unlaid refusal first) speaks other = absurd (other speaks.says)
+  lost_laid _ (listed layout es its lost) speaks other = (layout, its)
 
 module _ (once : HaveOneMeaning) (words : List (List ℕ)) (before after : Outside) (status : Status) (runs : Runs (asked words) before after status) where
   pub explains_facts : ExplainsFacts words before after status

@@ -4,14 +4,14 @@ use Rattle.std.proofs.lemmas.Option.{same_Some}
 use Rattle.std.specs.FinMap.{get}
 use Rattle.dsr_answers.specs.Texts.{verdict_answer}
 use Rattle.dsr_command_edit.specs.Edited.{IsEditOf}
-use Rattle.dsr_command_edit.specs.Edited.IsEditOf as edit_answers
+use Rattle.dsr_command_edit.specs.Edited.IsEditOf.{broken as edit_broken, edited as edit_edited, unread as edit_unread, unwritable as edit_unwritable}
 use Rattle.dsr_command_edit.specs.Opened.{IsOpen, IsOpening, Opening, Opens, Refuses}
-use Rattle.dsr_command_edit.specs.Opened.IsOpening as openings
+use Rattle.dsr_command_edit.specs.Opened.IsOpening.{inconsistent, open_to, unlaid}
 use Rattle.dsr_command_image.specs.Repaired.{Ending}
 use Rattle.dsr_command_laws.proofs.ImagesRepaired.{IsEnded, ended_at}
 use Rattle.dsr_command_laws.proofs.Tellings.{ReadText, RefusedRun, Speaks, load_told, means_same, meant, never_refused, refused_verdict, spoken, text_loaded}
 use Rattle.dsr_command_laws.specs.EditHeadlines.{EditsImages, EditsNothingElse, IsEditVerdict, IsInconsistent, IsToEdit, WasUnedited}
-use Rattle.dsr_command_laws.specs.EditHeadlines.WasUnedited as unedited
+use Rattle.dsr_command_laws.specs.EditHeadlines.WasUnedited.{broken, unread, unwritable}
 use Rattle.dsr_command_laws.specs.Repairs.{HasLayout}
 use Rattle.dsr_command_theory.specs.Commands.{asked, edits, image_limit, loads_edited, loads_script, loads_spec, opens, reads, script_limit, script_of}
 use Rattle.dsr_command_theory.specs.Words.{Edit, command_of}
@@ -108,7 +108,7 @@ violated_some (v ∷ rest) some = (v, rest, refl)
 module _ (spec : Spec) (image script name : List ℕ) (before after : Outside) (verdict : Verdict) where
   refused_verdict_of : (answer : Answer) → IsOpening spec image (Refuses answer) → Stands before after → Speaks before after verdict answer
       → IsEditVerdict spec image script name before after verdict
-  refused_verdict_of _ (openings.unlaid refusal first) stands speaks =
+  refused_verdict_of _ (unlaid refusal first) stands speaks =
       let says : verdict ≡ verdicts.LayoutRefused = speaks.says in
       let none : HasLayout spec image → ⊥ = λ laid. none_first (refusals spec image) refusal laid.1.accepted first in
       record {
@@ -120,7 +120,7 @@ module _ (spec : Spec) (image script name : List ℕ) (before after : Outside) (
         edited = differs verdict says (λ e. cc);
         unedited = differs verdict says (λ e. cc);
       }
-  refused_verdict_of _ (openings.inconsistent layout vs laid exactly some) stands speaks =
+  refused_verdict_of _ (inconsistent layout vs laid exactly some) stands speaks =
       let first = violated_some vs some in
       let says : verdict ≡ verdicts.Inconsistent = speaks.says ∙ ap (λ vs. (verdict_answer spec vs).verdict) first.2 in
       let unsound : IsConsistent spec layout image → ⊥ = λ all. all first.0 (exactly.only first.0 (subst (IsIn first.0) (sym first.2) (inl refl))) in
@@ -154,13 +154,13 @@ module _ (spec : Spec) (image script name : List ℕ) (before after : Outside) (
 
     ended_verdict : (ending : Ending) → IsEditOf spec image script ending → IsEnded name before after verdict ending
         → IsEditVerdict spec image script name before after verdict
-    ended_verdict _ (edit_answers.unread line first) ended =
-        unedited_verdict ended.1.says (unedited.unread line first ended.0 ended.1.put)
-    ended_verdict _ (edit_answers.unwritable its groups line is_open is_script is) ended =
-        unedited_verdict ended.1.says (unedited.unwritable its groups line is_open is_script is ended.0 ended.1.put)
-    ended_verdict _ (edit_answers.broken its groups number v is_open is_script is) ended =
-        unedited_verdict ended.1.says (unedited.broken its groups number v is_open is_script is ended.0 ended.1.put)
-    ended_verdict _ (edit_answers.edited its groups new is_open is_script accepted) ended =
+    ended_verdict _ (edit_unread line first) ended =
+        unedited_verdict ended.1.says (unread line first ended.0 ended.1.put)
+    ended_verdict _ (edit_unwritable its groups line is_open is_script is) ended =
+        unedited_verdict ended.1.says (unwritable its groups line is_open is_script is ended.0 ended.1.put)
+    ended_verdict _ (edit_broken its groups number v is_open is_script is) ended =
+        unedited_verdict ended.1.says (broken its groups number v is_open is_script is ended.0 ended.1.put)
+    ended_verdict _ (edit_edited its groups new is_open is_script accepted) ended =
         let says : verdict ≡ verdicts.Ok = ended.1.says in
         record {
           no_layout = (differs verdict says (λ e. cc), λ none. absurd (none (layout, opened.image_of.layout_is)));
@@ -183,7 +183,7 @@ module _ (spec : Spec) (image script name : List ℕ) (before after : Outside) (
 
   open_verdict : IsOpening spec image Opens → (ending : Ending) → IsEditOf spec image script ending → IsEnded name before after verdict ending
       → IsEditVerdict spec image script name before after verdict
-  open_verdict (openings.open_to layout opened) ending is ended = ended_verdict layout opened ending is ended
+  open_verdict (open_to layout opened) ending is ended = ended_verdict layout opened ending is ended
 
 module _ (once : HaveOneMeaning) (words : List (List ℕ)) (before after : Outside) (status : Status)
     (runs : Runs (asked words) before after status) where
@@ -230,9 +230,9 @@ module _ (once : HaveOneMeaning) (words : List (List ℕ)) (before after : Outsi
       never (inr refused) other apart far is = far (sym refused ∙ is)
 
       never_refuses : (spec : Spec) (image : List ℕ) (answer : Answer) → IsOpening spec image (Refuses answer) → Speaks before after verdict answer → ⊥
-      never_refuses spec image _ (openings.unlaid refusal first) speaks =
+      never_refuses spec image _ (unlaid refusal first) speaks =
           never one_of verdicts.LayoutRefused (λ e. cc) (λ e. cc) speaks.says
-      never_refuses spec image _ (openings.inconsistent layout vs laid exactly some) speaks =
+      never_refuses spec image _ (inconsistent layout vs laid exactly some) speaks =
           let first = violated_some vs some in
           never one_of verdicts.Inconsistent (λ e. cc) (λ e. cc) (speaks.says ∙ ap (λ vs. (verdict_answer spec vs).verdict) first.2)
 

@@ -10,3 +10,5 @@ pub mod TrialsTold
 pub mod Lasting
 pub mod Tellings
 pub mod FactsExplained
+pub mod ReportsHeld
+pub mod ImagesEdited

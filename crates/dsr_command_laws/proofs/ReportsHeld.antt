@@ -3,21 +3,20 @@ use Rattle.std.proofs.Common.{◌≡◌, ◌≢◌, ◌≤◌, ◌<◌, ◌^◌,
 use Rattle.std.proofs.lemmas.Option.{same_Some}
 use Rattle.std.specs.FinMap.{get}
 use Rattle.dsr_command_audit.specs.Audited.{IsAuditAnswer, IsReportOfRepair}
-use Rattle.dsr_command_audit.specs.Audited.IsAuditAnswer as audits
+use Rattle.dsr_command_audit.specs.Audited.IsAuditAnswer.{audited, misread as audit_misread, unlike as audit_unlike}
 use Rattle.dsr_command_audit.specs.Laid as laid
-use Rattle.dsr_command_audit.specs.Laid.{Lies}
-use Rattle.dsr_command_audit.specs.Laid.IsFound as found_by
+use Rattle.dsr_command_audit.specs.Laid.IsFound.{lies, refused as unlaid_image}
 use Rattle.dsr_command_audit.specs.Logs.{IsLogOf}
 use Rattle.dsr_command_audit.specs.ReportTexts.{audited_answer, undone_answer}
 use Rattle.dsr_command_audit.specs.Undone.{IsUndoOf}
-use Rattle.dsr_command_audit.specs.Undone.IsUndoOf as undos
+use Rattle.dsr_command_audit.specs.Undone.IsUndoOf.{back, misread as undo_misread, stopped as undo_stopped}
 use Rattle.dsr_command_image.specs.Repaired.{Ending, Saves, Tells}
 use Rattle.dsr_command_laws.proofs.ImagesRepaired.{IsEnded, Unplanned, ended_at}
 use Rattle.dsr_command_laws.proofs.Tellings.{ReadText, RefusedRun, Speaks, load_told, means_same, meant, never_refused, refused_verdict, spoken, tells_one, text_loaded}
 use Rattle.dsr_command_laws.specs.ReportHeadlines.{AuditsNothingElse, AuditsReports, IsAuditVerdict, IsSound, IsToAudit, IsToUndo, IsUndoVerdict, UndoesAudited, UndoesNothingElse, UndoesRepairs, WasDenied, WasKept, WereAudited}
 use Rattle.dsr_command_laws.specs.ReportHeadlines.IsUndoVerdict.{kept, undone}
-use Rattle.dsr_command_laws.specs.ReportHeadlines.WasDenied as denials
-use Rattle.dsr_command_laws.specs.ReportHeadlines.WasKept as keeps
+use Rattle.dsr_command_laws.specs.ReportHeadlines.WasDenied.{misread, unlike}
+use Rattle.dsr_command_laws.specs.ReportHeadlines.WasKept.{misread as kept_misread, stopped}
 use Rattle.dsr_command_laws.specs.Repairs.{HasLayout, WasUnlaid}
 use Rattle.dsr_command_plan.specs.Planned as planned
 use Rattle.dsr_command_plan.specs.StuckTexts.{refused_answer}
@@ -143,18 +142,18 @@ module _ (before after : Outside) (files : Files) (held : before.held ≡ Some f
 module _ (spec : Spec) (fixed report name : List ℕ) (before after : Outside) (verdict : Verdict) where
   undo_verdict : (ending : Ending) → IsUndoOf spec fixed report ending → IsEnded name before after verdict ending
       → IsUndoVerdict spec fixed report name before after verdict
-  undo_verdict _ (undos.back log new is_log taken) ended =
+  undo_verdict _ (back log new is_log taken) ended =
       subst (IsUndoVerdict spec fixed report name before after) (sym ended.1.says)
       (undone (record {
         leads = record { log = log; is_log = is_log; image = new; back = taken };
         saved = ended.0;
         told = ended.1.put;
       }))
-  undo_verdict _ (undos.misread number first) ended =
-      subst (IsUndoVerdict spec fixed report name before after) (sym ended.1.says) (kept (keeps.misread number first ended.0 ended.1.put))
-  undo_verdict _ (undos.stopped log reached fault is_log refused) ended =
+  undo_verdict _ (undo_misread number first) ended =
+      subst (IsUndoVerdict spec fixed report name before after) (sym ended.1.says) (kept (kept_misread number first ended.0 ended.1.put))
+  undo_verdict _ (undo_stopped log reached fault is_log refused) ended =
       subst (IsUndoVerdict spec fixed report name before after) (sym ended.1.says)
-      (kept (keeps.stopped log reached fault is_log refused ended.0 ended.1.put))
+      (kept (stopped log reached fault is_log refused ended.0 ended.1.put))
 
 module _ (once : HaveOneMeaning) (words : List (List ℕ)) (before after : Outside) (status : Status)
     (runs : Runs (asked words) before after status) where
@@ -262,7 +261,7 @@ module _ (before after : Outside) (files : Files) (held : before.held ≡ Some f
       → loads_told report_name fixed_name spec choice image found came next → AllLoaded before came → Ends before after (Said verdict) next
       → ((verdict ≡ verdicts.LayoutRefused) × (HasLayout spec image → ⊥) × WasUnlaid spec image before after)
       ⊎ Held files spec choice image report_name fixed_name before after verdict
-  looked_at spec choice image _ (found_by.lies layout is) came next script loaded at =
+  looked_at spec choice image _ (lies layout is) came next script loaded at =
       let one = load_told before after files held verdict (λ told. loads_for fixed_name spec (audits_script spec choice image told)) report_name report_limit too_long_report came next script loaded at in
       let two = load_told before after files held verdict (audits_script spec choice image one.bytes) fixed_name (image_limit spec) too_long_image one.more next one.script one.loaded at in
       let told = tells_one before after files held verdict (IsAuditAnswer spec choice image one.bytes two.bytes) two.more next two.script at in
@@ -278,7 +277,7 @@ module _ (before after : Outside) (files : Files) (held : before.held ≡ Some f
         is = told.1;
         speaks = told.2;
       })
-  looked_at spec choice image _ (found_by.refused refusal first) [] next told loaded at =
+  looked_at spec choice image _ (unlaid_image refusal first) [] next told loaded at =
       let said = said_at_tell before after verdict told.0 (subst (Ends before after (Said verdict)) told.2 at) in
       let speaks = subst (Speaks before after verdict) told.1 (record { says = said.1.0; put = said.1.1.1 }) in
       inl (
@@ -286,7 +285,7 @@ module _ (before after : Outside) (files : Files) (held : before.held ≡ Some f
         λ laid_out. none_first (refusals spec image) refusal laid_out.1.accepted first,
         record { refusal = refusal; first = first; stands = said.0; told = speaks.put },
       )
-  looked_at spec choice image _ (found_by.refused refusal first) (c ∷ more) next told loaded at = absurd told
+  looked_at spec choice image _ (unlaid_image refusal first) (c ∷ more) next told loaded at = absurd told
 
   planned_at : (spec : Spec) (found : plans.Found) → planned.IsFound spec found → (came : List Came) (next : Next)
       → loads_audited image_name report_name fixed_name spec found came next → AllLoaded before came → Ends before after (Said verdict) next
@@ -383,7 +382,7 @@ module _ (accepts : AcceptsSound) (spec : Spec) (spelled : HasSpelledNames spec)
 
     held_verdict : HasLayout spec image → (answer : Answer) → IsAuditAnswer spec choice image report fixed answer
         → Speaks before after verdict answer → IsAuditVerdict spec image report fixed before after verdict
-    held_verdict laid_out _ (audits.audited run is) speaks =
+    held_verdict laid_out _ (audited run is) speaks =
         let says : verdict ≡ verdicts.Ok = speaks.says in
         let sound : IsSound spec image report fixed = record { choice = choice; taken = taken; run = run; is = is } in
         record {
@@ -396,11 +395,11 @@ module _ (accepts : AcceptsSound) (spec : Spec) (spelled : HasSpelledNames spec)
           audited = λ _. record { sound = sound; told = speaks.put };
           denied = differs verdict says (λ e. cc);
         }
-    held_verdict laid_out _ (audits.misread number first) speaks =
-        denied_verdict laid_out _ (audits.misread number first) speaks speaks.says (denials.misread number first speaks.put)
-    held_verdict laid_out _ (audits.unlike layout log fault image_is is_log known its) speaks =
-        denied_verdict laid_out _ (audits.unlike layout log fault image_is is_log known its) speaks speaks.says
-        (denials.unlike choice layout log fault taken image_is is_log its speaks.put)
+    held_verdict laid_out _ (audit_misread number first) speaks =
+        denied_verdict laid_out _ (audit_misread number first) speaks speaks.says (misread number first speaks.put)
+    held_verdict laid_out _ (audit_unlike layout log fault image_is is_log known its) speaks =
+        denied_verdict laid_out _ (audit_unlike layout log fault image_is is_log known its) speaks speaks.says
+        (unlike choice layout log fault taken image_is is_log its speaks.put)
 
 module _ (accepts : AcceptsSound) (once : HaveOneMeaning) (words : List (List ℕ)) (before after : Outside) (status : Status)
     (runs : Runs (asked words) before after status) where

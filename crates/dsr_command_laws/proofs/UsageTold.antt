@@ -1,15 +1,31 @@
 -- Words that ask for nothing are told so, and no command says that of others.
-use Rattle.std.proofs.Common.{◌≡◌, ◌↔◌, ℕ, List, [], ◌∷◌, None, Some, Option, refl, sym, ap, subst, ◌∙◌, inl, inr}
+use Rattle.std.proofs.Common.{◌≡◌, ◌↔◌, ℕ, List, length, [], ◌∷◌, None, Some, Option, refl, sym, ap, subst, ◌∙◌, inl, inr}
 use Rattle.dsr_answers.specs.Refused.{IsRefused, no_meaning, no_token, past_limit, unexpected}
 use Rattle.dsr_answers.specs.Texts.{layout_answer, verdict_answer}
 use Rattle.dsr_command_laws.proofs.Tellings.{Spoken, spoken}
-use Rattle.dsr_command_theory.specs.Commands.{asked, certifies, checks, ends, goes_on, loads_certificate, loads_damaged, loads_image, loads_spec, plans_repair, reads, repairs, saves_plan, script_of, tells_plan, tells_text, usage, verifies}
+use Rattle.dsr_command_theory.specs.Commands.{asked, audits, certifies, checks, edits, ends, explains, goes_on, lays_out, lists_lost, loads_audited, loads_certificate, loads_damaged, loads_edited, loads_explained, loads_for, loads_image, loads_listed, loads_repaired, loads_script, loads_spec, loads_told, loads_undone, opens, plans_audit, plans_repair, reads, repairs, saves_plan, script_of, tells_plan, tells_text, undoes, usage, verifies}
 use Rattle.dsr_command_theory.specs.Usage.{AskForNothing}
-use Rattle.dsr_command_theory.specs.Words.{Asked, Certify, Check, Plan, Repair, Text, Trial, Verify, command_of}
+use Rattle.dsr_command_theory.specs.Words.{Asked, Audit, Certify, Check, Edit, Lost, Plan, Repair, Text, Trial, Undo, Verify, Why, command_of}
 use Rattle.dsr_cert.specs.Certificates.{certificate_text}
 use Rattle.dsr_command_image.specs.Checked.{IsCheckAnswer, checked, refused}
 use Rattle.dsr_command_certify.specs.Certified.{certified_answer}
 use Rattle.dsr_command_certify.specs.Verified.{IsVerifyAnswer, flawed, valid, wrong}
+use Rattle.dsr_command_audit.specs.Audited.{IsAuditAnswer}
+use Rattle.dsr_command_audit.specs.Audited.IsAuditAnswer.{audited, misread as audit_misread, unlike}
+use Rattle.dsr_command_audit.specs.Laid as laid
+use Rattle.dsr_command_audit.specs.Laid.IsFound.{lies, refused as unlaid_image}
+use Rattle.dsr_command_audit.specs.ReportTexts.{undone_answer}
+use Rattle.dsr_command_audit.specs.ReportTexts as reports
+use Rattle.dsr_command_audit.specs.Undone.{IsUndoOf}
+use Rattle.dsr_command_audit.specs.Undone.IsUndoOf.{back, misread, stopped as undo_stopped}
+use Rattle.dsr_command_edit.specs.Edited.{IsEditOf, broken_answer, edited_answer, unread_answer, unwritable_answer}
+use Rattle.dsr_command_edit.specs.Edited.IsEditOf.{broken, edited, unread, unwritable}
+use Rattle.dsr_command_edit.specs.Opened.{IsOpening, Opening}
+use Rattle.dsr_command_edit.specs.Opened.IsOpening.{inconsistent, open_to, unlaid as edit_unlaid}
+use Rattle.dsr_command_why.specs.Losts.{IsLostAnswer}
+use Rattle.dsr_command_why.specs.Losts.IsLostAnswer.{listed, unlaid as lost_unlaid}
+use Rattle.dsr_command_why.specs.Whys.{IsWhyAnswer}
+use Rattle.dsr_command_why.specs.Whys.IsWhyAnswer.{chained, no_chain, outside, unlaid as why_unlaid}
 use Rattle.dsr_ir.specs.declared.declarations.Spec.{Spec}
 use Rattle.dsr_meaning.specs.Consistency.{BoundConstraint}
 use Rattle.dsr_command_plan.specs.Planned.{IsPlanAnswer, answer_of}
@@ -94,6 +110,12 @@ no_supply is = cc
 no_certificate : verdicts.CertRefused ≡ verdicts.Usage → ⊥
 no_certificate is = cc
 
+no_report : verdicts.ReportRefused ≡ verdicts.Usage → ⊥
+no_report is = cc
+
+no_edit : verdicts.EditRefused ≡ verdicts.Usage → ⊥
+no_edit is = cc
+
 refused_otherwise : (text : List ℕ) (answer : Answer) → IsRefused text answer → NotUsage answer
 refused_otherwise text _ (no_token place is) = no_spec
 refused_otherwise text _ (unexpected place is) = no_spec
@@ -123,6 +145,21 @@ trial_otherwise number _ (trials.refused answer is) = refused_otherwise _ answer
 trial_otherwise number _ (trials.unplanned spec set means stuck none) = no_plan
 trial_otherwise number _ (trials.unlaid spec refusal means first) = no_layout
 trial_otherwise number _ (trials.stopped spec choice layout entries new need means taken laid run) = no_supply
+
+why_otherwise : (spec : Spec) (image word : List ℕ) (answer : Answer) → IsWhyAnswer spec image word answer → NotUsage answer
+why_otherwise spec image word _ (why_unlaid refusal first) = no_layout
+why_otherwise spec image word _ (chained layout fact is lines laid_out text_is first are_lines) = no_ok
+why_otherwise spec image word _ (outside layout set base elem laid_out text_is base_is member) = no_ok
+why_otherwise spec image word _ (no_chain layout laid_out none) = no_ok
+
+lost_otherwise : (spec : Spec) (image : List ℕ) (answer : Answer) → IsLostAnswer spec image answer → NotUsage answer
+lost_otherwise spec image _ (lost_unlaid refusal first) = no_layout
+lost_otherwise spec image _ (listed layout es laid_out lost) = no_ok
+
+audit_otherwise : (spec : Spec) (choice : Choice) (image report fixed : List ℕ) (answer : Answer) → IsAuditAnswer spec choice image report fixed answer → NotUsage answer
+audit_otherwise spec choice image report fixed _ (audited run is) = no_ok
+audit_otherwise spec choice image report fixed _ (audit_misread number first) = no_report
+audit_otherwise spec choice image report fixed _ (unlike layout log fault image_is is_log known is) = no_report
 
 -- ---- commands
 
@@ -156,6 +193,43 @@ never_damaged image out spec (plan_found.Plan choice) =
     never_loads image _ _ (repairs out spec choice) (λ bytes. never_picks (IsRepairOf spec choice bytes) (ends out) (never_ends out spec choice bytes))
 never_damaged image out spec (plan_found.Stuck set) = never_tells_this (refused_answer spec set) no_plan
 
+never_undone : (out : List ℕ) (spec : Spec) (fixed report : List ℕ) (ending : Ending) → IsUndoOf spec fixed report ending → Never (ends out ending)
+never_undone out spec fixed report _ (back log new is_log taken) =
+    never_saves out (λ saved told. (saved ≡ new) × (told ≡ undone_answer (length log)))
+    (λ saved told is. same_answer told (undone_answer (length log)) is.1 no_ok)
+never_undone out spec fixed report _ (misread number first) = never_tells_this (reports.line_answer number) no_report
+never_undone out spec fixed report _ (undo_stopped log reached fault is_log refused) =
+    never_tells_this (reports.refused_answer (reports.undo_words fault)) no_report
+
+never_edited : (out : List ℕ) (spec : Spec) (image script : List ℕ) (ending : Ending) → IsEditOf spec image script ending → Never (ends out ending)
+never_edited out spec image script _ (unread line first) = never_tells_this (unread_answer line) no_edit
+never_edited out spec image script _ (unwritable layout groups line is_open is_script is) = never_tells_this (unwritable_answer line) no_edit
+never_edited out spec image script _ (broken layout groups number v is_open is_script is) = never_tells_this (broken_answer spec number v) no_edit
+never_edited out spec image script _ (edited layout groups new is_open is_script accepted) =
+    never_saves out (λ saved told. (saved ≡ new) × (told ≡ edited_answer (length groups)))
+    (λ saved told is. same_answer told (edited_answer (length groups)) is.1 no_ok)
+
+never_opened : (script out : List ℕ) (spec : Spec) (image : List ℕ) (opening : Opening) → IsOpening spec image opening → Never (loads_script script out spec image opening)
+never_opened script out spec image _ (edit_unlaid refusal first) = never_tells_this (layout_answer spec refusal) no_layout
+never_opened script out spec image _ (inconsistent layout vs laid_out exactly some) =
+    never_tells_this (verdict_answer spec vs) (verdict_otherwise spec vs)
+never_opened script out spec image _ (open_to layout is_open) =
+    never_loads script _ _ (edits out spec image) (λ bytes. never_picks (IsEditOf spec image bytes) (ends out) (never_edited out spec image bytes))
+
+never_held : (report fixed : List ℕ) (spec : Spec) (choice : Choice) (image : List ℕ) (found : laid.Found) → laid.IsFound spec image found
+    → Never (loads_told report fixed spec choice image found)
+never_held report fixed spec choice image _ (lies layout is) =
+    never_loads report _ _ (λ told. loads_for fixed spec (audits spec choice image told)) (λ told.
+    never_loads fixed _ _ (audits spec choice image told) (λ bytes.
+    never_tells (IsAuditAnswer spec choice image told bytes) (audit_otherwise spec choice image told bytes)))
+never_held report fixed spec choice image _ (unlaid_image refusal first) = never_tells_this (layout_answer spec refusal) no_layout
+
+never_audited : (image report fixed : List ℕ) (spec : Spec) (found : plans.Found) → Never (loads_audited image report fixed spec found)
+never_audited image report fixed spec (plan_found.Plan choice) =
+    never_loads image _ _ (lays_out report fixed spec choice) (λ bytes.
+    never_picks (laid.IsFound spec bytes) (loads_told report fixed spec choice bytes) (never_held report fixed spec choice bytes))
+never_audited image report fixed spec (plan_found.Stuck set) = never_tells_this (refused_answer spec set) no_plan
+
 never_asked : (asked : Asked) → Never (script_of (Some asked))
 never_asked (Text spec) = never_behind spec tells_text (λ tree. never_tells_this (record { verdict = verdicts.Ok; text = canonical tree }) no_ok)
 never_asked (Plan spec) =
@@ -174,6 +248,25 @@ never_asked (Trial number) = never_tells (IsTrial number) (trial_otherwise numbe
 never_asked (Verify spec certificate) =
     never_behind spec (λ tree. loads_certificate certificate (specification tree)) (λ tree.
     never_loads certificate _ _ (verifies (specification tree)) (λ bytes. never_tells (IsVerifyAnswer (specification tree) bytes) (verify_otherwise (specification tree) bytes)))
+
+never_asked (Audit spec image report fixed) =
+    never_behind spec (λ tree. plans_audit image report fixed (specification tree)) (λ tree.
+    never_picks _ (loads_audited image report fixed (specification tree)) (λ found is. never_audited image report fixed (specification tree) found))
+never_asked (Edit spec image script out) =
+    never_behind spec (λ tree. loads_edited image script out (specification tree)) (λ tree.
+    never_loads image _ _ (opens script out (specification tree)) (λ bytes.
+    never_picks (IsOpening (specification tree) bytes) (loads_script script out (specification tree) bytes) (never_opened script out (specification tree) bytes)))
+never_asked (Lost spec image) =
+    never_behind spec (λ tree. loads_listed image (specification tree)) (λ tree.
+    never_loads image _ _ (lists_lost (specification tree)) (λ bytes. never_tells (IsLostAnswer (specification tree) bytes) (lost_otherwise (specification tree) bytes)))
+never_asked (Undo spec fixed report out) =
+    never_behind spec (λ tree. loads_repaired fixed report out (specification tree)) (λ tree.
+    never_loads fixed _ _ (loads_undone report out (specification tree)) (λ bytes.
+    never_loads report _ _ (undoes out (specification tree) bytes) (λ told.
+    never_picks (IsUndoOf (specification tree) bytes told) (ends out) (never_undone out (specification tree) bytes told))))
+never_asked (Why spec image fact) =
+    never_behind spec (λ tree. loads_explained image fact (specification tree)) (λ tree.
+    never_loads image _ _ (explains fact (specification tree)) (λ bytes. never_tells (IsWhyAnswer (specification tree) bytes fact) (why_otherwise (specification tree) bytes fact)))
 
 -- ---- runs
 

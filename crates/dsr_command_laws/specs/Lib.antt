@@ -3,3 +3,5 @@ pub mod PlanHeadlines
 pub mod Repairs
 pub mod RepairHeadlines
 pub mod FactHeadlines
+pub mod ReportHeadlines
+pub mod EditHeadlines

@@ -4,12 +4,16 @@
 //! The laws are the contracts of functions that do nothing when they run.
 #![tactic(auto)]
 
+mod edits;
 mod facts;
 mod images;
 mod plans;
 mod repairs;
+mod reports;
 
+pub use edits::images_are_edited;
 pub use facts::{facts_are_explained, lost_records_are_listed};
 pub use images::{images_are_checked, texts_are_printed, usage_is_told};
 pub use plans::{certificates_are_verified, plans_are_certified, plans_are_found};
 pub use repairs::{images_are_repaired, trials_are_told};
+pub use reports::{repairs_are_undone, reports_are_audited};

@@ -21,4 +21,6 @@ mod sets;
 pub use back::read_back;
 pub use faults::ReadFault;
 pub use lines::{Head, Kind, Line, State};
+pub use bindings::element;
+pub use numbers::{number_ahead, skip};
 pub use reading::read;

@@ -1,0 +1,4 @@
+use Rattle.dsr_command_why.proofs.whys.pairs_told.Goals as goal
+
+pub returns : goal.returns
+returns c = ?

@@ -1,0 +1,6 @@
+//! Which records of an image no set has.
+#![tactic(auto)]
+
+mod records;
+
+pub use records::lost;

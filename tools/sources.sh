@@ -7,6 +7,12 @@ sources() {
         xargs -0 sha256sum | sha256sum | cut -c 1-64)
 }
 
+# The programs that are shipped under dist/, each with its crate.
+shipped_programs() {
+    echo 'dsr dsr_tool'
+    echo 'jumshido jumshido'
+}
+
 # The crate $1 and all on which it stands, by the file $2, a line each.
 crates_below() {
     awk -v top="$1" '

@@ -1,12 +1,16 @@
 // What an answer of `dsr` means, in words.
+ghost use Rattle.dsr_meaning.specs.Typed.{IsTyped};
+
 use crate::layouts::layout_told;
+use crate::plans::refusal_told;
 use crate::reading::{IMAGE_LIMIT, Meaning, SpecRead, loaded, read_spec};
+use crate::reports::{members_told, report_told};
 use crate::violations::violations_told;
 use dsr_diagnosis::shown;
 use dsr_ir::NoMemory;
 use dsr_layout::LayoutFault;
 use dsr_script::{Status, Verdict};
-use dsr_show::image_model;
+use dsr_show::{image_model, text_of};
 use dsr_store::Shelf;
 use std::alloc::Global;
 use std::fmt::Write;
@@ -37,7 +41,9 @@ fn image_told(
     meaning: &Meaning,
     name: &str,
     bytes: Vec<u8>,
-) -> Result<String, NoMemory> {
+) -> Result<String, NoMemory>
+    requires { IsTyped meaning.now.spec }
+{
     let mut text = String::new(alloc);
     let copy = Vec::from_slice(alloc, &bytes)?;
     if bytes.len() as u64 > IMAGE_LIMIT {
@@ -74,6 +80,70 @@ fn image_refused<F: Shelf>(
     }
 }
 
+// What stands in the way of a plan.
+fn plan_refused<F: Shelf>(
+    alloc: Global,
+    shelf: &mut F,
+    name: &str,
+    out: &[u8],
+) -> Result<String, NoMemory> {
+    let SpecRead::Means(meaning) = read_spec(alloc, shelf, name)? else {
+        return Ok(String::new(alloc));
+    };
+    let mut text = String::new(alloc);
+    write!(text, "{name}: ")?;
+    let out = text_of(out);
+    refusal_told(&mut text, &meaning.text, &meaning.spec, &meaning.tree, out)?;
+    Ok(text)
+}
+
+// Which records are members after a repair, and weren't before, or the other way round.
+fn push_members(
+    alloc: Global,
+    text: &mut String,
+    meaning: &Meaning,
+    before: Vec<u8>,
+    after: Vec<u8>,
+) -> Result<(), NoMemory>
+    requires { IsTyped meaning.now.spec }
+{
+    if before.len() as u64 > IMAGE_LIMIT || after.len() as u64 > IMAGE_LIMIT {
+        return Ok(());
+    }
+    let Ok(before) = image_model(alloc, &meaning.spec, before) else {
+        return Ok(());
+    };
+    let Ok(after) = image_model(alloc, &meaning.spec, after) else {
+        return Ok(());
+    };
+    members_told(text, &before, &after)
+}
+
+// What a repair did.
+fn repaired<F: Shelf>(
+    alloc: Global,
+    shelf: &mut F,
+    words: &[String],
+    out: &[u8],
+) -> Result<String, NoMemory> {
+    let mut text = String::new(alloc);
+    report_told(&mut text, text_of(out))?;
+    let (image, saved) = (word(words, 2), word(words, 3));
+    if image == saved || text.is_empty() {
+        return Ok(text);
+    }
+    let SpecRead::Means(meaning) = read_spec(alloc, shelf, word(words, 1))? else {
+        return Ok(text);
+    };
+    let Some(before) = loaded(alloc, shelf, image, IMAGE_LIMIT)? else {
+        return Ok(text);
+    };
+    if let Some(after) = loaded(alloc, shelf, saved, IMAGE_LIMIT)? {
+        push_members(alloc, &mut text, &meaning, before, after)?;
+    }
+    Ok(text)
+}
+
 const LONG_SPEC: &str = "a specification has at most 65,536 bytes\n";
 
 const LONG_IMAGE: &str =
@@ -108,6 +178,10 @@ pub fn explained<F: Shelf>(
         Status::Said(Verdict::SpecRefused) => spec_refused(alloc, shelf, spec),
         Status::Said(Verdict::Inconsistent | Verdict::LayoutRefused) => {
             image_refused(alloc, shelf, spec, file)
+        }
+        Status::Said(Verdict::PlanRefused) => plan_refused(alloc, shelf, spec, out),
+        Status::Said(Verdict::Ok | Verdict::SupplyEmpty) if word(words, 0) == "repair" => {
+            repaired(alloc, shelf, words, out)
         }
         Status::Said(Verdict::Usage) => Ok(USAGE.to_string(alloc)?),
         Status::TooLong => Ok(too_long(out).to_string(alloc)?),

@@ -5,13 +5,14 @@ use dsr_ir::{Field, NoMemory, Spec};
 use dsr_layout::LayoutFault;
 use dsr_schema::{pool_at, width_bits};
 use dsr_show::text_of;
+use itoa::Buffer;
 use std::alloc::Global;
 use std::fmt::Write;
 
 /// Appends a number with commas between its thousands.
 pub fn push_grouped(text: &mut String, number: u64) -> Result<(), NoMemory> {
-    let mut digits = itoa::Buffer::new();
-    let digits = digits.format(number);
+    let mut buffer = Buffer::new();
+    let digits = buffer.format(number);
     let len = digits.len();
     for (place, digit) in digits.bytes().enumerate() {
         if place > 0 && len.saturating_sub(place) % 3 == 0 {

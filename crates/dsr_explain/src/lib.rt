@@ -5,7 +5,10 @@
 mod explaining;
 mod extents;
 mod layouts;
+mod listed;
+mod plans;
 mod reading;
+mod reports;
 mod showing;
 mod sources;
 mod violations;

@@ -1,5 +1,7 @@
 // Files that are read: specifications and images.
+ghost use Rattle.std.specs.Prelude.{IfOk};
 ghost use Rattle.dsr_meaning.specs.Typed.{IsTyped};
+ghost use Rattle.dsr_explain.specs.Readings.{IsTypedRead};
 
 use dsr_diagnosis::{Diagnosis, diagnose};
 use dsr_ir::{NoMemory, Spec};
@@ -22,7 +24,6 @@ pub struct Meaning {
     pub text: Vec<u8>,
     pub tree: Tree,
     pub spec: Spec,
-    ghost typed: { IsTyped spec },
 }
 
 /// What came of reading a specification.
@@ -50,7 +51,9 @@ pub fn loaded<F: Shelf>(
 }
 
 // What a text means; none where it means nothing.
-fn meaning_of(alloc: Global, text: Vec<u8>) -> Result<Result<Meaning, Vec<u8>>, NoMemory> {
+fn meaning_of(alloc: Global, text: Vec<u8>) -> Result<Result<Meaning, Vec<u8>>, NoMemory>
+    ensures { IfOk result (λ found. IfOk found (λ meaning. IsTyped meaning.spec)) }
+{
     let tree = match parse(alloc, &text) {
         Ok(tree) => tree,
         Err(SyntaxFault::NoMemory) => return Err(NoMemory),
@@ -68,7 +71,9 @@ pub fn read_spec<F: Shelf>(
     alloc: Global,
     shelf: &mut F,
     name: &str,
-) -> Result<SpecRead, NoMemory> {
+) -> Result<SpecRead, NoMemory>
+    ensures { IfOk result IsTypedRead }
+{
     let Some(text) = loaded(alloc, shelf, name, SPEC_LIMIT)? else {
         return Ok(SpecRead::Missed);
     };

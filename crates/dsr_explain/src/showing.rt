@@ -1,4 +1,6 @@
 // The command `show`.
+ghost use Rattle.dsr_meaning.specs.Typed.{IsTyped};
+
 use crate::layouts::layout_told;
 use crate::reading::{IMAGE_LIMIT, Meaning, SpecRead, loaded, read_spec};
 use dsr_answers::pool_name;
@@ -113,7 +115,9 @@ fn show_image(
     meaning: &Meaning,
     bytes: Vec<u8>,
     what: &str,
-) -> Result<Shown, NoMemory> {
+) -> Result<Shown, NoMemory>
+    requires { IsTyped meaning.now.spec }
+{
     let copy = Vec::from_slice(alloc, &bytes)?;
     if bytes.len() as u64 > IMAGE_LIMIT {
         return Ok(refusal(alloc, 9, String::new(alloc)));

@@ -1,6 +1,4 @@
 // Which constraints are violated, with values.
-ghost use Rattle.dsr_meaning.specs.Typed.{IsTyped};
-
 use crate::sources::constraint_source;
 use dsr_ir::{Binding, NoMemory};
 use dsr_show::{ImageModel, push_violation, text_of};
@@ -50,9 +48,7 @@ pub fn violations_told(
     image: &ImageModel<'_>,
     source: &[u8],
     tree: &Tree,
-) -> Result<(), NoMemory>
-    requires { IsTyped image.now.spec.now }
-{
+) -> Result<(), NoMemory> {
     let alloc = *text.allocator();
     let found = violations(alloc, &image.model, image.spec)?;
     push_first(text, image, source, tree, &found)?;

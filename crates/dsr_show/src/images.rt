@@ -18,6 +18,7 @@ pub struct ImageModel<'a> {
     pub layout: Layout,
     pub bytes: Vec<u8>,
     pub model: Model,
+    ghost few: { length spec.now.constraints ≤ 128 },
     ghost ordered: { model.ordered ≡ true },
 }
 
@@ -28,7 +29,8 @@ fn with_layout<'a>(
     layout: Layout,
     bytes: Vec<u8>,
 ) -> Result<ImageModel<'a>, NoMemory>
-    requires { IsLaidOut spec.now layout bytes.items }
+    requires laid_out { IsLaidOut spec.now layout bytes.items }
+    requires few { length spec.now.constraints ≤ 128 }
 {
     let mut model = Model::prepare(alloc, spec, &layout)?;
     let rules = ResolvedRules::new(alloc, spec, &layout)?;

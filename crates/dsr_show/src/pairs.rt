@@ -113,24 +113,17 @@ pub fn push_relation(
             text.push_str("  ..\n")?;
             return Ok(());
         }
-        let source = Element { pool: declared.source, slot };
-        let len = text.len();
-        text.push_str("  ")?;
-        push_element(text, image.spec, source)?;
-        text.push_str(" -> ")?;
-        if push_given(text, image, rel, declared, source)? > 0 {
-            text.push('\n')?;
+        let source = Element {
+            pool: declared.source,
+            slot,
+        };
+        let mut given = String::new(*text.allocator());
+        if push_given(&mut given, image, rel, declared, source)? > 0 {
+            text.push_str("  ")?;
+            push_element(text, image.spec, source)?;
+            write!(text, " -> {given}\n")?;
             listed = listed.saturating_add(1);
-        } else {
-            cut(text, len);
         }
     }
     Ok(())
-}
-
-// Takes off what stands behind so many bytes of a text.
-fn cut(text: &mut String, len: usize) {
-    while text.len() > len {
-        let _last = text.pop();
-    }
 }

@@ -10,24 +10,28 @@ mod input;
 mod reasons;
 
 use crate::answers::answer;
-use std::env;
-use std::io::IsTerminal;
+use std::alloc::{AllocError, Global};
+use std::env::{self, Args};
+use std::io::{self, IsTerminal};
 use std::process::ExitCode;
 
 // The status of want of memory, as that of `dsr`.
 const NO_MEMORY: u8 = 10;
 
+// The words, with the program's name. Words that the system can't give as text ask for nothing.
+fn words_of(alloc: Global, given: io::Result<Args>) -> Result<Vec<String>, AllocError> {
+    match given {
+        Ok(given) => given.collect(alloc),
+        Err(_) => Ok(Vec::new(alloc)),
+    }
+}
+
 fn main(rt: HostRuntime) -> ExitCode {
     let alloc = rt.alloc();
-    let mut words = Vec::new(alloc);
-    // Words that the system can't give as text ask for nothing.
-    if let Ok(given) = env::args(&rt) {
-        for word in given {
-            if words.push(word).is_err() {
-                return ExitCode::from(NO_MEMORY);
-            }
-        }
-    }
+    let words = match words_of(alloc, env::args(&rt)) {
+        Ok(words) => words,
+        Err(_) => return ExitCode::from(NO_MEMORY),
+    };
     let coloured = rt.stderr().is_terminal();
     match answer(&rt, alloc, &words, coloured) {
         Ok(status) => ExitCode::from(status),

@@ -10,8 +10,9 @@ use dsr_diagnosis::shown;
 use dsr_ir::NoMemory;
 use dsr_layout::LayoutFault;
 use dsr_script::{Status, Verdict};
-use dsr_show::{image_model, text_of};
+use dsr_show::image_model;
 use dsr_store::Shelf;
+use dsr_wording::text_of;
 use std::alloc::Global;
 use std::fmt::Write;
 

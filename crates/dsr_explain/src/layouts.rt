@@ -4,24 +4,9 @@ use dsr_answers::{constraint_name, field_name, pool_name};
 use dsr_ir::{Field, NoMemory, Spec};
 use dsr_layout::LayoutFault;
 use dsr_schema::{pool_at, width_bits};
-use dsr_show::text_of;
-use itoa::Buffer;
+use dsr_wording::{numbered, push_grouped, text_of};
 use std::alloc::Global;
 use std::fmt::Write;
-
-/// Appends a number with commas between its thousands.
-pub fn push_grouped(text: &mut String, number: u64) -> Result<(), NoMemory> {
-    let mut buffer = Buffer::new();
-    let digits = buffer.format(number);
-    let len = digits.len();
-    for (place, digit) in digits.bytes().enumerate() {
-        if place > 0 && len.saturating_sub(place) % 3 == 0 {
-            text.push(',')?;
-        }
-        text.push(char::from(digit))?;
-    }
-    Ok(())
-}
 
 // Appends a number, or that there is none.
 fn push_known(text: &mut String, number: Option<u64>) -> Result<(), NoMemory> {
@@ -254,7 +239,7 @@ fn unknown_part(extent: &PoolExtent) -> Option<&'static str> {
 fn push_arith(text: &mut String, spec: &Spec, bytes: &[u8]) -> Result<(), NoMemory> {
     let numbers = extents_of(*text.allocator(), spec, bytes)?;
     for (number, structure) in spec.base.structures.items().iter().enumerate() {
-        if numbers.bytes_of(number as u32).is_none() {
+        if numbers.bytes_of(numbered(number)).is_none() {
             let name = text_of(structure.name.bytes());
             write!(text, "the size of structure `{name}` isn't a number from 0 to 2^64 - 1\n")?;
             return push_fixed(text, spec, &numbers);

@@ -1,14 +1,12 @@
 // Records that are members in one image and not in another one.
 use dsr_ir::{Element, NoMemory};
 use dsr_layout::{record_count, set_pool};
-use dsr_show::{ImageModel, is_member, push_element, text_of};
+use dsr_show::{ImageModel, is_member, push_element};
+use dsr_wording::text_of;
 use std::fmt::Write;
 
 // How many records are listed.
 const MOST: u64 = 10;
-
-// The most slots of a pool.
-const MOST_SLOTS: u64 = 67_108_864;
 
 /// Appends the members of a set in one image that are none in the other one, the first ones where
 /// there are many; nothing where there are none.
@@ -21,7 +19,7 @@ pub fn push_change(
     how: &str,
 ) -> Result<(), NoMemory> {
     let pool = set_pool(image.spec, set);
-    let slots = record_count(&image.layout, pool).min(MOST_SLOTS) as u32;
+    let slots = u32::try_from(record_count(&image.layout, pool)).unwrap_or(u32::MAX);
     let mut listed = 0u64;
     for slot in 0..slots {
         let elem = Element { pool, slot };

@@ -1,15 +1,15 @@
 // What stands in the way of a plan, in words.
 use crate::sources::constraint_source;
 use dsr_ir::{Atom, Constraint, Literal, NoMemory, Op, Spec};
-use dsr_show::text_of;
 use dsr_tree::Tree;
+use dsr_wording::{numbered, text_of};
 use std::fmt::Write;
 
 // The number of the constraint with this name.
 fn constraint_named(spec: &Spec, name: &str) -> Option<u32> {
     for (number, constraint) in spec.constraints.items().iter().enumerate() {
         if constraint.name.bytes() == name.as_bytes() {
-            return Some(number as u32);
+            return Some(numbered(number));
         }
     }
     None

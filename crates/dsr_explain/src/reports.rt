@@ -2,6 +2,7 @@
 use crate::listed::push_change;
 use dsr_ir::NoMemory;
 use dsr_show::ImageModel;
+use dsr_wording::numbered;
 use std::fmt::Write;
 
 // Appends what was set: `set ELEMENT.FIELD OLD NEW`.
@@ -63,8 +64,8 @@ pub fn members_told(
 ) -> Result<(), NoMemory> {
     for (number, set) in before.spec.base.sets.items().iter().enumerate() {
         let name = set.name.bytes();
-        push_change(text, before, after, number as u32, name, "no longer in")?;
-        push_change(text, after, before, number as u32, name, "now in")?;
+        push_change(text, before, after, numbered(number), name, "no longer in")?;
+        push_change(text, after, before, numbered(number), name, "now in")?;
     }
     Ok(())
 }

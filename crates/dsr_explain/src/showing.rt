@@ -9,6 +9,7 @@ use dsr_ir::{Element, NoMemory, Spec, Symbol};
 use dsr_layout::{LayoutFault, record_count};
 use dsr_show::{ImageModel, image_model, push_record, push_relation, push_set, push_summary};
 use dsr_store::Shelf;
+use dsr_wording::numbered;
 use std::alloc::Global;
 use std::fmt::Write;
 
@@ -41,7 +42,7 @@ fn record_named(spec: &Spec, what: &str) -> Option<Element> {
     for (number, pool) in spec.base.pools.items().iter().enumerate() {
         if pool.name.bytes() == name.as_bytes() {
             return Some(Element {
-                pool: (number as u32).saturating_add(1),
+                pool: numbered(number).saturating_add(1),
                 slot,
             });
         }
@@ -53,12 +54,12 @@ fn record_named(spec: &Spec, what: &str) -> Option<Element> {
 fn symbol_named(spec: &Spec, what: &str) -> Option<Symbol> {
     for (number, set) in spec.base.sets.items().iter().enumerate() {
         if set.name.bytes() == what.as_bytes() {
-            return Some(Symbol::Set(number as u32));
+            return Some(Symbol::Set(numbered(number)));
         }
     }
     for (number, rel) in spec.base.rels.items().iter().enumerate() {
         if rel.name.bytes() == what.as_bytes() {
-            return Some(Symbol::Rel(number as u32));
+            return Some(Symbol::Rel(numbered(number)));
         }
     }
     None

@@ -1,9 +1,10 @@
 // Which constraints are violated, with values.
 use crate::sources::constraint_source;
 use dsr_ir::{Binding, NoMemory};
-use dsr_show::{ImageModel, push_violation, text_of};
+use dsr_show::{ImageModel, push_violation};
 use dsr_tree::Tree;
 use dsr_truth::violations;
+use dsr_wording::text_of;
 use std::fmt::Write;
 
 // How many violated bindings are told.

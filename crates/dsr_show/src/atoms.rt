@@ -1,11 +1,12 @@
 // Literals of constraints, with the records in place of their variables.
 use crate::images::ImageModel;
 use crate::listing::push_members;
-use crate::names::{in_words, push_element, text_of};
+use crate::names::push_element;
 use crate::pairs::{push_given, push_sources, push_targets};
 use dsr_answers::symbol_name;
 use dsr_ir::{Atom, Binding, Bound, Literal, Measure, NoMemory, Rel, Symbol, Var};
 use dsr_schema::element_of;
+use dsr_wording::{sign_of, text_of};
 use std::fmt::Write;
 
 // Appends what a variable stands for.
@@ -88,14 +89,14 @@ fn push_atom(
         }
         Atom::Count(measure, op, number) => {
             push_measure(text, image, binding, measure)?;
-            let (sign, number) = (in_words(*op), *number);
+            let (sign, number) = (sign_of(*op), *number);
             write!(text, " {sign} {number}")?;
             Ok(())
         }
         Atom::Value(var, rel, op, bound) => {
             push_var(text, image, binding, *var)?;
             let name = text_of(symbol_name(image.spec, Symbol::Rel(*rel)));
-            let sign = in_words(*op);
+            let sign = sign_of(*op);
             write!(text, ".{name} {sign} ")?;
             push_bound(text, image, binding, bound)
         }

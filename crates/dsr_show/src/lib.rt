@@ -14,7 +14,7 @@ mod violated;
 pub use atoms::{push_literal, push_values};
 pub use images::{ImageModel, image_model};
 pub use listing::{push_set, push_summary};
-pub use names::{in_words, push_binding, push_element, text_of};
+pub use names::{push_binding, push_element};
 pub use pairs::push_relation;
 pub use records::{push_record, record_structure};
 pub use values::{field_value, is_member, is_pair, value_after};

@@ -1,21 +1,19 @@
 // Records that are listed.
 use crate::images::ImageModel;
-use crate::names::{push_element, text_of};
+use crate::names::push_element;
 use crate::values::is_member;
 use dsr_answers::{pool_name, symbol_name};
 use dsr_ir::{Binding, Element, Measure, NoMemory, Symbol};
 use dsr_layout::{record_count, set_pool};
+use dsr_wording::{numbered, text_of};
 use std::fmt::Write;
 
 // How many records are listed at most.
 pub const MOST: u64 = 10;
 
-// The most slots of a pool.
-const MOST_SLOTS: u64 = 67_108_864;
-
 /// How many slots of a pool are looked at.
 pub fn slots_of(image: &ImageModel<'_>, pool: u32) -> u32 {
-    record_count(&image.layout, pool).min(MOST_SLOTS) as u32
+    u32::try_from(record_count(&image.layout, pool)).unwrap_or(u32::MAX)
 }
 
 /// Appends a record of a list, and how many were listed before it.
@@ -73,13 +71,13 @@ pub fn push_summary(text: &mut String, image: &ImageModel<'_>) -> Result<(), NoM
     let bytes = image.bytes.len();
     write!(text, "image of {bytes} bytes\n")?;
     for (number, _pool) in image.spec.base.pools.items().iter().enumerate() {
-        let pool = (number as u32).saturating_add(1);
+        let pool = numbered(number).saturating_add(1);
         let name = text_of(pool_name(image.spec, pool));
         let count = record_count(&image.layout, pool);
         write!(text, "pool {name}: {count} slots\n")?;
     }
     for (number, _set) in image.spec.base.sets.items().iter().enumerate() {
-        push_set(text, image, number as u32)?;
+        push_set(text, image, numbered(number))?;
     }
     Ok(())
 }

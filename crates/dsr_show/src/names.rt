@@ -1,12 +1,8 @@
 // What things are called.
 use dsr_answers::pool_name;
-use dsr_ir::{Binding, Element, NoMemory, Op, Spec};
+use dsr_ir::{Binding, Element, NoMemory, Spec};
+use dsr_wording::text_of;
 use std::fmt::Write;
-
-/// The bytes of a name as a text.
-pub fn text_of(bytes: &[u8]) -> &str {
-    str::from_utf8(bytes).unwrap_or("?")
-}
 
 /// Appends what a record is called.
 pub fn push_element(text: &mut String, spec: &Spec, elem: Element) -> Result<(), NoMemory> {
@@ -33,17 +29,5 @@ pub fn push_binding(text: &mut String, spec: &Spec, binding: &Binding) -> Result
             text.push('>')?;
             Ok(())
         }
-    }
-}
-
-/// How a comparison is written.
-pub fn in_words(op: Op) -> &'static str {
-    match op {
-        Op::Eq => "=",
-        Op::Ne => "!=",
-        Op::Lt => "<",
-        Op::Le => "<=",
-        Op::Gt => ">",
-        Op::Ge => ">=",
     }
 }

@@ -1,10 +1,11 @@
 // The pairs of relations.
 use crate::images::ImageModel;
 use crate::listing::{MOST, push_listed, slots_of};
-use crate::names::{push_element, text_of};
+use crate::names::push_element;
 use crate::values::{is_pair, value_after};
 use dsr_answers::symbol_name;
 use dsr_ir::{Element, NoMemory, Rel, Symbol};
+use dsr_wording::text_of;
 use std::fmt::Write;
 
 /// Appends the numbers that a relation gives to a record, and tells how many.

@@ -1,12 +1,13 @@
 // Records by their fields.
 use crate::images::ImageModel;
-use crate::names::{push_element, text_of};
+use crate::names::push_element;
 use crate::pairs::push_given;
 use crate::values::{field_value, is_member};
 use dsr_answers::{pool_name, symbol_name};
 use dsr_ir::{Element, Field, FieldRef, Kind, NoMemory, Structure, Symbol};
 use dsr_layout::{field_place, pool_numbers};
 use dsr_schema::pool_at;
+use dsr_wording::{numbered, text_of};
 use std::fmt::Write;
 
 // How many entries of an array are shown.
@@ -140,7 +141,7 @@ fn push_own_fields(
         }
         let which = FieldRef {
             structure: number,
-            field: place as u32,
+            field: numbered(place),
         };
         push_field(text, image, elem, which, field)?;
     }
@@ -173,7 +174,7 @@ fn push_fields(
 fn push_sets(text: &mut String, image: &ImageModel<'_>, elem: Element) -> Result<(), NoMemory> {
     let mut between = "  in ";
     for (number, set) in image.spec.base.sets.items().iter().enumerate() {
-        if set.pool == elem.pool && is_member(image, number as u32, elem) {
+        if set.pool == elem.pool && is_member(image, numbered(number), elem) {
             let name = text_of(set.name.bytes());
             write!(text, "{between}{name}")?;
             between = ", ";
@@ -192,8 +193,8 @@ fn push_pairs(text: &mut String, image: &ImageModel<'_>, elem: Element) -> Resul
             continue;
         }
         let mut given = String::new(*text.allocator());
-        if push_given(&mut given, image, number as u32, rel, elem)? > 0 {
-            let name = text_of(symbol_name(image.spec, Symbol::Rel(number as u32)));
+        if push_given(&mut given, image, numbered(number), rel, elem)? > 0 {
+            let name = text_of(symbol_name(image.spec, Symbol::Rel(numbered(number))));
             write!(text, "  {name}: {given}\n")?;
         }
     }

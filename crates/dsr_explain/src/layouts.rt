@@ -174,13 +174,15 @@ fn push_code(
         Some(field) => width_bits(field.width),
         None => 0,
     };
-    write!(text, "the reference `{owner}.{name}` has {bits} bits, too few for pool `{pool_text}`, whose last code is ")?;
+    write!(text, "the reference `{owner}.{name}` has {bits} bits, too few for pool `{pool_text}`, whose none is ")?;
     let Some(extent) = pool_extent(spec, &numbers, pool) else {
         return Ok(());
     };
-    push_known(text, extent.last_code())?;
-    text.push_str(", and none ")?;
     push_known(text, extent.none)?;
+    if let Some(last) = extent.last_code() {
+        text.push_str(", and its last code ")?;
+        push_grouped(text, last)?;
+    }
     text.push('\n')?;
     Ok(())
 }

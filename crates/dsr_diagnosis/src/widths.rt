@@ -69,10 +69,13 @@ pub fn unaligned(
 
 // The greatest number of so many bits.
 fn greatest(bits: u64) -> u64 {
-    match 1u64.checked_shl(bits.min(64) as u32) {
-        Some(power) => power.saturating_sub(1),
-        None => u64::MAX,
+    if bits == 0 {
+        return 0;
     }
+    if bits >= 64 {
+        return u64::MAX;
+    }
+    u64::MAX >> (64 - bits)
 }
 
 // The field with which the number at the place is compared.

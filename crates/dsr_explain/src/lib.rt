@@ -11,8 +11,10 @@ mod reading;
 mod reports;
 mod showing;
 mod sources;
+mod telling;
 mod violations;
 
 pub use explaining::explained;
 pub use reading::{Meaning, SpecRead, loaded, read_spec};
 pub use showing::{Shown, show};
+pub use telling::{Telling, tell};

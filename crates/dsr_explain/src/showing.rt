@@ -23,8 +23,8 @@ pub struct Shown {
     pub told: String,
 }
 
-// An answer that is told alone.
-fn refusal(alloc: Global, status: u8, told: String) -> Shown {
+/// An answer that is told alone.
+pub fn refusal(alloc: Global, status: u8, told: String) -> Shown {
     Shown {
         status,
         text: String::new(alloc),

@@ -7,8 +7,9 @@ use crate::reasons::{is_same_file, reason};
 use clap::error::ErrorKind;
 use clap::{ArgMatches, Error};
 use dsr_cli::run;
-use dsr_explain::{Shown, explained, show};
+use dsr_explain::{Shown, Telling, explained, show, tell as tell_spec};
 use dsr_ir::NoMemory;
+use dsr_json::document;
 use dsr_script::Status;
 use dsr_store::{Sink, StdSink, SureSink};
 use std::alloc::Global;
@@ -143,6 +144,50 @@ fn run_show<R: Files + Print + Eprint>(
     put_shown(rt, alloc, &shelf, &shown, colours)
 }
 
+fn run_tell<R: Files + Print + Eprint>(
+    rt: &R,
+    alloc: Global,
+    given: &ArgMatches<'_>,
+    telling: Telling,
+    colours: bool,
+) -> Result<u8, NoMemory> {
+    let mut shelf = InputShelf::new(rt);
+    let shown = tell_spec(alloc, &mut shelf, file_of(given, "SPEC"), telling)?;
+    put_shown(rt, alloc, &shelf, &shown, colours)
+}
+
+// Which command tells something of a specification alone.
+fn telling_of(command: &str) -> Option<Telling> {
+    if command == "ways" {
+        Some(Telling::Ways)
+    } else if command == "lint" {
+        Some(Telling::Lint)
+    } else if command == "graph" {
+        Some(Telling::Graph)
+    } else {
+        None
+    }
+}
+
+// Runs a command of `dsr`, and answers with a document.
+fn run_json<R: Files + Print + Eprint>(
+    rt: &R,
+    alloc: Global,
+    words: &Vec<String>,
+) -> Result<u8, NoMemory> {
+    let mut shelf = InputShelf::new(rt);
+    let mut out = SureSink { bytes: Vec::new(alloc) };
+    let status = run(alloc, words, &mut shelf, &mut out);
+    if matches!(status, Status::NoMemory) {
+        return Err(NoMemory);
+    }
+    let told = explained(alloc, &mut shelf, words, &status, &out.bytes)?;
+    let answer = String::from_utf8_lossy(alloc, &out.bytes)?;
+    let number = status.number();
+    let text = document(alloc, words, number, answer.as_str(), told.as_str())?;
+    put(rt, alloc, text.as_bytes(), number)
+}
+
 const SAME_FILE: &str = "what is saved would replace the specification: it is the same file under another name\n";
 
 // Does what a command asks for.
@@ -156,6 +201,9 @@ fn obey<R: Files + Print + Eprint>(
     if command == "show" {
         return run_show(rt, alloc, given, colours);
     }
+    if let Some(telling) = telling_of(command) {
+        return run_tell(rt, alloc, given, telling, colours);
+    }
     if overwrites(rt, command, given) {
         tell(rt, alloc, SAME_FILE, colours)?;
         return put(rt, alloc, b"usage\n", USAGE);
@@ -164,6 +212,9 @@ fn obey<R: Files + Print + Eprint>(
     if command == "check" {
         let images = given.get_strs("IMAGE").unwrap_or(&[]);
         return check_all(rt, alloc, &words, images, colours);
+    }
+    if given.get_flag("json") {
+        return run_json(rt, alloc, &words);
     }
     run_dsr(rt, alloc, &words, colours)
 }

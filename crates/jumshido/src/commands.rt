@@ -102,6 +102,25 @@ fn trial(alloc: Global) -> Result<Command<'static>, AllocError> {
     with_files(alloc, "trial", about, &["N"])
 }
 
+fn ways(alloc: Global) -> Result<Command<'static>, AllocError> {
+    let about = "Tell how each constraint would be repaired: what is written by which rule";
+    with_files(alloc, "ways", about, &["SPEC"])
+}
+
+fn lint(alloc: Global) -> Result<Command<'static>, AllocError> {
+    let about = "Tell what the specification says nothing about";
+    with_files(alloc, "lint", about, &["SPEC"])
+}
+
+fn graph(alloc: Global) -> Result<Command<'static>, AllocError> {
+    let about = "Print the dependence graph of the constraints for Graphviz";
+    let dot = Arg::new(alloc, "dot")
+        .long("dot")
+        .action(ArgAction::SetTrue)
+        .help("In the language of Graphviz, which is the only one");
+    with_files(alloc, "graph", about, &["SPEC"])?.arg(dot)
+}
+
 // The commands of `dsr`.
 fn with_dsr<'a>(alloc: Global, command: Command<'a>) -> Result<Command<'a>, AllocError> {
     command
@@ -116,10 +135,20 @@ fn with_dsr<'a>(alloc: Global, command: Command<'a>) -> Result<Command<'a>, Allo
 
 /// The whole command line.
 pub fn commands(alloc: Global) -> Result<Command<'static>, AllocError> {
+    let json = Arg::new(alloc, "json")
+        .long("json")
+        .global(true)
+        .action(ArgAction::SetTrue)
+        .help("Answer with one JSON document, as docs/JSON.md says");
     let command = Command::new(alloc, "jumshido")
         .version(VERSION)
         .about(ABOUT)
         .after_help(AFTER)
-        .subcommand_required(true);
-    with_dsr(alloc, command)?.subcommand(show(alloc)?)
+        .subcommand_required(true)
+        .arg(json)?;
+    with_dsr(alloc, command)?
+        .subcommand(show(alloc)?)?
+        .subcommand(ways(alloc)?)?
+        .subcommand(lint(alloc)?)?
+        .subcommand(graph(alloc)?)
 }

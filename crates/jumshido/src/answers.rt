@@ -65,13 +65,25 @@ fn tell_missed<R: Files + Eprint>(
     tell(rt, alloc, told.as_str(), colours)
 }
 
+// How answers are given.
+#[derive(Clone, Copy)]
+struct Manner {
+    colours: bool,
+    /// As documents.
+    json: bool,
+}
+
 // Runs a command of `dsr`, and tells what its answer means.
 fn run_dsr<R: Files + Print + Eprint>(
     rt: &R,
     alloc: Global,
     words: &Vec<String>,
-    colours: bool,
+    manner: Manner,
 ) -> Result<u8, NoMemory> {
+    if manner.json {
+        return run_json(rt, alloc, words);
+    }
+    let colours = manner.colours;
     let mut shelf = InputShelf::new(rt);
     let mut out = SureSink { bytes: Vec::new(alloc) };
     let status = run(alloc, words, &mut shelf, &mut out);
@@ -102,16 +114,16 @@ fn check_all<R: Files + Print + Eprint>(
     alloc: Global,
     words: &[String],
     images: &[&str],
-    colours: bool,
+    manner: Manner,
 ) -> Result<u8, NoMemory> {
     let mut status = 0;
     for image in images {
-        if images.len() > 1 {
+        if images.len() > 1 && !manner.json {
             let heading = format!(in alloc; "image {image}\n")?;
             status = status.max(put(rt, alloc, heading.as_bytes(), 0)?);
         }
         let words = with_file(alloc, words, image)?;
-        status = status.max(run_dsr(rt, alloc, &words, colours)?);
+        status = status.max(run_dsr(rt, alloc, &words, manner)?);
     }
     Ok(status)
 }
@@ -184,7 +196,8 @@ fn run_json<R: Files + Print + Eprint>(
     let told = explained(alloc, &mut shelf, words, &status, &out.bytes)?;
     let answer = String::from_utf8_lossy(alloc, &out.bytes)?;
     let number = status.number();
-    let text = document(alloc, words, number, answer.as_str(), told.as_str())?;
+    let mut text = document(alloc, words, number, answer.as_str(), told.as_str())?;
+    text.push('\n')?;
     put(rt, alloc, text.as_bytes(), number)
 }
 
@@ -208,15 +221,13 @@ fn obey<R: Files + Print + Eprint>(
         tell(rt, alloc, SAME_FILE, colours)?;
         return put(rt, alloc, b"usage\n", USAGE);
     }
+    let json = given.get_flag("json");
     let words = dsr_words(alloc, command, given)?;
     if command == "check" {
         let images = given.get_strs("IMAGE").unwrap_or(&[]);
-        return check_all(rt, alloc, &words, images, colours);
+        return check_all(rt, alloc, &words, images, Manner { colours, json });
     }
-    if given.get_flag("json") {
-        return run_json(rt, alloc, &words);
-    }
-    run_dsr(rt, alloc, &words, colours)
+    run_dsr(rt, alloc, &words, Manner { colours, json })
 }
 
 // What is told of words that the program doesn't take, or of help that is asked for.

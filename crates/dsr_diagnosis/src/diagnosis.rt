@@ -1,29 +1,15 @@
 // What is wrong with a text, and how it is shown.
-use crate::lines::{shown_before, shown_behind, spot_of};
-use crate::meaning::refused;
-use crate::scene::{Scene, count_before};
 use crate::syntax::{no_token, over_limit, unexpected};
 use dsr_ir::NoMemory;
 use dsr_lexer::front;
+use dsr_meaning_diagnosis::refused;
 use dsr_names::SpecFault;
 use dsr_parse::{SyntaxFault, parse};
+use dsr_passages::{Diagnosis, Scene, count_before, shown_before, shown_behind, spot_of};
 use dsr_spec::spec;
 use dsr_tree::{Lexeme, Tree};
 use std::alloc::Global;
 use std::fmt::Write;
-
-/// What is wrong with a text, for a person.
-#[derive(Drop)]
-pub struct Diagnosis {
-    /// The place of the first byte that is meant, counted from 0.
-    pub place: usize,
-    /// How many bytes are meant; 0 at the text's end.
-    pub length: usize,
-    /// What is wrong, in words without an end.
-    pub message: String,
-    /// What may help, in words without an end.
-    pub hints: Vec<String>,
-}
 
 fn scene_at<'a>(text: &'a [u8], lexemes: &'a [Lexeme], place: u64) -> Scene<'a> {
     Scene {

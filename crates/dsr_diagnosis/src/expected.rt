@@ -1,9 +1,9 @@
 // What may stand at a place of a text. Each token is tried there, and read: it may stand there if
 // nothing is refused before what is behind it.
-use crate::scene::part;
 use dsr_ir::NoMemory;
 use dsr_lexer::{keyword_bytes, sign_bytes};
 use dsr_parse::{SyntaxFault, parse};
+use dsr_passages::part;
 use dsr_tree::{Keyword, Sign};
 use std::alloc::Global;
 

@@ -1,13 +1,12 @@
 // What is told of a text that isn't one of the grammar.
-use crate::diagnosis::Diagnosis;
 use crate::expected::{Expected, expected_at};
 use crate::foreign::{instead_of, instead_of_mark, name_for};
-use crate::lines::line_of;
-use crate::listing::quoted;
-use crate::near::meant_by;
-use crate::scene::{Scene, begun_by, keyword_in, length_of, name_in, number_in, part, sign_in, spelled};
 use dsr_ir::NoMemory;
 use dsr_lexer::{keyword_bytes, sign_bytes};
+use dsr_passages::{
+    Diagnosis, Scene, begun_by, keyword_in, length_of, line_of, meant_by, name_in, number_in, part,
+    quoted, sign_in, spelled,
+};
 use dsr_tree::{Keyword, Lexeme, Sign};
 use std::alloc::Global;
 
@@ -16,7 +15,9 @@ const LONGEST_NAME: usize = 32;
 
 // The bytes of a word at the front.
 fn word_at(text: &[u8]) -> &[u8] {
-    let end = text.iter().position(|byte| !byte.is_ascii_alphanumeric() && *byte != b'_');
+    let end = text
+        .iter()
+        .position(|byte| !byte.is_ascii_alphanumeric() && *byte != b'_');
     part(text, 0, end.unwrap_or(text.len()))
 }
 
@@ -65,7 +66,8 @@ fn limit_message(found: Option<&Lexeme>) -> &'static str {
         _ => {}
     }
     match keyword_in(found) {
-        Some(Keyword::Not | Keyword::Given) => "`not`, `given` and parentheses stand more than 32 deep",
+        Some(Keyword::Not | Keyword::Given) =>
+            "`not`, `given` and parentheses stand more than 32 deep",
         _ => "a formula has more than 128 atoms",
     }
 }
@@ -148,7 +150,9 @@ fn keyword_hint(alloc: Global, keyword: Keyword) -> Result<String, NoMemory> {
     let bytes = keyword_bytes(keyword);
     let word = spelled(bytes);
     match name_for(bytes) {
-        Some(instead) => Ok(format!(in alloc; "`{word}` is a keyword, and no keyword can be a name: write {instead}, say")?),
+        Some(instead) => Ok(format!(in alloc;
+            "`{word}` is a keyword, and no keyword can be a name: write {instead}, say"
+        )?),
         None => Ok(format!(in alloc; "`{word}` is a keyword, and no keyword can be a name")?),
     }
 }
@@ -157,13 +161,21 @@ fn keyword_hint(alloc: Global, keyword: Keyword) -> Result<String, NoMemory> {
 const PAIRS: [(Sign, Sign, &str); 9] = [
     (Sign::Equal, Sign::Equal, "equality is written `=`"),
     (Sign::Over, Sign::Over, "a comment begins with `#`"),
-    (Sign::Over, Sign::Times, "a comment begins with `#`, and ends with its line"),
+    (
+        Sign::Over,
+        Sign::Times,
+        "a comment begins with `#`, and ends with its line",
+    ),
     (Sign::Equal, Sign::Less, "at most is written `<=`"),
     (Sign::Less, Sign::Greater, "different is written `!=`"),
     (Sign::Plus, Sign::Plus, "there are no assignments"),
     (Sign::Minus, Sign::Minus, "a comment begins with `#`"),
     (Sign::Colon, Sign::Colon, "one `:` is enough"),
-    (Sign::Times, Sign::Times, "there are no powers: write the number"),
+    (
+        Sign::Times,
+        Sign::Times,
+        "there are no powers: write the number",
+    ),
 ];
 
 // What two neighbouring signs were to mean.
@@ -192,7 +204,9 @@ fn sign_hint(scene: &Scene<'_>, expected: &Expected) -> Option<&'static str> {
     }
     match sign_in(found)? {
         Sign::Gives if expected.has_sign(Sign::AtLeast) => Some("at least is written `>=`"),
-        Sign::Arrow if expected.has_sign(Sign::Gives) => Some("what a rule gives stands behind `=>`"),
+        Sign::Arrow if expected.has_sign(Sign::Gives) => Some(
+            "what a rule gives stands behind `=>`",
+        ),
         Sign::Gives if expected.has_sign(Sign::Arrow) => Some("a reference or a relation has `->`"),
         Sign::Equal if expected.has_keyword(Keyword::Init) => {
             Some("the value after a reset stands behind `init`")
@@ -217,11 +231,7 @@ fn meant_keyword(
 }
 
 // What was meant by a name that can't stand at its place.
-fn name_hint(
-    alloc: Global,
-    word: &[u8],
-    expected: &Expected,
-) -> Result<Option<String>, NoMemory> {
+fn name_hint(alloc: Global, word: &[u8], expected: &Expected) -> Result<Option<String>, NoMemory> {
     if let Some(hint) = instead_of(word) {
         return Ok(Some(hint.to_string(alloc)?));
     }
@@ -234,7 +244,8 @@ fn name_hint(
     }
 }
 
-const ORDER_OF_KINDS: &str = "declarations stand in this order: structures, pools, sets, relations, supplies (`fresh`), rules, constraints";
+const ORDER_OF_KINDS: &str =
+    "declarations stand in this order: structures, pools, sets, relations, supplies (`fresh`), rules, constraints";
 
 // What is told of a keyword that can't stand at its place.
 fn hint_of_keyword(

@@ -25,11 +25,7 @@ fn word(words: &[String], place: usize) -> &str {
 }
 
 // What is wrong with a specification.
-fn spec_refused<F: Shelf>(
-    alloc: Global,
-    shelf: &mut F,
-    name: &str,
-) -> Result<String, NoMemory> {
+fn spec_refused<F: Shelf>(alloc: Global, shelf: &mut F, name: &str) -> Result<String, NoMemory> {
     match read_spec(alloc, shelf, name)? {
         SpecRead::Refused(text, diagnosis) => shown(alloc, name, &text, &diagnosis),
         _ => Ok(String::new(alloc)),
@@ -57,7 +53,10 @@ fn image_told(
         }
         Err(LayoutFault::NoMemory) => return Err(NoMemory),
         Err(fault) => {
-            write!(text, "{name}: error: the image has no layout by this specification\n")?;
+            write!(
+                text,
+                "{name}: error: the image has no layout by this specification\n"
+            )?;
             let told = layout_told(alloc, &meaning.spec, &copy, fault)?;
             text.push_str(told.as_str())?;
         }
@@ -163,7 +162,8 @@ fn too_long(out: &[u8]) -> &'static str {
     }
 }
 
-const USAGE: &str = "the words ask for nothing: no file has an empty name or one that begins with -, what is saved has another name than the specification, and N is a number up to 65535\n";
+const USAGE: &str =
+    "the words ask for nothing: no file has an empty name or one that begins with -, what is saved has another name than the specification, and N is a number up to 65535\n";
 
 /// What an answer means; nothing where it says so itself, or where only the system can tell why a
 /// file failed.

@@ -1,7 +1,5 @@
 // The numbers of a layout as far as they are known: what a refusal is told with.
-use dsr_ir::{
-    Cell, Expr, ExprNode, Field, NoMemory, Order, Pool, Spec, Structure, Width,
-};
+use dsr_ir::{Cell, Expr, ExprNode, Field, NoMemory, Order, Pool, Spec, Structure, Width};
 use dsr_meaning::value_of_cell;
 use dsr_schema::width_bits;
 use std::alloc::Global;
@@ -193,7 +191,8 @@ impl Extents {
 impl PoolExtent {
     /// The byte behind the last slot.
     pub fn end(&self) -> Option<u64> {
-        self.start?.checked_add(self.count?.checked_mul(self.slot?)?)
+        self.start?
+            .checked_add(self.count?.checked_mul(self.slot?)?)
     }
 
     /// The code of the last slot.

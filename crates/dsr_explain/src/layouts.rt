@@ -57,12 +57,7 @@ fn push_extent(
 }
 
 // That a pool ends behind the image.
-fn push_outside(
-    text: &mut String,
-    spec: &Spec,
-    bytes: &[u8],
-    pool: u32,
-) -> Result<(), NoMemory> {
+fn push_outside(text: &mut String, spec: &Spec, bytes: &[u8], pool: u32) -> Result<(), NoMemory> {
     let numbers = extents_of(*text.allocator(), spec, bytes)?;
     push_extent(text, spec, &numbers, pool)?;
     text.push_str("; ")?;
@@ -100,7 +95,10 @@ fn push_subtype(
     let name = structure_name(spec, structure);
     write!(text, "structure `{name}` has ")?;
     push_known(text, numbers.bytes_of(structure))?;
-    write!(text, " bytes, and a slot of pool `{pool_text}`, which is read by it, has ")?;
+    write!(
+        text,
+        " bytes, and a slot of pool `{pool_text}`, which is read by it, has "
+    )?;
     match pool_extent(spec, &numbers, pool) {
         Some(extent) => push_known(text, extent.slot)?,
         None => text.push('?')?,
@@ -125,7 +123,10 @@ fn push_zero(text: &mut String, spec: &Spec, bytes: &[u8], pool: u32) -> Result<
         None => false,
     };
     if is_step {
-        write!(text, "the step between the codes of pool `{name}` is 0, so all its slots would have one code\n")?;
+        write!(
+            text,
+            "the step between the codes of pool `{name}` is 0, so all its slots would have one code\n"
+        )?;
     } else {
         write!(text, "a slot of pool `{name}` has 0 bytes\n")?;
     }
@@ -141,7 +142,10 @@ fn push_none_code(text: &mut String, spec: &Spec, bytes: &[u8], pool: u32) -> Re
     };
     write!(text, "the value ")?;
     push_known(text, extent.none)?;
-    write!(text, ", which is none of pool `{name}`, is the code of a slot: codes go from ")?;
+    write!(
+        text,
+        ", which is none of pool `{name}`, is the code of a slot: codes go from "
+    )?;
     push_known(text, extent.code)?;
     text.push_str(" to ")?;
     push_known(text, extent.last_code())?;
@@ -174,13 +178,18 @@ fn push_code(
         Some(field) => width_bits(field.width),
         None => 0,
     };
-    write!(text, "the reference `{owner}.{name}` has {bits} bits, too few for pool `{pool_text}`, whose last code is ")?;
+    write!(
+        text,
+        "the reference `{owner}.{name}` has {bits} bits, too few for pool `{pool_text}`, whose none is "
+    )?;
     let Some(extent) = pool_extent(spec, &numbers, pool) else {
         return Ok(());
     };
-    push_known(text, extent.last_code())?;
-    text.push_str(", and none ")?;
     push_known(text, extent.none)?;
+    if let Some(last) = extent.last_code() {
+        text.push_str(", and its last code ")?;
+        push_grouped(text, last)?;
+    }
     text.push('\n')?;
     Ok(())
 }
@@ -241,14 +250,20 @@ fn push_arith(text: &mut String, spec: &Spec, bytes: &[u8]) -> Result<(), NoMemo
     for (number, structure) in spec.base.structures.items().iter().enumerate() {
         if numbers.bytes_of(numbered(number)).is_none() {
             let name = text_of(structure.name.bytes());
-            write!(text, "the size of structure `{name}` isn't a number from 0 to 2^64 - 1\n")?;
+            write!(
+                text,
+                "the size of structure `{name}` isn't a number from 0 to 2^64 - 1\n"
+            )?;
             return push_fixed(text, spec, &numbers);
         }
     }
     for pool in spec.base.pools.items() {
         if let Some(part) = unknown_part(&numbers.pool(pool)) {
             let name = text_of(pool.name.bytes());
-            write!(text, "the {part} of pool `{name}` isn't a number from 0 to 2^64 - 1: a difference is below 0, a divisor is 0, or a number is too great\n")?;
+            write!(
+                text,
+                "the {part} of pool `{name}` isn't a number from 0 to 2^64 - 1: a difference is below 0, a divisor is 0, or a number is too great\n"
+            )?;
             return push_fixed(text, spec, &numbers);
         }
     }
@@ -295,10 +310,15 @@ pub fn layout_told(
         }
         LayoutFault::CountTooWide(constraint) => {
             let name = text_of(constraint_name(spec, constraint));
-            write!(text, "constraint `{name}` compares a field with a count that may be greater than the field can hold: widen the field\n")?;
+            write!(
+                text,
+                "constraint `{name}` compares a field with a count that may be greater than the field can hold: widen the field\n"
+            )?;
         }
         LayoutFault::Instances => {
-            text.push_str("the rules and constraints have too many instances on this image: 4,194,304 in version 1, 16,777,216 in version 2\n")?;
+            text.push_str(
+                "the rules and constraints have too many instances on this image: 4,194,304 in version 1, 16,777,216 in version 2\n",
+            )?;
         }
         LayoutFault::NoMemory => return Err(NoMemory),
     }

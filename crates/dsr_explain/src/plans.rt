@@ -39,7 +39,11 @@ fn push_way(text: &mut String, line: &str) -> Result<(), NoMemory> {
     let other = words.nth(1).unwrap_or("");
     let change = words.nth(1).unwrap_or("");
     let symbol = words.nth(1).unwrap_or("");
-    let what = if change == "gain" { "add facts to" } else { "take facts from" };
+    let what = if change == "gain" {
+        "add facts to"
+    } else {
+        "take facts from"
+    };
     write!(
         text,
         "    its way {way} (conjunction, literal, way) may {what} `{symbol}`, and so break `{other}`\n"
@@ -47,7 +51,8 @@ fn push_way(text: &mut String, line: &str) -> Result<(), NoMemory> {
     Ok(())
 }
 
-const CYCLE: &str = "  each waits for the one behind it. Of the ways above ask which can't happen in your structure, and say \
+const CYCLE: &str =
+    "  each waits for the one behind it. Of the ways above ask which can't happen in your structure, and say \
 why in the specification: by a constraint that is declared earlier, by a narrower rule, or by other words for the constraint\n";
 
 // What is tried for a literal, and what that needs.
@@ -96,7 +101,10 @@ fn push_needs(text: &mut String, constraint: &Constraint) -> Result<(), NoMemory
 
 // Appends what keeps a constraint from being repaired in any order.
 fn push_unrepairable(text: &mut String, spec: &Spec, name: &str) -> Result<(), NoMemory> {
-    write!(text, "  no order helps `{name}`: for some literal nothing is tried, or each way makes another literal of its conjunction false\n")?;
+    write!(
+        text,
+        "  no order helps `{name}`: for some literal nothing is tried, or each way makes another literal of its conjunction false\n"
+    )?;
     let Some(number) = constraint_named(spec, name) else {
         return Ok(());
     };
@@ -122,7 +130,10 @@ fn push_line(
         return Ok(());
     }
     if let Some(other) = line.strip_prefix("relied by ") {
-        write!(text, "    `{other}` relies on it, and so is repaired later\n")?;
+        write!(
+            text,
+            "    `{other}` relies on it, and so is repaired later\n"
+        )?;
         return Ok(());
     }
     if line.starts_with("way ") {

@@ -67,11 +67,7 @@ fn meaning_of(alloc: Global, text: Vec<u8>) -> Result<Result<Meaning, Vec<u8>>, 
 }
 
 /// Reads a specification.
-pub fn read_spec<F: Shelf>(
-    alloc: Global,
-    shelf: &mut F,
-    name: &str,
-) -> Result<SpecRead, NoMemory>
+pub fn read_spec<F: Shelf>(alloc: Global, shelf: &mut F, name: &str) -> Result<SpecRead, NoMemory>
     ensures { IfOk result IsTypedRead }
 {
     let Some(text) = loaded(alloc, shelf, name, SPEC_LIMIT)? else {

@@ -39,11 +39,17 @@ fn push_line(text: &mut String, line: &str) -> Result<(), NoMemory> {
         return push_set(text, line);
     }
     if let Some(record) = line.strip_prefix("reset ") {
-        write!(text, "     {record} is a fresh record: all its fields are reset\n")?;
+        write!(
+            text,
+            "     {record} is a fresh record: all its fields are reset\n"
+        )?;
     }
     if let Some(rest) = line.strip_prefix("empty ") {
         let pool = rest.split(' ').next().unwrap_or("");
-        write!(text, "error: the next step would take a fresh record of pool `{pool}`, and none is left: each slot is in a set behind `avoid`\n")?;
+        write!(
+            text,
+            "error: the next step would take a fresh record of pool `{pool}`, and none is left: each slot is in a set behind `avoid`\n"
+        )?;
     }
     Ok(())
 }

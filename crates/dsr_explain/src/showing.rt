@@ -103,7 +103,10 @@ fn push_what(
             None => {}
         },
         None => {
-            write!(told, "`{what}` is no record, as nodes[3] or head, and no set or relation\n")?;
+            write!(
+                told,
+                "`{what}` is no record, as nodes[3] or head, and no set or relation\n"
+            )?;
             return Ok(3);
         }
     }

@@ -1,5 +1,5 @@
 // The source of a constraint: its line and its text.
-use dsr_diagnosis::spot_of;
+use dsr_passages::spot_of;
 use dsr_tree::Tree;
 
 // How many bytes of a constraint are shown.

@@ -51,8 +51,7 @@ fn add_told(
     status: &Status,
 ) -> anyhow::Result<()> {
     let words = words_of(alloc)?;
-    let told = explained(alloc, shelf, &words, status, b"")
-        .map_err(|_| anyhow!("out of memory"))?;
+    let told = explained(alloc, shelf, &words, status, b"").map_err(|_| anyhow!("out of memory"))?;
     text.push_str(told.as_str())?;
     Ok(())
 }

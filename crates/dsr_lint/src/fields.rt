@@ -17,12 +17,18 @@ fn push_field(
         return Ok(());
     }
     if !is_read(spec, number) {
-        write!(text, "field {owner}.{name}: no rule reads it, so it may hold anything\n")?;
+        write!(
+            text,
+            "field {owner}.{name}: no rule reads it, so it may hold anything\n"
+        )?;
         return Ok(());
     }
     let is_reference = matches!(field.kind, Kind::Refers { pool: _ });
     if is_reference && is_followed(spec, number) && !is_guarded(spec, number) {
-        write!(text, "reference {owner}.{name}: no rule asks whether it is illegal; where it is, what lies behind it is no member, and that may be consistent\n")?;
+        write!(
+            text,
+            "reference {owner}.{name}: no rule asks whether it is illegal; where it is, what lies behind it is no member, and that may be consistent\n"
+        )?;
     }
     Ok(())
 }

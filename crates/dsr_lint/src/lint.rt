@@ -12,13 +12,19 @@ fn push_set(text: &mut String, spec: &Spec, set: u32, name: &[u8]) -> Result<(),
     let name = text_of(name);
     let (symbol, starts) = (Symbol::Set(set), is_premise(spec, set));
     if !is_given(spec, symbol) {
-        write!(text, "set {name}: no rule gives it a member, so it is empty\n")?;
+        write!(
+            text,
+            "set {name}: no rule gives it a member, so it is empty\n"
+        )?;
         if starts {
             write!(text, "set {name}: rules start from it, and never fire\n")?;
         }
     }
     if !starts && !is_constrained(spec, symbol) && !is_base_or_avoided(spec, set) {
-        write!(text, "set {name}: no constraint speaks of it, and no rule starts from it\n")?;
+        write!(
+            text,
+            "set {name}: no constraint speaks of it, and no rule starts from it\n"
+        )?;
     }
     Ok(())
 }
@@ -38,7 +44,10 @@ fn push_relations(text: &mut String, spec: &Spec) -> Result<(), NoMemory> {
     for (number, rel) in spec.base.rels.items().iter().enumerate() {
         let (symbol, name) = (Symbol::Relnumbered(number), text_of(rel.name.bytes()));
         if !is_given(spec, symbol) {
-            write!(text, "relation {name}: no rule gives it a pair, so every bound on it holds\n")?;
+            write!(
+                text,
+                "relation {name}: no rule gives it a pair, so every bound on it holds\n"
+            )?;
         }
         if !is_constrained(spec, symbol) {
             write!(text, "relation {name}: no constraint speaks of it\n")?;

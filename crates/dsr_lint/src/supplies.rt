@@ -20,12 +20,7 @@ fn comes_from(spec: &Spec, set: u32, avoided: &[u32]) -> bool {
 }
 
 // Appends which sets of a pool its supply doesn't avoid.
-fn push_pool(
-    text: &mut String,
-    spec: &Spec,
-    number: u32,
-    pool: &Pool,
-) -> Result<(), NoMemory> {
+fn push_pool(text: &mut String, spec: &Spec, number: u32, pool: &Pool) -> Result<(), NoMemory> {
     let Some(avoided) = &pool.avoid else {
         return Ok(());
     };
@@ -38,10 +33,16 @@ fn push_pool(
         }
         if !comes_from(spec, which, avoided.items()) {
             let set = text_of(set.name.bytes());
-            write!(text, "fresh {name}: it doesn't avoid {set}, so a member of it may be reset\n")?;
+            write!(
+                text,
+                "fresh {name}: it doesn't avoid {set}, so a member of it may be reset\n"
+            )?;
         }
     }
-    write!(text, "fresh {name}: a record that nothing leads to is taken and reset, whatever it holds\n")?;
+    write!(
+        text,
+        "fresh {name}: a record that nothing leads to is taken and reset, whatever it holds\n"
+    )?;
     Ok(())
 }
 

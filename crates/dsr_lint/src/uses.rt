@@ -1,6 +1,7 @@
 // Where sets, relations and fields are used.
 use dsr_ir::{
-    Atom, Bound, Constraint, FieldRef, Literal, Measure, Path, Quant, Rule, Span, Spec, Symbol, Test,
+    Atom, Bound, Constraint, FieldRef, Literal, Measure, Path, Quant, Rule, Span, Spec, Symbol,
+    Test,
 };
 
 /// Whether some rule gives facts of a symbol.
@@ -10,7 +11,10 @@ pub fn is_given(spec: &Spec, symbol: Symbol) -> bool {
 
 /// Whether a set is the premise of a rule.
 pub fn is_premise(spec: &Spec, set: u32) -> bool {
-    spec.rules.items().iter().any(|rule| rule.premise == Some(set))
+    spec.rules
+        .items()
+        .iter()
+        .any(|rule| rule.premise == Some(set))
 }
 
 fn measures(measure: &Measure, symbol: Symbol) -> bool {

@@ -46,10 +46,16 @@ fn push_edges(
     for (other, its) in spec.constraints.items().iter().enumerate() {
         let other_name = text_of(its.name.bytes());
         if may_break(graph, number, constraint, numbered(other)) {
-            write!(text, "  \"{name}\" -> \"{other_name}\" [label=\"may break\"];\n")?;
+            write!(
+                text,
+                "  \"{name}\" -> \"{other_name}\" [label=\"may break\"];\n"
+            )?;
         }
         if relies(graph, number, numbered(other)) {
-            write!(text, "  \"{name}\" -> \"{other_name}\" [label=\"relies on\", style=dashed];\n")?;
+            write!(
+                text,
+                "  \"{name}\" -> \"{other_name}\" [label=\"relies on\", style=dashed];\n"
+            )?;
         }
     }
     Ok(())

@@ -14,7 +14,10 @@ pub struct Variables<'a> {
 
 /// The variables of the constraint with this number.
 pub fn variables_of(tree: &Tree, number: u32) -> Variables<'_> {
-    let none = Variables { first: "", second: "" };
+    let none = Variables {
+        first: "",
+        second: "",
+    };
     let Some(constraint) = tree.constraints.items().get(number as usize) else {
         return none;
     };
@@ -26,7 +29,11 @@ pub fn variables_of(tree: &Tree, number: u32) -> Variables<'_> {
             first: text_of(name.name.bytes()),
             second: "",
         },
-        Binder::Pair { place: _, first, second } => Variables {
+        Binder::Pair {
+            place: _,
+            first,
+            second,
+        } => Variables {
             first: text_of(first.name.bytes()),
             second: text_of(second.name.bytes()),
         },

@@ -15,7 +15,8 @@ fn purpose(goal: Goal) -> &'static str {
         Goal::SetValue => "the value is set",
         Goal::Trim => "the greatest of what is counted leaves, again and again",
         Goal::Supply => "a fresh record joins",
-        Goal::ExactlyOne => "a fresh record joins where there is none, and the greatest leaves where there are more",
+        Goal::ExactlyOne =>
+            "a fresh record joins where there is none, and the greatest leaves where there are more",
     }
 }
 

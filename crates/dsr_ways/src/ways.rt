@@ -62,7 +62,11 @@ fn push_ways(
     for (way, template) in ways(graph, at).iter().enumerate() {
         let way = numbered(way);
         let told = way.saturating_add(1);
-        let mark = if number == Some(told) { "taken" } else { "listed" };
+        let mark = if number == Some(told) {
+            "taken"
+        } else {
+            "listed"
+        };
         write!(text, "    way {told} ({mark}): ")?;
         push_template(text, spec, variables, template)?;
         text.push('\n')?;
@@ -134,7 +138,10 @@ fn push_heading(
             let level = row.level;
             write!(text, "constraint {name}: level {level}\n")?;
         }
-        None => write!(text, "constraint {name}: no level, since there is no plan\n")?,
+        None => write!(
+            text,
+            "constraint {name}: no level, since there is no plan\n"
+        )?,
     }
     Ok(())
 }
@@ -155,7 +162,9 @@ pub fn ways_told(alloc: Global, spec: &Spec, tree: &Tree) -> Result<String, NoMe
         let number = numbered(number);
         let variables = variables_of(tree, number);
         push_heading(&mut text, spec, number, choice)?;
-        push_constraint(&mut text, spec, &graph, &variables, number, constraint, choice)?;
+        push_constraint(
+            &mut text, spec, &graph, &variables, number, constraint, choice,
+        )?;
     }
     Ok(text)
 }

@@ -17,8 +17,11 @@ use std::rt::Files;
 
 // The statuses of `dsr` that no run of it gives here.
 const USAGE: u8 = 3;
+
 const STORE_FAILED: u8 = 7;
+
 const OUTPUT_FAILED: u8 = 8;
+
 const NO_MEMORY: u8 = 10;
 
 // Tells something on the standard error.
@@ -34,17 +37,17 @@ fn tell<R: Eprint>(rt: &R, alloc: Global, text: &str, colours: bool) -> Result<(
 }
 
 // Puts an answer to the standard output, and gives the status.
-fn put<R: Print + Eprint>(
-    rt: &R,
-    alloc: Global,
-    text: &[u8],
-    status: u8,
-) -> Result<u8, NoMemory> {
+fn put<R: Print + Eprint>(rt: &R, alloc: Global, text: &[u8], status: u8) -> Result<u8, NoMemory> {
     let mut sink = StdSink { rt, faults: 0 };
     match sink.put(alloc, text) {
         Ok(()) => Ok(status),
         Err(_) => {
-            tell(rt, alloc, "the answer can't be written to the standard output\n", false)?;
+            tell(
+                rt,
+                alloc,
+                "the answer can't be written to the standard output\n",
+                false,
+            )?;
             Ok(OUTPUT_FAILED)
         }
     }
@@ -85,7 +88,9 @@ fn run_dsr<R: Files + Print + Eprint>(
     }
     let colours = manner.colours;
     let mut shelf = InputShelf::new(rt);
-    let mut out = SureSink { bytes: Vec::new(alloc) };
+    let mut out = SureSink {
+        bytes: Vec::new(alloc),
+    };
     let status = run(alloc, words, &mut shelf, &mut out);
     let number = put(rt, alloc, &out.bytes, status.number())?;
     if matches!(status, Status::NoMemory) {
@@ -188,7 +193,9 @@ fn run_json<R: Files + Print + Eprint>(
     words: &Vec<String>,
 ) -> Result<u8, NoMemory> {
     let mut shelf = InputShelf::new(rt);
-    let mut out = SureSink { bytes: Vec::new(alloc) };
+    let mut out = SureSink {
+        bytes: Vec::new(alloc),
+    };
     let status = run(alloc, words, &mut shelf, &mut out);
     if matches!(status, Status::NoMemory) {
         return Err(NoMemory);
@@ -201,7 +208,8 @@ fn run_json<R: Files + Print + Eprint>(
     put(rt, alloc, text.as_bytes(), number)
 }
 
-const SAME_FILE: &str = "what is saved would replace the specification: it is the same file under another name\n";
+const SAME_FILE: &str =
+    "what is saved would replace the specification: it is the same file under another name\n";
 
 // Does what a command asks for.
 fn obey<R: Files + Print + Eprint>(

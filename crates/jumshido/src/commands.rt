@@ -6,7 +6,8 @@ const VERSION: &str = "0.1.0";
 
 const ABOUT: &str = "Finds and repairs broken data structures in heap dumps and file images";
 
-const AFTER: &str = "Standard output and status are those of `dsr`; the standard error tells what they mean. \
+const AFTER: &str =
+    "Standard output and status are those of `dsr`; the standard error tells what they mean. \
 A file named - is the standard input.";
 
 // What a file is for.

@@ -1,7 +1,7 @@
 // What is told of bits: fields that begin inside a byte, and constants that are too wide.
 use crate::declared::field_named;
-use crate::scene::{Scene, keyword_in, name_in, number_in, sign_in, spelled};
 use dsr_ir::NoMemory;
+use dsr_passages::{Scene, keyword_in, name_in, number_in, sign_in, spelled};
 use dsr_tree::{Field, Keyword, NamedField, Sign, Structure, Tree, Width};
 use std::alloc::Global;
 
@@ -60,7 +60,9 @@ pub fn unaligned(
     for structure in tree.structures.items() {
         if let Some(taken) = taken_before(structure, place) {
             let left = 8u64.saturating_sub(taken);
-            hints.push(format!(in alloc; "the bits before it take {taken} of a byte: put a field of `bits {left}` between")?)?;
+            hints.push(format!(in alloc;
+                "the bits before it take {taken} of a byte: put a field of `bits {left}` between"
+            )?)?;
         }
     }
     let message = "a field of whole bytes, an array or a `skip` begins inside a byte";
@@ -69,10 +71,13 @@ pub fn unaligned(
 
 // The greatest number of so many bits.
 fn greatest(bits: u64) -> u64 {
-    match 1u64.checked_shl(bits.min(64) as u32) {
-        Some(power) => power.saturating_sub(1),
-        None => u64::MAX,
+    if bits == 0 {
+        return 0;
     }
+    if bits >= 64 {
+        return u64::MAX;
+    }
+    u64::MAX >> (64 - bits)
 }
 
 // The field with which the number at the place is compared.
@@ -116,7 +121,10 @@ pub fn too_wide(
     let mut hints = Vec::new(alloc);
     if before == Some(Keyword::Bits) {
         hints.push("`bits N` takes N from 1 to 32".to_string(alloc)?)?;
-        return Ok((format!(in alloc; "a field can't have {number} bits")?, hints));
+        return Ok((
+            format!(in alloc; "a field can't have {number} bits")?,
+            hints,
+        ));
     }
     let field = if before == Some(Keyword::Init) {
         reset_field(scene, tree)
@@ -126,5 +134,8 @@ pub fn too_wide(
     if let Some(field) = field {
         hints.push(width_hint(alloc, field)?)?;
     }
-    Ok((format!(in alloc; "the constant {number} doesn't fit its field")?, hints))
+    Ok((
+        format!(in alloc; "the constant {number} doesn't fit its field")?,
+        hints,
+    ))
 }

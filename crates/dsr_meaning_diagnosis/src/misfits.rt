@@ -1,7 +1,7 @@
 // What is told where pools, structures or kinds of values disagree.
 use crate::declared::{field_named, set_named, target_of};
-use crate::scene::{Declaration, Scene, keyword_in, name_in, sign_in, spelled};
 use dsr_ir::NoMemory;
+use dsr_passages::{Declaration, Scene, keyword_in, name_in, sign_in, spelled};
 use dsr_tree::{Keyword, Sign, Tree};
 use std::alloc::Global;
 
@@ -27,11 +27,7 @@ fn next_set<'a>(scene: &Scene<'a>, tree: &'a Tree) -> Option<(&'a [u8], &'a [u8]
 }
 
 // Where a field that is to be a member of a set leads, and what the set is of.
-fn member_hint(
-    alloc: Global,
-    scene: &Scene<'_>,
-    tree: &Tree,
-) -> Result<Option<String>, NoMemory> {
+fn member_hint(alloc: Global, scene: &Scene<'_>, tree: &Tree) -> Result<Option<String>, NoMemory> {
     let Some((set, pool)) = next_set(scene, tree) else {
         return Ok(None);
     };
@@ -46,9 +42,13 @@ fn member_hint(
     Ok(Some(match target_of(field) {
         Some(target) => {
             let target = spelled(target);
-            format!(in alloc; "`{name}` leads to the pool `{target}`, and `{set}` is a set of `{pool}`")?
+            format!(in alloc;
+                "`{name}` leads to the pool `{target}`, and `{set}` is a set of `{pool}`"
+            )?
         }
-        None => format!(in alloc; "`{name}` is a number, and `{set}` is a set of the pool `{pool}`")?,
+        None => format!(in alloc;
+            "`{name}` is a number, and `{set}` is a set of the pool `{pool}`"
+        )?,
     }))
 }
 
@@ -97,7 +97,8 @@ fn constraint_hint(scene: &Scene<'_>) -> &'static str {
         _ => {}
     }
     match sign_in(scene.behind(1)) {
-        Some(Sign::Dot) => "`x.R` is a value where R is a relation to numbers from the pool of x; records are counted by `size(x.R)`",
+        Some(Sign::Dot) =>
+            "`x.R` is a value where R is a relation to numbers from the pool of x; records are counted by `size(x.R)`",
         _ if sign_in(found) == Some(Sign::Less) => {
             "`<x, y> in R` asks for x of the relation's first pool and y of its second one"
         }
@@ -115,7 +116,11 @@ pub fn misfit(
     let mut hints = Vec::new(alloc);
     let message = match declaration {
         Declaration::Set => {
-            hints.push("a set is read by its pool's structure, or by one that extends it; a complement has the pool of its base".to_string(alloc)?)?;
+            hints.push(
+                "a set is read by its pool's structure, or by one that extends it; a complement has the pool of its base".to_string(
+                    alloc,
+                )?,
+            )?;
             "this set doesn't fit its pool"
         }
         Declaration::Fresh => "a set behind `avoid` is of another pool",

@@ -1,10 +1,8 @@
 // What is told of a name that isn't declared as what it is used for.
 use crate::declared::{declared_as, field_named, is_head, structure_named};
-use crate::listing::quoted;
-use crate::near::meant_by;
 use crate::roles::{Role, candidates, in_words, many_in_words, role_of};
-use crate::scene::{Scene, name_in, spelled};
 use dsr_ir::NoMemory;
+use dsr_passages::{Scene, meant_by, name_in, quoted, spelled};
 use dsr_tree::Tree;
 use std::alloc::Global;
 
@@ -16,10 +14,18 @@ const NO_HEAD: &str = "there is no structure `Head`, which is the record at byte
 /// That there is no structure of the head.
 pub fn no_head(alloc: Global, tree: &Tree) -> Result<(String, Vec<String>), NoMemory> {
     let mut hints = Vec::new(alloc);
-    for tried in [b"Header".as_slice(), b"HEAD", b"Root", b"Superblock", b"Super"] {
+    for tried in [
+        b"Header".as_slice(),
+        b"HEAD",
+        b"Root",
+        b"Superblock",
+        b"Super",
+    ] {
         if structure_named(tree, tried).is_some() {
             let name = spelled(tried);
-            hints.push(format!(in alloc; "call the structure `{name}` `Head` if it stands at byte 0")?)?;
+            hints.push(format!(in alloc;
+                "call the structure `{name}` `Head` if it stands at byte 0"
+            )?)?;
         }
     }
     if hints.is_empty() {
@@ -35,10 +41,14 @@ fn field_hint(alloc: Global, tree: &Tree, name: &[u8]) -> Result<Option<String>,
     };
     let field = spelled(name);
     if is_head(structure) {
-        return Ok(Some(format!(in alloc; "`{field}` is a field of `Head` but not `fixed`: write `fixed` before its width")?));
+        return Ok(Some(format!(in alloc;
+            "`{field}` is a field of `Head` but not `fixed`: write `fixed` before its width"
+        )?));
     }
     let owner = spelled(structure.name.name.bytes());
-    Ok(Some(format!(in alloc; "`{field}` is a field of `{owner}`; expressions read fixed fields of `Head`")?))
+    Ok(Some(format!(in alloc;
+        "`{field}` is a field of `{owner}`; expressions read fixed fields of `Head`"
+    )?))
 }
 
 // What the name is declared as in place of what it is used for.

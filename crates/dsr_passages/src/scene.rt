@@ -116,7 +116,10 @@ fn is_end(lexeme: &Lexeme) -> bool {
 
 /// How many tokens stand before a place.
 pub fn count_before(lexemes: &[Lexeme], place: u64) -> usize {
-    lexemes.iter().take_while(|lexeme| lexeme.place < place).count()
+    lexemes
+        .iter()
+        .take_while(|lexeme| lexeme.place < place)
+        .count()
 }
 
 impl<'a> Scene<'a> {

@@ -1,11 +1,11 @@
 // What is told of a text of the grammar that means no specification.
-use crate::diagnosis::Diagnosis;
-use crate::lines::line_of;
 use crate::misfits::misfit;
-use crate::scene::{Declaration, Scene, keyword_in, length_of, name_in, sign_in, spelled};
 use crate::unknown::unknown;
 use crate::widths::{too_wide, unaligned};
 use dsr_ir::NoMemory;
+use dsr_passages::{
+    Declaration, Diagnosis, Scene, keyword_in, length_of, line_of, name_in, sign_in, spelled,
+};
 use dsr_tree::{Keyword, Sign, Tree};
 use std::alloc::Global;
 
@@ -24,7 +24,11 @@ fn said(
 
 // Whether the token of this number gives a name to what it declares.
 fn declares(scene: &Scene<'_>, number: usize) -> bool {
-    let here = Scene { text: scene.text, lexemes: scene.lexemes, at: number };
+    let here = Scene {
+        text: scene.text,
+        lexemes: scene.lexemes,
+        at: number,
+    };
     let (declaration, start) = here.declaration();
     if declaration != Declaration::Structure {
         return number == start.saturating_add(1);
@@ -50,10 +54,18 @@ fn first_line(scene: &Scene<'_>, name: &[u8]) -> Option<usize> {
 fn twice(alloc: Global, scene: &Scene<'_>) -> Result<(String, Vec<String>), NoMemory> {
     let (declaration, _) = scene.declaration();
     if declaration == Declaration::Fresh {
-        return said(alloc, "this pool has a supply already", "name all sets to avoid behind one `avoid`");
+        return said(
+            alloc,
+            "this pool has a supply already",
+            "name all sets to avoid behind one `avoid`",
+        );
     }
     if declaration == Declaration::Rule {
-        return said(alloc, "the index has the name of the record", "give the index a name of its own");
+        return said(
+            alloc,
+            "the index has the name of the record",
+            "give the index a name of its own",
+        );
     }
     let name = name_in(scene.found()).unwrap_or(b"");
     let text = spelled(name);
@@ -90,17 +102,21 @@ fn too_many(alloc: Global, scene: &Scene<'_>) -> Result<(String, Vec<String>), N
 
 const FIXED_PLACE: &str = "a fixed field can't stand here";
 
-const FIXED_HINT: &str = "fixed fields are numbers of `Head`, no arrays, and stand before each array or `skip` whose length isn't a number";
+const FIXED_HINT: &str =
+    "fixed fields are numbers of `Head`, no arrays, and stand before each array or `skip` whose length isn't a number";
 
 const LENGTHS: &str = "two lengths aren't written as the same expression";
 
-const LENGTHS_HINT: &str = "what is read at the rule's index has the length of what the index runs over, word for word: `n` and `n + 0` differ";
+const LENGTHS_HINT: &str =
+    "what is read at the rule's index has the length of what the index runs over, word for word: `n` and `n + 0` differ";
 
 const INDEX: &str = "the index of this rule doesn't fit";
 
-const INDEX_HINT: &str = "an array is read at the rule's index, `x.f[k]` with `, k in f`; a scalar without; `, k in pool p` stands under `head`, and reads no array";
+const INDEX_HINT: &str =
+    "an array is read at the rule's index, `x.f[k]` with `, k in f`; a scalar without; `, k in pool p` stands under `head`, and reads no array";
 
-const NEGATED_HINT: &str = "turn the comparison round: `not x.V <= 9` is `x.V > 9`; sizes have `<=`, `>=` and `=` alone";
+const NEGATED_HINT: &str =
+    "turn the comparison round: `not x.V <= 9` is `x.V > 9`; sizes have `<=`, `>=` and `=` alone";
 
 // What is wrong by the number of the condition, and what may help.
 fn told(
@@ -124,7 +140,11 @@ fn told(
         8 => said(alloc, LENGTHS, LENGTHS_HINT),
         9 => said(alloc, INDEX, INDEX_HINT),
         10 => too_wide(alloc, scene, tree),
-        11 => said(alloc, "`not` can't stand over a size or a value", NEGATED_HINT),
+        11 => said(
+            alloc,
+            "`not` can't stand over a size or a value",
+            NEGATED_HINT,
+        ),
         12 => said(
             alloc,
             "this constraint's normal form is too large: at most 16 conjunctions of at most 8 literals",
@@ -150,5 +170,10 @@ pub fn refused(
         Some(lexeme) => (lexeme.place as usize, length_of(scene.text, lexeme)),
         None => (0, 0),
     };
-    Ok(Diagnosis { place, length, message, hints })
+    Ok(Diagnosis {
+        place,
+        length,
+        message,
+        hints,
+    })
 }

@@ -1,9 +1,7 @@
 // What a name is used for, by the tokens round it.
-use crate::declared::{
-    field_names, pool_names, relation_names, set_names, structure_names,
-};
-use crate::scene::{Declaration, Scene, keyword_in, name_in, sign_in};
+use crate::declared::{field_names, pool_names, relation_names, set_names, structure_names};
 use dsr_ir::NoMemory;
+use dsr_passages::{Declaration, Scene, keyword_in, name_in, sign_in};
 use dsr_tree::{Keyword, Lexeme, Sign, Tree};
 use std::alloc::Global;
 
@@ -51,7 +49,11 @@ fn rule_role(scene: &Scene<'_>, before: Option<Keyword>, sign: Option<Sign>) -> 
         if sign_in(scene.before(2)) == Some(Sign::Greater) {
             return Role::Relation;
         }
-        return if is_index(scene) { Role::Field } else { Role::PlainSet };
+        return if is_index(scene) {
+            Role::Field
+        } else {
+            Role::PlainSet
+        };
     }
     if before == Some(Keyword::Pool) {
         return Role::Pool;
@@ -82,7 +84,11 @@ fn constraint_role(scene: &Scene<'_>, before: Option<Keyword>, sign: Option<Sign
     if sign == Some(Sign::Dot) {
         return Role::Relation;
     }
-    if is_measured(scene) { Role::Set } else { Role::Variable }
+    if is_measured(scene) {
+        Role::Set
+    } else {
+        Role::Variable
+    }
 }
 
 /// What the name at the place is used for.
@@ -125,7 +131,11 @@ fn variables<'a>(alloc: Global, scene: &Scene<'a>) -> Result<Vec<&'a [u8]>, NoMe
     let mut names: Vec<&'a [u8]> = Vec::new(alloc);
     names.push(b"head")?;
     // The name of a constraint stands behind its first keyword.
-    let skipped = if declaration == Declaration::Constraint { 2 } else { 0 };
+    let skipped = if declaration == Declaration::Constraint {
+        2
+    } else {
+        0
+    };
     for (number, lexeme) in scene.lexemes.iter().enumerate().skip(start).skip(skipped) {
         if ends_binding(lexeme) || number >= scene.at {
             return Ok(names);

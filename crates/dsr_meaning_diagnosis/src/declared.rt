@@ -1,8 +1,6 @@
 // What the declarations of a tree name.
 use dsr_ir::NoMemory;
-use dsr_tree::{
-    Content, Field, NamedField, Pool, Set, Structure, Tree, View,
-};
+use dsr_tree::{Content, Field, NamedField, Pool, Set, Structure, Tree, View};
 use std::alloc::Global;
 
 /// The structure with this name.
@@ -91,7 +89,11 @@ pub fn declared_as(tree: &Tree, name: &[u8]) -> Option<&'static str> {
         return Some("a pool");
     }
     if let Some(set) = set_named(tree, name) {
-        return Some(if is_complement(set) { "a complement" } else { "a set" });
+        return Some(if is_complement(set) {
+            "a complement"
+        } else {
+            "a set"
+        });
     }
     if is_relation(tree, name) {
         return Some("a relation");

@@ -8,8 +8,9 @@ A format has `NAME`, `SPECS` (the specifications, one after the other), `TOOLS` 
 - `finish(image)`: what its owner does after a repair, before the image is judged,
 - `derive(image)`: what its owner rebuilds where the image isn't accepted as it is, or None,
 - `kept(image, stored)`: how many of these records are still read (a record is a value of
-  `stored`, or a member of one where that is a list), and
-- `own(image)`: the image as the format's own tool repairs it, or None where there is none.
+  `stored`, or a member of one where that is a list),
+- `OWN`: the words of the format's own tool that repairs an image in place, or None, and
+- `version()`: what judges, with its version.
 """
 import argparse
 import os
@@ -89,6 +90,14 @@ def repair(specs, path, out):
     return steps, None
 
 
+def own_repair(words, path):
+    """The image as the format's own tool leaves it."""
+    out = path + ".own"
+    shutil.copyfile(path, out)
+    run(words + [out])
+    return read(out)
+
+
 def trial(form, folder, sound, stored, seed, counts):
     """One seed: an image is broken, repaired and judged."""
     broken, fixed = os.path.join(folder, "broken.img"), os.path.join(folder, "fixed.img")
@@ -119,9 +128,8 @@ def trial(form, folder, sound, stored, seed, counts):
         counts["accepted once derived parts are rebuilt"] += not complaints
         for complaint in complaints[:1]:
             counts["still: %s" % complaint] += 1
-    own = form.own(broken)
-    if own is not None:
-        counts["kept by its own tool"] += form.kept(read(own), stored)
+    if form.OWN:
+        counts["kept by its own tool"] += form.kept(own_repair(form.OWN, broken), stored)
 
 
 def show(form, counts, timed):

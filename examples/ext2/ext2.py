@@ -12,6 +12,7 @@ import harness  # noqa: E402
 NAME = "ext2"
 SPECS = [os.path.join(HERE, name) for name in ("folders.spec", "ext2.spec")]
 TOOLS = ["mke2fs", "debugfs", "e2fsck"]
+OWN = ["e2fsck", "-fy"]
 BLOCK, BLOCKS, INODES = 1024, 1024, 96
 DATA, TABLE, INODE = 17, 5 * 1024, 128          # the first block of data, the table of inodes
 BLOCK_MAP, INODE_MAP = 3 * BLOCK, 4 * BLOCK
@@ -158,14 +159,6 @@ def kept(image, stored):
     system = System(image)
     return sum(sum(map(bytes.__eq__, system.pieces(inode), pieces))
                for inode, pieces in stored.items() if system.kind(inode) == 8)
-
-
-def own(path):
-    """The file system as e2fsck -fy leaves it."""
-    out = path + ".own"
-    harness.write(out, harness.read(path))
-    harness.run(["e2fsck", "-fy", out])
-    return out
 
 
 if __name__ == "__main__":

@@ -12,6 +12,7 @@ import harness  # noqa: E402
 NAME = "fat16"
 SPECS = [os.path.join(HERE, "fat16.spec")]
 TOOLS = ["mkfs.fat", "fsck.fat", "mcopy", "mdel"]
+OWN = ["fsck.fat", "-a"]
 SECTOR = 512
 END = 0xFFFF
 
@@ -172,14 +173,6 @@ def kept(image, stored):
         if name in files:
             total += sum(map(bytes.__eq__, volume.pieces(*files[name]), pieces))
     return total
-
-
-def own(path):
-    """The volume as fsck.fat -a leaves it."""
-    out = path + ".own"
-    harness.write(out, harness.read(path))
-    harness.run(["fsck.fat", "-a", out])
-    return out
 
 
 if __name__ == "__main__":

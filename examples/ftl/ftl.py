@@ -12,6 +12,7 @@ import harness  # noqa: E402
 NAME = "ftl"
 SPECS = [os.path.join(HERE, "ftl.spec")]
 TOOLS = []
+OWN = None
 LOGICAL, PAGES, BLOCKS, PAYLOAD = 64, 256, 16, 32
 EACH = PAGES // BLOCKS                                  # pages of a block
 MAP = 16
@@ -183,10 +184,6 @@ def kept(image, stored):
     flash = Flash(image)
     return sum(flash.page(logical) < PAGES and flash.read(logical) == payload
                for logical, payload in stored.items())
-
-
-def own(_):
-    return None
 
 
 if __name__ == "__main__":

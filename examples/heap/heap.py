@@ -12,6 +12,7 @@ import harness  # noqa: E402
 NAME = "heap"
 SPECS = [os.path.join(HERE, name + ".spec") for name in ("ends", "mend", "store")]
 TOOLS = ["gcc", "gdb"]
+OWN = None
 FOLDER = tempfile.TemporaryDirectory()
 STORE = os.path.join(FOLDER.name, "store")
 
@@ -74,10 +75,6 @@ def kept(image, stored):
     done = subprocess.run([STORE, "list", path], stdout=subprocess.PIPE, check=True)
     listed = dict(line.split() for line in done.stdout.splitlines())
     return sum(listed.get(key) == value for key, value in stored.items())
-
-
-def own(_):
-    return None
 
 
 if __name__ == "__main__":

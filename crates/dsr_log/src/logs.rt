@@ -71,7 +71,10 @@ impl Log {
 
     /// Takes all entries away. Their room stays for others. Takes no memory.
     pub fn clear(&mut self)
-        ensures { self.new.entries ≡ [] }
+        ensures entries { self.new.entries ≡ [] }
+        ensures room { self.new.spare ≡ self.old.spare + length self.old.entries }
+        ensures room_for_sets { self.old.spare_sets ≤ self.new.spare_sets }
+        ensures room_for_bytes { self.old.spare_bytes ≤ self.new.spare_bytes }
     {
         self.rows.clear();
         self.sets.clear();
@@ -85,6 +88,8 @@ impl Log {
         ensures room_for_sets { OnOk result (sets ≤ self.new.spare_sets) }
         ensures room_for_bytes { OnOk result (bytes ≤ self.new.spare_bytes) }
         ensures kept { self.old.spare ≤ self.new.spare }
+        ensures kept_for_sets { self.old.spare_sets ≤ self.new.spare_sets }
+        ensures kept_for_bytes { self.old.spare_bytes ≤ self.new.spare_bytes }
     {
         self.rows.reserve(1)?;
         self.sets.reserve(sets)?;

@@ -1,11 +1,11 @@
 -- Numbers of a model, compared.
-use Rattle.std.proofs.Common.{◌≡◌, ◌<◌, ◌≤◌, ◌↔◌, ℕ, Bool, true, false, IsTrue, ◌+◌, Option, None, Some, refl, sym, ◌∙◌, subst, arith, inl, inr}
-use Rattle.std.proofs.lemmas.Bool.{cases_lt}
+use Rattle.std.proofs.Common.{◌≡◌, ◌<◌, ◌≤◌, ◌↔◌, ℕ, Bool, true, false, not, and, IsTrue, MatchBool, Option, None, Some, refl, sym, ◌∙◌, subst, arith, inl, inr}
 use Rattle.dsr_ir.specs.declared.constraints.Bound.{Bound}
 use Rattle.dsr_ir.specs.declared.constraints.Measure.{Measure}
 use Rattle.dsr_ir.specs.declared.constraints.Measure.TheVariants.{Out}
 use Rattle.dsr_ir.specs.declared.constraints.Var.TheVariants.{First}
 use Rattle.dsr_ir.specs.declared.rules.Op.{Op}
+use Rattle.dsr_ir.specs.declared.rules.Op.TheVariants.{Eq, Ge, Gt, Le, Lt, Ne}
 use Rattle.dsr_ir.specs.declared.tuples.Binding.{Binding}
 use Rattle.dsr_ir.specs.declared.tuples.Binding.TheVariants as bindings
 use Rattle.dsr_ir.specs.declared.tuples.Element.{Element}
@@ -19,7 +19,7 @@ use Rattle.dsr_meaning.specs.Truth.{HasBound, HasSize}
 use Rattle.dsr_resolve.proofs.PassedTests.{decides_compares}
 use Rattle.dsr_schema.specs.Comparing.{compares}
 use Rattle.dsr_relations.specs.Tuples.{IsNextValue}
-use Rattle.dsr_truth.specs.Walks.{FindsGreatestValue, IsGreatestValue}
+use Rattle.dsr_truth.specs.Values.{FindsGreatestValue, IsGreatestValue, ReachDown, ReachUp, SomeFails}
 
 pub size_meets : (is_fact : Fact → Type 0) (b : Binding) (measure : Measure) (op : Op) (size number : ℕ)
     (answer : Bool)
@@ -79,36 +79,81 @@ greatest_value is_fact rel source (Some (Pair r e (Num n))) most =
     at_most : (value : ℕ) → (n < value → ⊥) → value ≤ n
     at_most value not = omega arith
 
--- ---- a walk over values
+-- ---- all values, by the least and the greatest of them
 
-module _ (op : Op) (number : ℕ) (Values : ℕ → Type 0) where
-  pub not_all : (value : ℕ) (answer : Bool) → Values value → answer ≡ compares op value number → answer ≡ false
+module _ (Values : ℕ → Type 0) (number : ℕ) where
+  pub fails : (op : Op) (value : ℕ) → Values value → compares op value number ≡ false
+      → SomeFails Values op number
+  fails op value held is = (value, held, λ holds.
+      absurd (let yes = (decides_compares op value number).1 holds in cc))
+
+  pub greatest_tells : (op : Op) (answer : Bool) (value : ℕ) → IsGreatestValue Values value
+      → answer ≡ compares op value number
+      → MatchBool answer (ReachUp Values op number) (SomeFails Values op number)
+  greatest_tells op true value most is = λ v held.
+      (value, most.greatest v held, (decides_compares op value number).0 (sym is))
+  greatest_tells op false value most is = fails op value most.held (sym is)
+
+  pub least_tells : (op : Op) (answer : Bool) (value : ℕ) → IsNextValue Values 0 value
+      → answer ≡ compares op value number
+      → MatchBool answer (ReachDown Values op number) (SomeFails Values op number)
+  least_tells op true value next is = λ v held.
+      (value, next.least v held (omega arith), (decides_compares op value number).0 (sym is))
+  least_tells op false value next is = fails op value next.held (sym is)
+
+  -- a value that fails is one of all
+  not_all : (op : Op) → SomeFails Values op number
       → IsTrue false ↔ ((v : ℕ) → Values v → Compares op v number)
-  not_all value answer held is refused = (
+  not_all op some = (λ yes. absurd cc, λ all. absurd (some.2 (all some.0 some.1)))
+
+  pub all_below : (answer : Bool) → MatchBool answer (ReachUp Values Lt number) (SomeFails Values Lt number)
+      → IsTrue answer ↔ ((v : ℕ) → Values v → Compares Lt v number)
+  all_below true reach = (λ _ v held. let far = reach v held in omega (arith, far.1, far.2), λ _. refl)
+  all_below false some = not_all Lt some
+
+  pub all_within : (answer : Bool) → MatchBool answer (ReachUp Values Le number) (SomeFails Values Le number)
+      → IsTrue answer ↔ ((v : ℕ) → Values v → Compares Le v number)
+  all_within true reach = (λ _ v held. let far = reach v held in omega (arith, far.1, far.2), λ _. refl)
+  all_within false some = not_all Le some
+
+  pub all_above : (answer : Bool) → MatchBool answer (ReachDown Values Gt number) (SomeFails Values Gt number)
+      → IsTrue answer ↔ ((v : ℕ) → Values v → Compares Gt v number)
+  all_above true reach = (λ _ v held. let far = reach v held in omega (arith, far.1, far.2), λ _. refl)
+  all_above false some = not_all Gt some
+
+  pub all_from : (answer : Bool) → MatchBool answer (ReachDown Values Ge number) (SomeFails Values Ge number)
+      → IsTrue answer ↔ ((v : ℕ) → Values v → Compares Ge v number)
+  all_from true reach = (λ _ v held. let far = reach v held in omega (arith, far.1, far.2), λ _. refl)
+  all_from false some = not_all Ge some
+
+  pub all_alike : (least greatest : Bool)
+      → MatchBool least (ReachDown Values Eq number) (SomeFails Values Eq number)
+      → MatchBool greatest (ReachUp Values Eq number) (SomeFails Values Eq number)
+      → (answer : Bool) → answer ≡ and least greatest
+      → IsTrue answer ↔ ((v : ℕ) → Values v → Compares Eq v number)
+  all_alike true true down up answer is = (
+    λ _ v held.
+        let low = down v held in
+        let high = up v held in
+        omega (arith, low.1, low.2, high.1, high.2),
+    λ _. is,
+  )
+  all_alike true false down up answer is = (
     λ yes. absurd cc,
-    λ all. absurd (let yes = (decides_compares op value number).1 (all value held) in cc),
+    λ all. absurd (up.2 (all up.0 up.1)),
+  )
+  all_alike false greatest down up answer is = (
+    λ yes. absurd cc,
+    λ all. absurd (down.2 (all down.0 down.1)),
   )
 
-  module _ (from : ℕ) (below : (v : ℕ) → v < from → Values v → Compares op v number) where
-    pub values_end : ((v : ℕ) → Values v → from ≤ v → ⊥) → (v : ℕ) → Values v → Compares op v number
-    values_end none v held = elim (cases_lt v from) [
-      | inl less ↦ below v less held
-      | inr later ↦ absurd (none v held later)
-    ]
-
-    module _ (value : ℕ) (next : IsNextValue Values from value) (answer : Bool)
-        (is : answer ≡ compares op value number) (yes : answer ≡ true) where
-      pub values_go_on : (v : ℕ) → v < value + 1 → Values v → Compares op v number
-      values_go_on v less held = elim (cases_lt v from) [
-        | inl early ↦ below v early held
-        | inr later ↦
-            let least = next.least v held later in
-            let same : value ≡ v = omega (arith, less, least) in
-            subst (λ x. Compares op x number) same ((decides_compares op value number).0 (sym is ∙ yes))
-      ]
-
-      pub values_last : (last : ℕ) → IsGreatestValue Values last → last ≤ value → (v : ℕ) → Values v
-          → Compares op v number
-      values_last last most past v held =
-          let most_is = most.greatest v held in
-          values_go_on v (omega (arith, most_is, past)) held
+  pub all_other : (has answer : Bool) → IsTrue has ↔ Values number → answer ≡ not has
+      → IsTrue answer ↔ ((v : ℕ) → Values v → Compares Ne v number)
+  all_other true answer told is = (
+    λ yes. absurd cc,
+    λ all. absurd (all number (told.0 refl) refl),
+  )
+  all_other false answer told is = (
+    λ _ v held same. let yes = told.1 (subst Values same held) in absurd cc,
+    λ _. is,
+  )

@@ -1,5 +1,5 @@
 -- Walks over the bindings of a constraint, and what of its violated bindings was found on the way.
-use Rattle.std.specs.Prelude.{◌≡◌, ◌<◌, ◌≤◌, ◌⊎◌, ⊤, ℕ, List, Option, None, Some, MatchOption, All}
+use Rattle.std.specs.Prelude.{◌≡◌, ◌<◌, ◌⊎◌, ⊤, ℕ, List, Option, None, Some, MatchOption, All}
 use Rattle.dsr_ir.specs.declared.constraints.Conj.{Conj}
 use Rattle.dsr_ir.specs.declared.constraints.Constraint.{Constraint}
 use Rattle.dsr_ir.specs.declared.constraints.Quant.{Quant}
@@ -17,15 +17,6 @@ use Rattle.dsr_meaning.specs.Counting.{IsIn}
 use Rattle.dsr_meaning.specs.Orders.{BindingPrecedes}
 use Rattle.dsr_model.specs.Facts.{MayBeOf, facts_after}
 use Rattle.dsr_model.specs.Views.{ModelView}
-
--- the value is one of these, and none of them is greater
-pub record IsGreatestValue (Values : ℕ → Type 0) (value : ℕ) : Type 0 where
-  pub held : Values value
-  pub greatest : (other : ℕ) → Values other → other ≤ value
-
--- the answer is the greatest of the values, and None where there is none
-abbrev pub FindsGreatestValue : (ℕ → Type 0) → Option ℕ → Type 0
-FindsGreatestValue Values answer = MatchOption answer ((other : ℕ) → Values other → ⊥) (IsGreatestValue Values)
 
 -- some conjunction has all its literals true
 abbrev pub IsSatisfied : (Fact → Type 0) → Binding → Constraint → Type 0

@@ -7,7 +7,8 @@ ghost use Rattle.dsr_meaning.specs.Consistency.{ConjHolds};
 ghost use Rattle.dsr_meaning.specs.Instances.{Compares};
 ghost use Rattle.dsr_meaning.specs.Truth.{AtomHolds, HasBound, HasSize, LiteralHolds};
 ghost use Rattle.dsr_model.specs.Facts.{IsInModel};
-ghost use Rattle.dsr_truth.specs.Walks.{FindsGreatestValue, IsSatisfied, IsUnsatisfied};
+ghost use Rattle.dsr_truth.specs.Values.{FindsGreatestValue, ReachDown, ReachUp, SomeFails};
+ghost use Rattle.dsr_truth.specs.Walks.{IsSatisfied, IsUnsatisfied};
 
 use dsr_ir::{
     Atom, Binding, Bound, Conj, Constraint, Element, Fact, Literal, Measure, Op, Spec, Target, Var,
@@ -61,27 +62,61 @@ fn greatest_value(model: &Model, rel: u32, source: Element) -> Option<u64>
     }
 }
 
-// Whether every number that a relation gives to an element meets the comparison. The walk ends at
-// the greatest value, behind which nothing need be asked.
+// Whether the greatest number that a relation gives to an element meets the comparison, or there is
+// none.
+#[inline]
+fn greatest_compares(model: &Model, rel: u32, source: Element, op: Op, number: u64) -> bool
+    requires { model.now.ordered ≡ true }
+    ensures { MatchBool result
+        (ReachUp (λ value. IsInModel model.now (facts.Pair rel source (Num value))) op number)
+        (SomeFails (λ value. IsInModel model.now (facts.Pair rel source (Num value))) op number) }
+{
+    match greatest_value(model, rel, source) {
+        Some(value) => compares(op, value, number),
+        None => true,
+    }
+}
+
+// Whether the least number that a relation gives to an element meets the comparison, or there is
+// none.
+#[inline]
+fn least_compares(model: &Model, rel: u32, source: Element, op: Op, number: u64) -> bool
+    requires { model.now.ordered ≡ true }
+    ensures { MatchBool result
+        (ReachDown (λ value. IsInModel model.now (facts.Pair rel source (Num value))) op number)
+        (SomeFails (λ value. IsInModel model.now (facts.Pair rel source (Num value))) op number) }
+{
+    match model.next_value(rel, source, 0) {
+        Some(value) => compares(op, value, number),
+        None => true,
+    }
+}
+
+// Whether a relation gives a number to an element.
+#[inline]
+fn has_value(model: &Model, rel: u32, source: Element, number: u64) -> bool
+    requires { model.now.ordered ≡ true }
+    ensures { IsTrue result ↔ IsInModel model.now (facts.Pair rel source (Num number)) }
+{
+    model.has(&Fact::Pair(rel, source, Target::Num(number)))
+}
+
+// Whether every number that a relation gives to an element meets the comparison. The least and the
+// greatest of them tell it, however many there are.
 fn values_compare(model: &Model, rel: u32, source: Element, op: Op, number: u64) -> bool
     requires { model.now.ordered ≡ true }
     ensures { IsTrue result ↔ ((value : ℕ) → IsInModel model.now (facts.Pair rel source (Num value))
         → Compares op value number) }
 {
-    let Some(last) = greatest_value(model, rel, source) else {
-        return true;
-    };
-    let mut from = 0;
-    while let Some(value) = model.next_value(rel, source, from) {
-        if !compares(op, value, number) {
-            return false;
+    match op {
+        Op::Lt | Op::Le => greatest_compares(model, rel, source, op, number),
+        Op::Gt | Op::Ge => least_compares(model, rel, source, op, number),
+        Op::Eq => {
+            least_compares(model, rel, source, op, number)
+                && greatest_compares(model, rel, source, op, number)
         }
-        if value >= last {
-            return true;
-        }
-        from = value + 1;
+        Op::Ne => !has_value(model, rel, source, number),
     }
-    true
 }
 
 // Whether an element is a member of a set.

@@ -9,7 +9,7 @@ use Rattle.dsr_ir.specs.declared.tuples.Target.TheVariants.{Elem, Num}
 use Rattle.dsr_meaning.specs.Looking.{FindsGreatestCounted}
 use Rattle.dsr_model.specs.Facts.{IsInModel}
 use Rattle.dsr_truth.proofs.Compared.{greatest_value}
-use Rattle.dsr_truth.specs.Walks.{FindsGreatestValue}
+use Rattle.dsr_truth.specs.Values.{FindsGreatestValue}
 use Rattle.dsr_truth.proofs.literals.greatest_value.Goals as goal
 
 pub returns-in_err-fact : goal.returns-in_err-fact

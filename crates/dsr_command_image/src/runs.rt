@@ -8,13 +8,10 @@ use dsr_image::Whole;
 use dsr_ir::{Layout, NoMemory, Spec};
 use dsr_log::Log;
 use dsr_plan_theory::Plan;
-use dsr_repair::Repair;
+use dsr_repair::{ROUND, Repair};
 use dsr_repair_theory::Outcome;
 use dsr_report::push_entries;
 use std::alloc::Global;
-
-/// How many steps are made before they are told: the log of no more takes memory at a time.
-const ROUND: usize = 4_096;
 
 /// A repair that ended.
 #[derive(Drop)]

@@ -30,5 +30,5 @@ pub use drafts::Draft;
 pub use dues::{due, due_from};
 pub use making::make;
 pub use repairs::repair;
-pub use rounds::Repair;
+pub use rounds::{ROUND, Repair};
 pub use steps::step;

@@ -6,16 +6,13 @@ ghost use Rattle.dsr_repair_theory.specs.Runs.{IsPartRun};
 ghost use Rattle.dsr_repair_theory.specs.Turns.{IsOutcome};
 ghost use Rattle.dsr_step_theory.specs.Images.{FixedFieldsStay, IsImageOf};
 
-use crate::rounds::Repair;
+use crate::rounds::{ROUND, Repair};
 use dsr_image::ImageBytes;
 use dsr_ir::{Layout, NoMemory};
 use dsr_log::Log;
 use dsr_plan_theory::Plan;
 use dsr_repair_theory::Outcome;
 use std::alloc::Global;
-
-/// How many steps a round has.
-const ROUND: usize = 4_096;
 
 // Makes round after round, until no step is left. That this ends is due to the bound.
 fn make_rounds<I: ImageBytes>(

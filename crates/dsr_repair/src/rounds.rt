@@ -17,6 +17,9 @@ use dsr_repair_theory::{Outcome, Turn};
 use dsr_resolve::ResolvedRules;
 use std::alloc::Global;
 
+/// How many steps a round has in a whole repair: the log of no more takes memory at a time.
+pub const ROUND: usize = 4_096;
+
 /// A repair under way: rules on its layout, the model of the bytes that were reached, where the
 /// next step is looked for, and room to draft it.
 pub struct Repair {

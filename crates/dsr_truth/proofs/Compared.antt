@@ -1,5 +1,5 @@
 -- Numbers of a model, compared.
-use Rattle.std.proofs.Common.{◌≡◌, ◌<◌, ◌≤◌, ◌↔◌, ℕ, Bool, true, false, not, and, IsTrue, MatchBool, Option, None, Some, refl, sym, ◌∙◌, subst, arith, inl, inr}
+use Rattle.std.proofs.Common.{◌≡◌, ◌<◌, ◌≤◌, ◌↔◌, ℕ, Bool, true, false, not, ◌⊎◌, IsTrue, MatchBool, Option, None, Some, refl, sym, ◌∙◌, subst, arith, inl, inr}
 use Rattle.dsr_ir.specs.declared.constraints.Bound.{Bound}
 use Rattle.dsr_ir.specs.declared.constraints.Measure.{Measure}
 use Rattle.dsr_ir.specs.declared.constraints.Measure.TheVariants.{Out}
@@ -126,34 +126,53 @@ module _ (Values : ℕ → Type 0) (number : ℕ) where
   all_from true reach = (λ _ v held. let far = reach v held in omega (arith, far.1, far.2), λ _. refl)
   all_from false some = not_all Ge some
 
-  pub all_alike : (least greatest : Bool)
-      → MatchBool least (ReachDown Values Eq number) (SomeFails Values Eq number)
+  pub all_alike : (greatest : Bool) → ReachDown Values Eq number
       → MatchBool greatest (ReachUp Values Eq number) (SomeFails Values Eq number)
-      → (answer : Bool) → answer ≡ and least greatest
-      → IsTrue answer ↔ ((v : ℕ) → Values v → Compares Eq v number)
-  all_alike true true down up answer is = (
+      → IsTrue greatest ↔ ((v : ℕ) → Values v → Compares Eq v number)
+  all_alike true down up = (
     λ _ v held.
         let low = down v held in
         let high = up v held in
         omega (arith, low.1, low.2, high.1, high.2),
-    λ _. is,
+    λ _. refl,
   )
-  all_alike true false down up answer is = (
-    λ yes. absurd cc,
-    λ all. absurd (up.2 (all up.0 up.1)),
-  )
-  all_alike false greatest down up answer is = (
-    λ yes. absurd cc,
-    λ all. absurd (down.2 (all down.0 down.1)),
+  all_alike false down some = not_all Eq some
+
+  -- ---- by the comparison
+
+  abbrev pub Tells : Op → Bool → Type 0
+  Tells op answer = IsTrue answer ↔ ((v : ℕ) → Values v → Compares op v number)
+
+  pub tells_up : (op : Op) (answer : Bool) → (op ≡ Lt) ⊎ (op ≡ Le)
+      → MatchBool answer (ReachUp Values op number) (SomeFails Values op number) → Tells op answer
+  tells_up op answer (inl is) told = subst (λ o. Tells o answer) (sym is) (all_below answer
+      (subst (λ o. MatchBool answer (ReachUp Values o number) (SomeFails Values o number)) is told))
+  tells_up op answer (inr is) told = subst (λ o. Tells o answer) (sym is) (all_within answer
+      (subst (λ o. MatchBool answer (ReachUp Values o number) (SomeFails Values o number)) is told))
+
+  pub tells_down : (op : Op) (answer : Bool) → (op ≡ Gt) ⊎ (op ≡ Ge)
+      → MatchBool answer (ReachDown Values op number) (SomeFails Values op number) → Tells op answer
+  tells_down op answer (inl is) told = subst (λ o. Tells o answer) (sym is) (all_above answer
+      (subst (λ o. MatchBool answer (ReachDown Values o number) (SomeFails Values o number)) is told))
+  tells_down op answer (inr is) told = subst (λ o. Tells o answer) (sym is) (all_from answer
+      (subst (λ o. MatchBool answer (ReachDown Values o number) (SomeFails Values o number)) is told))
+
+  pub tells_alike : (op : Op) (least greatest : Bool) → op ≡ Eq → least ≡ true
+      → MatchBool least (ReachDown Values op number) (SomeFails Values op number)
+      → MatchBool greatest (ReachUp Values op number) (SomeFails Values op number)
+      → Tells op greatest
+  tells_alike op least greatest is held down up =
+      let low = subst (λ b. MatchBool b (ReachDown Values op number) (SomeFails Values op number)) held down in
+      subst (λ o. Tells o greatest) (sym is) (all_alike greatest
+      (subst (λ o. ReachDown Values o number) is low)
+      (subst (λ o. MatchBool greatest (ReachUp Values o number) (SomeFails Values o number)) is up))
+
+  all_other : (has : Bool) → IsTrue has ↔ Values number → Tells Ne (not has)
+  all_other true told = (λ yes. absurd cc, λ all. absurd (all number (told.0 refl) refl))
+  all_other false told = (
+    λ _ v held same. let yes = told.1 (subst Values same held) in cc,
+    λ _. refl,
   )
 
-  pub all_other : (has answer : Bool) → IsTrue has ↔ Values number → answer ≡ not has
-      → IsTrue answer ↔ ((v : ℕ) → Values v → Compares Ne v number)
-  all_other true answer told is = (
-    λ yes. absurd cc,
-    λ all. absurd (all number (told.0 refl) refl),
-  )
-  all_other false answer told is = (
-    λ _ v held same. let yes = told.1 (subst Values same held) in absurd cc,
-    λ _. is,
-  )
+  pub tells_other : (op : Op) (has : Bool) → op ≡ Ne → IsTrue has ↔ Values number → Tells op (not has)
+  tells_other op has is told = subst (λ o. Tells o (not has)) (sym is) (all_other has told)

@@ -1,5 +1,5 @@
 -- Numbers that a relation gives to an element, compared with another number.
-use Rattle.std.specs.Prelude.{◌≤◌, ⊥, ℕ, Option, MatchOption}
+use Rattle.std.specs.Prelude.{◌≤◌, ℕ, Option, MatchOption}
 use Rattle.dsr_ir.specs.declared.rules.Op.{Op}
 use Rattle.dsr_meaning.specs.Instances.{Compares}
 

@@ -1,0 +1,3 @@
+pub mod ToldTexts
+pub mod Answered
+pub mod Joined

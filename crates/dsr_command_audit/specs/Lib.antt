@@ -1,0 +1,6 @@
+pub mod ReportTexts
+pub mod Misread
+pub mod Laid
+pub mod Logs
+pub mod Audited
+pub mod Undone

@@ -82,7 +82,14 @@ pub fn step_backed<I: ImageBytes>(
     backing.prepare(plan, layout, rules, update, &step);
     make(plan.spec(), layout, &step, update, image, draft, log)?;
     renew(
-        model, backing, plan.spec(), layout, rules, image, update, &step,
+        model,
+        backing,
+        plan.spec(),
+        layout,
+        rules,
+        image,
+        update,
+        &step,
     );
     cursor.last = Some(Violation {
         constraint: step.constraint,

@@ -41,5 +41,5 @@ returns g c =
       cursor = cursor_begins c.args.plan.now.0 c.args.plan.now.1 c.args.layout.now old c.in_ok-cursor.cursor
           (subst (λ choice. IsRepairOrder choice c.in_ok-cursor.cursor.order.items) c.choice.ensures.is c.in_ok-cursor.ensures.ordered)
           c.in_ok-cursor.ensures.begins;
-      backed = subst (λ o. IfSome o (IsSupportFor c.args.plan.now.0 c.args.layout.now old c.in_ok-rules.rules c.rebuild.new.model)) (sym c.new-2.ensures) tt;
+      backed = subst (λ o. IfSome o (IsSupportFor c.args.plan.now.0 c.args.layout.now old c.in_ok-rules.rules c.rebuild.new.model)) (sym c.new-3.ensures) tt;
     }

@@ -6,6 +6,7 @@
 //! OOPSLA 2003.
 #![tactic(auto)]
 
+mod backing;
 mod bindings;
 mod choosing;
 mod cursors;

@@ -4,9 +4,10 @@ ghost use Rattle.dsr_plan_theory.specs.Plans.{IsPlan};
 ghost use Rattle.dsr_repair.specs.Rounds.{EndsRound, IsRound, IsUnderWay};
 ghost use Rattle.dsr_step_theory.specs.Images.{IsImageOf};
 
+use crate::backing::Backing;
 use crate::cursors::Cursor;
 use crate::drafts::Draft;
-use crate::steps::step;
+use crate::steps::step_backed;
 use dsr_fixpoint::rebuild;
 use dsr_image::ImageBytes;
 use dsr_ir::{Layout, NoMemory};
@@ -21,10 +22,11 @@ use std::alloc::Global;
 pub const ROUND: usize = 4_096;
 
 /// A repair under way: rules on its layout, the model of the bytes that were reached, where the
-/// next step is looked for, and room to draft it.
+/// next step is looked for, what supports the model, and room to draft a step.
 pub struct Repair {
     rules: ResolvedRules,
     model: Model,
+    backing: Backing,
     cursor: Cursor,
     draft: Draft,
 }
@@ -34,6 +36,7 @@ impl Drop for Repair {
         let Repair {
             rules: _,
             model: _,
+            backing: _,
             cursor: _,
             draft: _,
         } = self;
@@ -59,6 +62,7 @@ impl Repair {
         Ok(Repair {
             rules,
             model,
+            backing: Backing::new(alloc),
             cursor,
             draft: Draft::new(alloc),
         })
@@ -85,12 +89,13 @@ impl Repair {
             (I.ImageBytes.bytes image.new) most log.old.entries log.new.entries) }
     {
         for _made in 0..most {
-            match step(
+            match step_backed(
                 plan,
                 layout,
                 &self.rules,
                 image,
                 &mut self.model,
+                &mut self.backing,
                 &mut self.cursor,
                 &mut self.draft,
                 log,

@@ -1,5 +1,5 @@
 // One step.
-ghost use Rattle.std.specs.Prelude.{◌≡◌, IfOk, OnErr, option_map};
+ghost use Rattle.std.specs.Prelude.{◌≡◌, IfOk, IfSome, OnErr, option_map};
 ghost use Rattle.dsr_image.specs.Images.{StayClaimed};
 ghost use Rattle.dsr_repair.specs.Cursors.{IsCursorOn};
 ghost use Rattle.dsr_repair.specs.Planned.{chosen_update};
@@ -7,7 +7,9 @@ ghost use Rattle.dsr_repair.specs.Stepping.{Brings, IsModelled, IsMoved, TakesTu
 ghost use Rattle.dsr_repair_theory.specs.Turns.{IsTurn};
 ghost use Rattle.dsr_resolve.specs.Rules.{AreResolved};
 ghost use Rattle.dsr_step_theory.specs.Images.{FixedFieldsStay};
+ghost use Rattle.dsr_supported.specs.Supported.{IsSupportFor};
 
+use crate::backing::Backing;
 use crate::bindings::Violation;
 use crate::cursors::Cursor;
 use crate::drafts::Draft;
@@ -33,6 +35,67 @@ fn update_of<'a>(plan: &'a Plan, step: &Step) -> Option<&'a Update>
         Way::By(_, template) => template.updates.items().get(step.update as usize),
         Way::Test => None,
     }
+}
+
+// The step that is due, with what supports the model.
+pub fn step_backed<I: ImageBytes>(
+    plan: &Plan,
+    layout: &Layout,
+    rules: &ResolvedRules,
+    image: &mut I,
+    model: &mut Model,
+    backing: &mut Backing,
+    cursor: &mut Cursor,
+    draft: &mut Draft,
+    log: &mut Log,
+) -> Result<Turn, NoMemory>
+    requires modelled { IsModelled plan.now.0 layout.now (I.ImageBytes.bytes image.old) model.old }
+    requires rules { AreResolved plan.now.0 layout.now rules.now }
+    requires cursor { IsCursorOn plan.now.0 plan.now.1 layout.now (I.ImageBytes.bytes image.old) cursor.old }
+    requires backed { IfSome backing.old.support (IsSupportFor plan.now.0 layout.now
+        (I.ImageBytes.bytes image.old) rules.now model.old) }
+    ensures turn { IfOk result (IsTurn plan.now.0 plan.now.1 layout.now (I.ImageBytes.bytes image.old)) }
+    ensures taken { IfOk result (TakesTurn plan.now.0 plan.now.1 layout.now
+        (state (I.ImageBytes.bytes image.old) log.old.entries model.old)
+        (state (I.ImageBytes.bytes image.new) log.new.entries model.new)) }
+    ensures brings { IfOk result (Brings plan.now.0 plan.now.1 layout.now (I.ImageBytes.bytes image.old)
+        (I.ImageBytes.bytes image.new)) }
+    ensures stays { OnErr result (state (I.ImageBytes.bytes image.new) log.new.entries model.new
+        ≡ state (I.ImageBytes.bytes image.old) log.old.entries model.old) }
+    ensures fixed { FixedFieldsStay plan.now.0.base (I.ImageBytes.bytes image.old)
+        (I.ImageBytes.bytes image.new) }
+    ensures modelled { IsModelled plan.now.0 layout.now (I.ImageBytes.bytes image.new) model.new }
+    ensures cursor { IsCursorOn plan.now.0 plan.now.1 layout.now (I.ImageBytes.bytes image.new) cursor.new }
+    ensures moved { IfOk result (IsMoved cursor.old cursor.new) }
+    ensures rests { OnErr result (cursor.new ≡ cursor.old) }
+    ensures kept { StayClaimed (I.ImageBytes.claimed image.old) (I.ImageBytes.claimed image.new) }
+    ensures backed { IfSome backing.new.support (IsSupportFor plan.now.0 layout.now
+        (I.ImageBytes.bytes image.new) rules.now model.new) }
+{
+    let turn = due_from(plan, layout, image, model, cursor);
+    let Turn::Step(step) = turn else {
+        return Ok(turn);
+    };
+    let Some(update) = update_of(plan, &step) else {
+        unreachable!();
+    };
+    backing.prepare(plan, layout, rules, update, &step);
+    make(plan.spec(), layout, &step, update, image, draft, log)?;
+    renew(
+        model,
+        backing,
+        plan.spec(),
+        layout,
+        rules,
+        image,
+        update,
+        &step,
+    );
+    cursor.last = Some(Violation {
+        constraint: step.constraint,
+        binding: step.binding,
+    });
+    Ok(turn)
 }
 
 /// Makes the step that is due, pushes its entry, makes the model that of the new bytes, and moves
@@ -69,18 +132,16 @@ pub fn step<I: ImageBytes>(
     ensures rests { OnErr result (cursor.new ≡ cursor.old) }
     ensures kept { StayClaimed (I.ImageBytes.claimed image.old) (I.ImageBytes.claimed image.new) }
 {
-    let turn = due_from(plan, layout, image, model, cursor);
-    let Turn::Step(step) = turn else {
-        return Ok(turn);
-    };
-    let Some(update) = update_of(plan, &step) else {
-        unreachable!();
-    };
-    make(plan.spec(), layout, &step, update, image, draft, log)?;
-    renew(model, plan.spec(), layout, rules, image, update, &step);
-    cursor.last = Some(Violation {
-        constraint: step.constraint,
-        binding: step.binding,
-    });
-    Ok(turn)
+    let mut backing = Backing::never();
+    step_backed(
+        plan,
+        layout,
+        rules,
+        image,
+        model,
+        &mut backing,
+        cursor,
+        draft,
+        log,
+    )
 }

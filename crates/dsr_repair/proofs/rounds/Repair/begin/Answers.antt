@@ -1,5 +1,5 @@
 -- A repair that begins.
-use Rattle.std.proofs.Common.{◌≤◌, length, sym, subst}
+use Rattle.std.proofs.Common.{◌≤◌, IfSome, length, sym, subst}
 use Rattle.dsr_fixpoint.specs.Models.{IsLaidOut, IsModelOf, IsPreparedFor}
 use Rattle.dsr_plan_theory.specs.declared.choices.Choice.{Choice}
 use Rattle.dsr_repair.proofs.Moved.{cursor_begins, few_rows}
@@ -8,6 +8,7 @@ use Rattle.dsr_repair.specs.Orders.{IsRepairOrder}
 use Rattle.dsr_plan_theory.specs.Plans.{IsPlan}
 use Rattle.dsr_resolve.proofs.AcceptedLayouts.{legal_of}
 use Rattle.dsr_resolve.specs.Rules.{AreResolved}
+use Rattle.dsr_supported.specs.Supported.{IsSupportFor}
 use Rattle.dsr_repair.proofs.rounds.Repair.begin.Goals as goal
 
 pub new-requires : goal.new-requires
@@ -40,4 +41,5 @@ returns g c =
       cursor = cursor_begins c.args.plan.now.0 c.args.plan.now.1 c.args.layout.now old c.in_ok-cursor.cursor
           (subst (λ choice. IsRepairOrder choice c.in_ok-cursor.cursor.order.items) c.choice.ensures.is c.in_ok-cursor.ensures.ordered)
           c.in_ok-cursor.ensures.begins;
+      backed = subst (λ o. IfSome o (IsSupportFor c.args.plan.now.0 c.args.layout.now old c.in_ok-rules.rules c.rebuild.new.model)) (sym c.new-3.ensures) tt;
     }

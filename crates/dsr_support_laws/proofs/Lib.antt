@@ -1,0 +1,4 @@
+pub mod Same
+pub mod Counting
+pub mod Steps
+pub mod Laws

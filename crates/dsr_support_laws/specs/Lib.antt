@@ -1,0 +1,4 @@
+pub mod Counts
+pub mod Sources
+pub mod Firing
+pub mod Keeping

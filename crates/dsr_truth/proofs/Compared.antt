@@ -84,8 +84,12 @@ greatest_value is_fact rel source (Some (Pair r e (Num n))) most =
 module _ (Values : ℕ → Type 0) (number : ℕ) where
   pub fails : (op : Op) (value : ℕ) → Values value → compares op value number ≡ false
       → SomeFails Values op number
-  fails op value held is = (value, held, λ holds.
-      absurd (let yes = (decides_compares op value number).1 holds in cc))
+  fails op value held is = (
+    value,
+    held,
+    λ holds.
+        absurd (let yes = (decides_compares op value number).1 holds in cc),
+  )
 
   pub greatest_tells : (op : Op) (answer : Bool) (value : ℕ) → IsGreatestValue Values value
       → answer ≡ compares op value number

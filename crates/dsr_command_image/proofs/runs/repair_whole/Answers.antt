@@ -17,7 +17,7 @@ pub rounds-preserved : goal.rounds-preserved
 rounds-preserved c = record {
   told = told_on c.args.plan.now.0 c.spec.result.now c.args.plan.now.1 c.args.layout.now c.args.image c.rounds.fixed c.go_on.new.image
       c.rounds.text.items c.tell_log.new.text.items c.rounds.count c.in_ok-count.count c.clear.new.self.entries c.go_on.new.log.entries
-      c.spec.ensures.is c.rounds.invariant.told c.clear.ensures c.go_on.ensures.round c.in_ok-count.ensures.count c.in_ok-count.ensures.told;
+      c.spec.ensures.is c.rounds.invariant.told c.clear.ensures.entries c.go_on.ensures.round c.in_ok-count.ensures.count c.in_ok-count.ensures.told;
   under_way = c.go_on.ensures.under_way;
 }
 
@@ -25,7 +25,7 @@ pub returns-in-Some : goal.returns-in-Some
 returns-in-Some c =
     let told = told_on c.args.plan.now.0 c.spec.result.now c.args.plan.now.1 c.args.layout.now c.args.image c.rounds.fixed c.go_on.new.image
     c.rounds.text.items c.tell_log.new.text.items c.rounds.count c.in_ok-count.count c.clear.new.self.entries c.go_on.new.log.entries
-    c.spec.ensures.is c.rounds.invariant.told c.clear.ensures c.go_on.ensures.round c.in_ok-count.ensures.count c.in_ok-count.ensures.told in
+    c.spec.ensures.is c.rounds.invariant.told c.clear.ensures.entries c.go_on.ensures.round c.in_ok-count.ensures.count c.in_ok-count.ensures.told in
     record {
       run = record {
         entries = told.entries;
@@ -43,7 +43,7 @@ pub rounds-smaller : goal.rounds-smaller
 rounds-smaller c =
     let told = told_on c.args.plan.now.0 c.spec.result.now c.args.plan.now.1 c.args.layout.now c.args.image c.rounds.fixed c.go_on.new.image
     c.rounds.text.items c.tell_log.new.text.items c.rounds.count c.in_ok-count.count c.clear.new.self.entries c.go_on.new.log.entries
-    c.spec.ensures.is c.rounds.invariant.told c.clear.ensures c.go_on.ensures.round c.in_ok-count.ensures.count c.in_ok-count.ensures.told in
+    c.spec.ensures.is c.rounds.invariant.told c.clear.ensures.entries c.go_on.ensures.round c.in_ok-count.ensures.count c.in_ok-count.ensures.told in
     let full = subst (EndsRound c.args.plan.now.0 c.args.plan.now.1 c.args.layout.now c.go_on.new.image
     4096 c.clear.new.self.entries c.go_on.new.log.entries) c.in_default.is c.in_ok-ended.ensures.ends in
     let counted = c.in_ok-count.ensures.count in

@@ -49,7 +49,7 @@ unreachable-requires-then-is_err g c =
     let new = g.I.ImageBytes.bytes c.step.new.image in
     let plan = subst (λ s. IsPlan s c.args.plan.now.1) c.spec-spec.ensures.is c.spec-spec.ensures.plan in
     let logged = subst (TakesTurn c.args.plan.now.0 c.args.plan.now.1 c.args.layout.now (state old c.clear.new.self.entries c.args.model.now) (state new c.step.new.log.entries c.step.new.model)) c.in-Step.is c.in_ok-step.ensures.taken in
-    let due_is : c.in-Some.due ≡ logged.entry = only_pushed c.clear.new.self.entries c.step.new.log.entries c.next.new.self logged.entry c.in-Some.due c.clear.ensures logged.pushed (sym c.entries.ensures ∙ c.in-Some.ensures.steps) in
+    let due_is : c.in-Some.due ≡ logged.entry = only_pushed c.clear.new.self.entries c.step.new.log.entries c.next.new.self logged.entry c.in-Some.due c.clear.ensures.entries logged.pushed (sym c.entries.ensures ∙ c.in-Some.ensures.steps) in
     let lines_are : c.bytes.result.now ≡ logged.entry.bytes = c.bytes.ensures ∙ ap (λ (e : Entry). e.bytes) due_is in
     let base_is : c.new-fixed.result ≡ c.args.plan.now.0.base = c.new-fixed.ensures ∙ ap (λ (s : Spec). s.base) c.spec-spec.ensures.is in
     let stopped = is_stopped c.lines_back.result c.if-is_err.ensures.value c.lines_back.ensures.refused in
@@ -64,7 +64,7 @@ returns-clause-unlike g c =
     let new = g.I.ImageBytes.bytes c.step.new.image in
     let plan = subst (λ s. IsPlan s c.args.plan.now.1) c.spec-spec.ensures.is c.spec-spec.ensures.plan in
     let logged = subst (TakesTurn c.args.plan.now.0 c.args.plan.now.1 c.args.layout.now (state old c.clear.new.self.entries c.args.model.now) (state new c.step.new.log.entries c.step.new.model)) c.in-Step.is c.in_ok-step.ensures.taken in
-    let due_is : c.in-Some.due ≡ logged.entry = only_pushed c.clear.new.self.entries c.step.new.log.entries c.next.new.self logged.entry c.in-Some.due c.clear.ensures logged.pushed (sym c.entries.ensures ∙ c.in-Some.ensures.steps) in
+    let due_is : c.in-Some.due ≡ logged.entry = only_pushed c.clear.new.self.entries c.step.new.log.entries c.next.new.self logged.entry c.in-Some.due c.clear.ensures.entries logged.pushed (sym c.entries.ensures ∙ c.in-Some.ensures.steps) in
     let lines_are : c.bytes.result.now ≡ logged.entry.bytes = c.bytes.ensures ∙ ap (λ (e : Entry). e.bytes) due_is in
     let base_is : c.new-fixed.result ≡ c.args.plan.now.0.base = c.new-fixed.ensures ∙ ap (λ (s : Spec). s.base) c.spec-spec.ensures.is in
     text_fault c.args.plan.now.0 c.args.plan.now.1 c.args.layout.now plan old c.requires.modelled.image logged.entry new logged.made c.args.number c.args.told.now c.in-Some-mismatch.fault
@@ -77,7 +77,7 @@ returns-clause-stays g c =
     let new = g.I.ImageBytes.bytes c.step.new.image in
     let plan = subst (λ s. IsPlan s c.args.plan.now.1) c.spec-spec.ensures.is c.spec-spec.ensures.plan in
     let logged = subst (TakesTurn c.args.plan.now.0 c.args.plan.now.1 c.args.layout.now (state old c.clear.new.self.entries c.args.model.now) (state new c.step.new.log.entries c.step.new.model)) c.in-Step.is c.in_ok-step.ensures.taken in
-    let due_is : c.in-Some.due ≡ logged.entry = only_pushed c.clear.new.self.entries c.step.new.log.entries c.next.new.self logged.entry c.in-Some.due c.clear.ensures logged.pushed (sym c.entries.ensures ∙ c.in-Some.ensures.steps) in
+    let due_is : c.in-Some.due ≡ logged.entry = only_pushed c.clear.new.self.entries c.step.new.log.entries c.next.new.self logged.entry c.in-Some.due c.clear.ensures.entries logged.pushed (sym c.entries.ensures ∙ c.in-Some.ensures.steps) in
     let lines_are : c.bytes.result.now ≡ logged.entry.bytes = c.bytes.ensures ∙ ap (λ (e : Entry). e.bytes) due_is in
     let base_is : c.new-fixed.result ≡ c.args.plan.now.0.base = c.new-fixed.ensures ∙ ap (λ (s : Spec). s.base) c.spec-spec.ensures.is in
     back_is c.args.plan.now.0 c.args.plan.now.1 c.args.layout.now plan old c.requires.modelled.image logged.entry new logged.made (g.I.ImageBytes.bytes c.lines_back.new.image)

@@ -1,6 +1,6 @@
 -- A command, as its words ask for it.
 use Rattle.std.specs.Prelude.{ℕ, List}
-use Rattle.dsr_command_theory.specs.Words.{Asked, Certify, Check, Plan, Repair, Text, Trial, Verify}
+use Rattle.dsr_command_theory.specs.Words.{Asked, Certify, Check, Lost, Plan, Repair, Text, Trial, Verify, Why}
 use Rattle.dsr_cli.specs.declared.words.Command.{Command}
 use Rattle.dsr_cli.specs.declared.words.Command.TheVariants as commands
 use Rattle.dsr_cli.specs.declared.words.Task.{Task}
@@ -10,10 +10,12 @@ use Rattle.dsr_cli.specs.declared.words.Task.TheVariants as tasks
 abbrev pub asked_for : List ℕ → Task → Asked
 asked_for spec (tasks.Certify certificate) = Certify spec certificate.now
 asked_for spec (tasks.Check image) = Check spec image.now
+asked_for spec (tasks.Lost image) = Lost spec image.now
 asked_for spec tasks.Plan = Plan spec
 asked_for spec (tasks.Repair image out) = Repair spec image.now out.now
 asked_for spec tasks.Text = Text spec
 asked_for spec (tasks.Verify certificate) = Verify spec certificate.now
+asked_for spec (tasks.Why image fact) = Why spec image.now fact.now
 
 abbrev pub asked_of : Command → Asked
 asked_of (commands.Of spec task) = asked_for spec.now task

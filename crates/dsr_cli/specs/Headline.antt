@@ -1,6 +1,7 @@
 -- What the program does: the theorem of the whole.
 use Rattle.std.specs.Prelude.{ℕ, List}
 use Rattle.dsr_command_theory.specs.Commands.{asked}
+use Rattle.dsr_command_laws.specs.FactHeadlines.{ExplainsFacts, ExplainsNothingElse, ListsNothingElse, ListsRecords}
 use Rattle.dsr_command_laws.specs.ImageHeadlines.{ChecksImages, ChecksNothingElse, PrintsTexts, TellsUsage}
 use Rattle.dsr_command_laws.specs.PlanHeadlines.{CertifiesNothingElse, CertifiesPlans, FindsNothingElse, FindsPlans, VerifiesCertificates, VerifiesNothingElse}
 use Rattle.dsr_command_laws.specs.RepairHeadlines.{RepairsImages, RepairsLast, RepairsNothingElse, TellsTrials}
@@ -44,3 +45,10 @@ pub record Headline (words : List (List ℕ)) (before after : Outside) (status :
   pub lasting : RepairsLast words before after status
   -- `trial` tells the answer of its number, and saves nothing
   pub trials : TellsTrials words before after status
+  -- `why` tells the first of the shortest chains of a fact, or outside of which set the record is,
+  -- or that no fact has the text, exactly where that is so
+  pub facts : ExplainsFacts words before after status
+  pub no_other_facts : ExplainsNothingElse words before after status
+  -- `lost` tells exactly the records that no set has
+  pub lost : ListsRecords words before after status
+  pub no_others_lost : ListsNothingElse words before after status

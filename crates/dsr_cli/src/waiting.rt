@@ -1,7 +1,7 @@
 // Commands that wait for a file.
 ghost use Rattle.std.specs.Prelude.{◌≡◌, ◌≤◌, ◌+◌, IfOk, Some, length};
 ghost use Rattle.dsr_command_theory.specs.Commands as commands;
-ghost use Rattle.dsr_command_theory.specs.Commands.{loads_certificate, loads_image, plans_repair, reads, repairs, saves_plan, script_of, tells_text};
+ghost use Rattle.dsr_command_theory.specs.Commands.{loads_certificate, loads_explained, loads_image, loads_listed, plans_repair, reads, repairs, saves_plan, script_of, tells_text};
 ghost use Rattle.dsr_cli.specs.Asking.{asked_of};
 ghost use Rattle.dsr_cli.specs.Stages.{comes_to, due, is_ready, left, loaded_for};
 ghost use Rattle.dsr_meaning.specs.Typed.{IsTyped};
@@ -16,6 +16,7 @@ use dsr_command_certify::{Certified, certify, verify};
 use dsr_command_image::{Repaired, check, repair};
 use dsr_command_plan::{Found, find, plan, refused};
 use dsr_command_trial::trial;
+use dsr_command_why::{lost, why};
 use dsr_compile::{Reading, read};
 use dsr_ir::{NoMemory, Spec};
 use dsr_parse::print;
@@ -46,6 +47,13 @@ pub enum Waiting<'a> {
     },
     /// `verify`, for the certificate, with the specification that the text means.
     Certificate(Spec),
+    /// `why`, for the image, with the specification that the text means.
+    Explained {
+        spec: Spec,
+        fact: &'a str,
+    },
+    /// `lost`, for the image, with the specification that the text means.
+    Listed(Spec),
 }
 
 // The most bytes of an image.
@@ -146,6 +154,36 @@ fn load_damaged<'a>(
     }
 }
 
+// `why` goes on with the specification.
+fn load_explained<'a>(spec: Spec, image: &'a str, fact: &'a str) -> Move<'a, Waiting<'a>>
+    requires typed { IsTyped spec }
+    ensures ready { IsReady is_ready result }
+    ensures follows { Follows due (loads_explained image.now fact.now spec) result }
+    ensures fewer { loads_of left result ≤ 1 }
+{
+    Move::Load {
+        name: image,
+        limit: image_limit(&spec),
+        long: b"too long image\n",
+        stage: Waiting::Explained { spec, fact },
+    }
+}
+
+// `lost` goes on with the specification.
+fn load_listed<'a>(spec: Spec, image: &'a str) -> Move<'a, Waiting<'a>>
+    requires typed { IsTyped spec }
+    ensures ready { IsReady is_ready result }
+    ensures follows { Follows due (loads_listed image.now spec) result }
+    ensures fewer { loads_of left result ≤ 1 }
+{
+    Move::Load {
+        name: image,
+        limit: image_limit(&spec),
+        long: b"too long image\n",
+        stage: Waiting::Listed(spec),
+    }
+}
+
 // What a task comes to for the specification of a tree.
 fn go_on_with<'a>(
     alloc: Global,
@@ -161,10 +199,12 @@ fn go_on_with<'a>(
     match task {
         Task::Certify { certificate } => save_certificate(alloc, &spec, certificate),
         Task::Check { image } => Ok(load_image(spec, image)),
+        Task::Lost { image } => Ok(load_listed(spec, image)),
         Task::Plan => Ok(Move::Tell(plan(alloc, &spec)?)),
         Task::Repair { image, out } => load_damaged(alloc, spec, image, out),
         Task::Text => tell_text(alloc, tree),
         Task::Verify { certificate } => Ok(load_certificate(spec, certificate)),
+        Task::Why { image, fact } => Ok(load_explained(spec, image, fact)),
     }
 }
 
@@ -226,6 +266,10 @@ fn next_move<'a>(
         Waiting::Image(spec) => Ok(Move::Tell(check(alloc, &spec, bytes)?)),
         Waiting::Damaged { spec, choice, out } => save_repaired(alloc, &spec, choice, bytes, out),
         Waiting::Certificate(spec) => Ok(Move::Tell(verify(alloc, &spec, &bytes)?)),
+        Waiting::Explained { spec, fact } => {
+            Ok(Move::Tell(why(alloc, &spec, bytes, fact.as_bytes())?))
+        }
+        Waiting::Listed(spec) => Ok(Move::Tell(lost(alloc, &spec, bytes)?)),
     }
 }
 

@@ -11,6 +11,8 @@ pub enum Task<'a> {
     Certify { certificate: &'a str },
     /// Whether the image of this name is consistent under it is told.
     Check { image: &'a str },
+    /// The records of the image that no set has are told.
+    Lost { image: &'a str },
     /// Its plan is told.
     Plan,
     /// The image is repaired by its plan, and what comes of it saved under the other name.
@@ -19,6 +21,8 @@ pub enum Task<'a> {
     Text,
     /// Whether the file of this name is the certificate of a plan for it is told.
     Verify { certificate: &'a str },
+    /// A shortest chain of rules that gives the fact of this text in the image is told.
+    Why { image: &'a str, fact: &'a str },
 }
 
 /// A command, with the names of its files.
@@ -112,6 +116,9 @@ fn with_two<'a>(command: &str, spec: &'a str, file: &'a str) -> Option<Command<'
     if command == "verify" {
         return of(spec, Task::Verify { certificate: file });
     }
+    if command == "lost" {
+        return of(spec, Task::Lost { image: file });
+    }
     None
 }
 
@@ -125,12 +132,20 @@ fn repair<'a>(spec: &'a str, image: &'a str, out: &'a str) -> Option<Command<'a>
     of(spec, Task::Repair { image, out })
 }
 
-// The one with three.
-fn with_three<'a>(command: &str, spec: &'a str, image: &'a str, out: &'a str) -> Option<Command<'a>>
-    ensures { option_map asked_of result ≡ said.with_three command.now spec.now image.now out.now }
+// Those with three.
+fn with_three<'a>(
+    command: &str,
+    spec: &'a str,
+    image: &'a str,
+    word: &'a str,
+) -> Option<Command<'a>>
+    ensures { option_map asked_of result ≡ said.with_three command.now spec.now image.now word.now }
 {
     if command == "repair" {
-        return repair(spec, image, out);
+        return repair(spec, image, word);
+    }
+    if command == "why" {
+        return of(spec, Task::Why { image, fact: word });
     }
     None
 }
@@ -152,15 +167,15 @@ pub fn command_of(words: &[String]) -> Option<Command<'_>>
             }
             with_two(command.as_str(), spec.as_str(), file.as_str())
         }
-        [command, spec, image, out] => {
-            if is_odd(spec.as_str()) || is_odd(image.as_str()) || is_odd(out.as_str()) {
+        [command, spec, image, word] => {
+            if is_odd(spec.as_str()) || is_odd(image.as_str()) || is_odd(word.as_str()) {
                 return None;
             }
             with_three(
                 command.as_str(),
                 spec.as_str(),
                 image.as_str(),
-                out.as_str(),
+                word.as_str(),
             )
         }
         _ => None,

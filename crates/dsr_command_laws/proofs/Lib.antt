@@ -9,3 +9,4 @@ pub mod ImagesRepaired
 pub mod TrialsTold
 pub mod Lasting
 pub mod Tellings
+pub mod FactsExplained

@@ -3,13 +3,17 @@ use Rattle.std.proofs.Common.{◌≡◌, ◌↔◌, ℕ, List, [], ◌∷◌, No
 use Rattle.dsr_answers.specs.Refused.{IsRefused, no_meaning, no_token, past_limit, unexpected}
 use Rattle.dsr_answers.specs.Texts.{layout_answer, verdict_answer}
 use Rattle.dsr_command_laws.proofs.Tellings.{Spoken, spoken}
-use Rattle.dsr_command_theory.specs.Commands.{asked, certifies, checks, ends, goes_on, loads_certificate, loads_damaged, loads_image, loads_spec, plans_repair, reads, repairs, saves_plan, script_of, tells_plan, tells_text, usage, verifies}
+use Rattle.dsr_command_theory.specs.Commands.{asked, certifies, checks, ends, explains, goes_on, lists_lost, loads_certificate, loads_damaged, loads_explained, loads_image, loads_listed, loads_spec, plans_repair, reads, repairs, saves_plan, script_of, tells_plan, tells_text, usage, verifies}
 use Rattle.dsr_command_theory.specs.Usage.{AskForNothing}
-use Rattle.dsr_command_theory.specs.Words.{Asked, Certify, Check, Plan, Repair, Text, Trial, Verify, command_of}
+use Rattle.dsr_command_theory.specs.Words.{Asked, Certify, Check, Lost, Plan, Repair, Text, Trial, Verify, Why, command_of}
 use Rattle.dsr_cert.specs.Certificates.{certificate_text}
 use Rattle.dsr_command_image.specs.Checked.{IsCheckAnswer, checked, refused}
 use Rattle.dsr_command_certify.specs.Certified.{certified_answer}
 use Rattle.dsr_command_certify.specs.Verified.{IsVerifyAnswer, flawed, valid, wrong}
+use Rattle.dsr_command_why.specs.Losts.{IsLostAnswer}
+use Rattle.dsr_command_why.specs.Losts.IsLostAnswer.{listed, unlaid as lost_unlaid}
+use Rattle.dsr_command_why.specs.Whys.{IsWhyAnswer}
+use Rattle.dsr_command_why.specs.Whys.IsWhyAnswer.{chained, no_chain, outside, unlaid as why_unlaid}
 use Rattle.dsr_ir.specs.declared.declarations.Spec.{Spec}
 use Rattle.dsr_meaning.specs.Consistency.{BoundConstraint}
 use Rattle.dsr_command_plan.specs.Planned.{IsPlanAnswer, answer_of}
@@ -124,6 +128,16 @@ trial_otherwise number _ (trials.unplanned spec set means stuck none) = no_plan
 trial_otherwise number _ (trials.unlaid spec refusal means first) = no_layout
 trial_otherwise number _ (trials.stopped spec choice layout entries new need means taken laid run) = no_supply
 
+why_otherwise : (spec : Spec) (image word : List ℕ) (answer : Answer) → IsWhyAnswer spec image word answer → NotUsage answer
+why_otherwise spec image word _ (why_unlaid refusal first) = no_layout
+why_otherwise spec image word _ (chained layout fact is lines laid_out text_is first are_lines) = no_ok
+why_otherwise spec image word _ (outside layout set base elem laid_out text_is base_is member) = no_ok
+why_otherwise spec image word _ (no_chain layout laid_out none) = no_ok
+
+lost_otherwise : (spec : Spec) (image : List ℕ) (answer : Answer) → IsLostAnswer spec image answer → NotUsage answer
+lost_otherwise spec image _ (lost_unlaid refusal first) = no_layout
+lost_otherwise spec image _ (listed layout es laid_out lost) = no_ok
+
 -- ---- commands
 
 never_reads : (text : List ℕ) (after : TreeShape → Script) → ((tree : TreeShape) → Never (after tree)) → Never (reads text after)
@@ -174,6 +188,12 @@ never_asked (Trial number) = never_tells (IsTrial number) (trial_otherwise numbe
 never_asked (Verify spec certificate) =
     never_behind spec (λ tree. loads_certificate certificate (specification tree)) (λ tree.
     never_loads certificate _ _ (verifies (specification tree)) (λ bytes. never_tells (IsVerifyAnswer (specification tree) bytes) (verify_otherwise (specification tree) bytes)))
+never_asked (Lost spec image) =
+    never_behind spec (λ tree. loads_listed image (specification tree)) (λ tree.
+    never_loads image _ _ (lists_lost (specification tree)) (λ bytes. never_tells (IsLostAnswer (specification tree) bytes) (lost_otherwise (specification tree) bytes)))
+never_asked (Why spec image fact) =
+    never_behind spec (λ tree. loads_explained image fact (specification tree)) (λ tree.
+    never_loads image _ _ (explains fact (specification tree)) (λ bytes. never_tells (IsWhyAnswer (specification tree) bytes fact) (why_otherwise (specification tree) bytes fact)))
 
 -- ---- runs
 

@@ -8,8 +8,8 @@ use Rattle.std.specs.Char.{is_ascii_digit}
 use Rattle.std.specs.Str.{all_ascii_digits, bytes_eq}
 use Rattle.std.specs.Str.Parse.{digits_value}
 use Rattle.dsr_meaning.specs.Counting.{IsIn}
-use Rattle.dsr_command_theory.specs.Usage.{AskForNothing, word_lacks, dash, otherwise, count, over_spec, trial_lacks, no_command, HasNoTrial, no_trial, other_count, IsTrialNumber, SavesOverSpec, certificate, repaired, Says, says_certify, says_check, says_plan, says_repair, says_text, says_trial, says_verify, Takes, certify, check, plan, repair, text, trial, verify}
-use Rattle.dsr_command_theory.specs.Words.{Asked, Certify, Check, Plan, Repair, Text, Trial, Verify, command_of, is_odd, to_certify, to_repair, to_try, with_one, with_three, with_two}
+use Rattle.dsr_command_theory.specs.Usage.{AskForNothing, word_lacks, dash, otherwise, count, over_spec, trial_lacks, no_command, HasNoTrial, no_trial, other_count, IsTrialNumber, SavesOverSpec, certificate, repaired, Says, says_certify, says_check, says_lost, says_plan, says_repair, says_text, says_trial, says_verify, says_why, Takes, certify, check, lost, plan, repair, text, trial, verify, why}
+use Rattle.dsr_command_theory.specs.Words.{Asked, Certify, Check, Lost, Plan, Repair, Text, Trial, Verify, Why, command_of, is_odd, to_certify, to_repair, to_try, with_one, with_three, with_two}
 
 -- ---- tests
 
@@ -44,16 +44,23 @@ IsUnknown name = (n : ℕ) → Takes name n → ⊥
 abbrev IsKnown : List ℕ → Type 0
 IsKnown name = (n : ℕ) × Takes name n
 
-none_of_all : (name : List ℕ) → bytes_eq name (codes "certify") ≡ false → bytes_eq name (codes "check") ≡ false
-    → bytes_eq name (codes "plan") ≡ false → bytes_eq name (codes "repair") ≡ false → bytes_eq name (codes "text") ≡ false
-    → bytes_eq name (codes "trial") ≡ false → bytes_eq name (codes "verify") ≡ false → IsUnknown name
-none_of_all _ a b c d e f g _ certify = let h : true ≡ false = a in cc
-none_of_all _ a b c d e f g _ check = let h : true ≡ false = b in cc
-none_of_all _ a b c d e f g _ plan = let h : true ≡ false = c in cc
-none_of_all _ a b c d e f g _ repair = let h : true ≡ false = d in cc
-none_of_all _ a b c d e f g _ text = let h : true ≡ false = e in cc
-none_of_all _ a b c d e f g _ trial = let h : true ≡ false = f in cc
-none_of_all _ a b c d e f g _ verify = let h : true ≡ false = g in cc
+abbrev IsNot : (name this : List ℕ) → Type 0
+IsNot name this = bytes_eq name this ≡ false
+
+none_of_all : (name : List ℕ)
+    → IsNot name (codes "certify") → IsNot name (codes "check") → IsNot name (codes "lost") → IsNot name (codes "plan")
+    → IsNot name (codes "repair") → IsNot name (codes "text") → IsNot name (codes "trial") → IsNot name (codes "verify")
+    → IsNot name (codes "why")
+    → IsUnknown name
+none_of_all _ a b c d e f g h i _ certify = let h : true ≡ false = a in cc
+none_of_all _ a b c d e f g h i _ check = let h : true ≡ false = b in cc
+none_of_all _ a b c d e f g h i _ lost = let h : true ≡ false = c in cc
+none_of_all _ a b c d e f g h i _ plan = let h : true ≡ false = d in cc
+none_of_all _ a b c d e f g h i _ repair = let h : true ≡ false = e in cc
+none_of_all _ a b c d e f g h i _ text = let h : true ≡ false = f in cc
+none_of_all _ a b c d e f g h i _ trial = let h : true ≡ false = g in cc
+none_of_all _ a b c d e f g h i _ verify = let h : true ≡ false = h in cc
+none_of_all _ a b c d e f g h i _ why = let h : true ≡ false = i in cc
 
 -- a name is that of a command, or one goes on
 named : (name this : List ℕ) (n : ℕ) → Takes this n → (bytes_eq name this ≡ false → IsKnown name ⊎ IsUnknown name) → IsKnown name ⊎ IsUnknown name
@@ -66,11 +73,13 @@ known : (name : List ℕ) → IsKnown name ⊎ IsUnknown name
 known name =
     named name (codes "certify") 2 certify (λ a.
     named name (codes "check") 2 check (λ b.
-    named name (codes "plan") 1 plan (λ c.
-    named name (codes "repair") 3 repair (λ d.
-    named name (codes "text") 1 text (λ e.
-    named name (codes "trial") 1 trial (λ f.
-    named name (codes "verify") 2 verify (λ g. inr (none_of_all name a b c d e f g))))))))
+    named name (codes "lost") 2 lost (λ c.
+    named name (codes "plan") 1 plan (λ d.
+    named name (codes "repair") 3 repair (λ e.
+    named name (codes "text") 1 text (λ f.
+    named name (codes "trial") 1 trial (λ g.
+    named name (codes "verify") 2 verify (λ h.
+    named name (codes "why") 3 why (λ i. inr (none_of_all name a b c d e f g h i))))))))))
 
 -- another name is unlike each command's
 unlike : (name this : List ℕ) (n : ℕ) → Takes this n → IsUnknown name → bytes_eq name this ≡ false
@@ -87,10 +96,10 @@ one_unknown name word unknown =
 
 two_unknown : (name spec file : List ℕ) → IsUnknown name → with_two name spec file ≡ None
 two_unknown name spec file unknown =
-    rw (unlike name (codes "check") 2 check unknown, unlike name (codes "certify") 2 certify unknown, unlike name (codes "verify") 2 verify unknown) refl
+    rw (unlike name (codes "check") 2 check unknown, unlike name (codes "certify") 2 certify unknown, unlike name (codes "verify") 2 verify unknown, unlike name (codes "lost") 2 lost unknown) refl
 
 three_unknown : (name spec image out : List ℕ) → IsUnknown name → with_three name spec image out ≡ None
-three_unknown name spec image out unknown = rw (unlike name (codes "repair") 3 repair unknown) refl
+three_unknown name spec image out unknown = rw (unlike name (codes "repair") 3 repair unknown, unlike name (codes "why") 3 why unknown) refl
 
 unknown_none : (name : List ℕ) (more : List (List ℕ)) → IsUnknown name → command_of (name ∷ more) ≡ None
 unknown_none name [] unknown = refl
@@ -105,11 +114,13 @@ unknown_none name (a ∷ b ∷ c ∷ d ∷ more) unknown = refl
 odd_unknown : (name : List ℕ) → is_odd name ≡ true → IsUnknown name
 odd_unknown _ odd _ certify = let h : false ≡ true = odd in cc
 odd_unknown _ odd _ check = let h : false ≡ true = odd in cc
+odd_unknown _ odd _ lost = let h : false ≡ true = odd in cc
 odd_unknown _ odd _ plan = let h : false ≡ true = odd in cc
 odd_unknown _ odd _ repair = let h : false ≡ true = odd in cc
 odd_unknown _ odd _ text = let h : false ≡ true = odd in cc
 odd_unknown _ odd _ trial = let h : false ≡ true = odd in cc
 odd_unknown _ odd _ verify = let h : false ≡ true = odd in cc
+odd_unknown _ odd _ why = let h : false ≡ true = odd in cc
 
 odd_behind_none : (name : List ℕ) (more : List (List ℕ)) (word : List ℕ) → is_odd word ≡ true → IsIn word more
     → command_of (name ∷ more) ≡ None
@@ -139,29 +150,35 @@ odd_none (name ∷ more) word odd (inr later) = odd_behind_none name more word o
 one_other : (name : List ℕ) (n : ℕ) (a : List ℕ) → Takes name n → 1 ≢ n → with_one name a ≡ None
 one_other _ _ a certify other = refl
 one_other _ _ a check other = refl
+one_other _ _ a lost other = refl
 one_other _ _ a plan other = absurd (other refl)
 one_other _ _ a repair other = refl
 one_other _ _ a text other = absurd (other refl)
 one_other _ _ a trial other = absurd (other refl)
 one_other _ _ a verify other = refl
+one_other _ _ a why other = refl
 
 two_other : (name : List ℕ) (n : ℕ) (a b : List ℕ) → Takes name n → 2 ≢ n → with_two name a b ≡ None
 two_other _ _ a b certify other = absurd (other refl)
 two_other _ _ a b check other = absurd (other refl)
+two_other _ _ a b lost other = absurd (other refl)
 two_other _ _ a b plan other = refl
 two_other _ _ a b repair other = refl
 two_other _ _ a b text other = refl
 two_other _ _ a b trial other = refl
 two_other _ _ a b verify other = absurd (other refl)
+two_other _ _ a b why other = refl
 
 three_other : (name : List ℕ) (n : ℕ) (a b c : List ℕ) → Takes name n → 3 ≢ n → with_three name a b c ≡ None
 three_other _ _ a b c certify other = refl
 three_other _ _ a b c check other = refl
+three_other _ _ a b c lost other = refl
 three_other _ _ a b c plan other = refl
 three_other _ _ a b c repair other = absurd (other refl)
 three_other _ _ a b c text other = refl
 three_other _ _ a b c trial other = refl
 three_other _ _ a b c verify other = refl
+three_other _ _ a b c why other = absurd (other refl)
 
 count_none : (name : List ℕ) (more : List (List ℕ)) (n : ℕ) → Takes name n → length more ≢ n → command_of (name ∷ more) ≡ None
 count_none name [] n takes other = refl
@@ -284,6 +301,13 @@ two_reason name a b asked none = elim (none_by (is_odd a || is_odd b) (Some aske
   | inr never ↦ absurd (some_not_none (Some asked) asked refl never)
 ]
 
+three_reason : (name a b c : List ℕ) (asked : Asked) → (if is_odd a || is_odd b || is_odd c then None else Some asked) ≡ None
+    → AskForNothing (name ∷ a ∷ b ∷ c ∷ [])
+three_reason name a b c asked none = elim (none_by (is_odd a || is_odd b || is_odd c) (Some asked) none) [
+  | inl odd ↦ odd_of_three name a b c odd
+  | inr never ↦ absurd (some_not_none (Some asked) asked refl never)
+]
+
 certify_reason : (a b : List ℕ) → command_of (codes "certify" ∷ a ∷ b ∷ []) ≡ None → AskForNothing (codes "certify" ∷ a ∷ b ∷ [])
 certify_reason a b none = elim (none_by (is_odd a || is_odd b) (to_certify a b) none) [
   | inl odd ↦ odd_of_two (codes "certify") a b odd
@@ -341,20 +365,24 @@ module _ (P : List (List ℕ) → Type 0) where
   record EachCommand : Type 0 where
     certify : (a b : List ℕ) → P (codes "certify" ∷ a ∷ b ∷ [])
     check : (a b : List ℕ) → P (codes "check" ∷ a ∷ b ∷ [])
+    lost : (a b : List ℕ) → P (codes "lost" ∷ a ∷ b ∷ [])
     plan : (a : List ℕ) → P (codes "plan" ∷ a ∷ [])
     repair : (a b c : List ℕ) → P (codes "repair" ∷ a ∷ b ∷ c ∷ [])
     text : (a : List ℕ) → P (codes "text" ∷ a ∷ [])
     trial : (a : List ℕ) → P (codes "trial" ∷ a ∷ [])
     verify : (a b : List ℕ) → P (codes "verify" ∷ a ∷ b ∷ [])
+    why : (a b c : List ℕ) → P (codes "why" ∷ a ∷ b ∷ c ∷ [])
 
   same_count : (name : List ℕ) (more : List (List ℕ)) (n : ℕ) → Takes name n → length more ≡ n → EachCommand → P (name ∷ more)
   same_count _ more _ certify same each = by_pair (codes "certify") more same each.certify
   same_count _ more _ check same each = by_pair (codes "check") more same each.check
+  same_count _ more _ lost same each = by_pair (codes "lost") more same each.lost
   same_count _ more _ plan same each = by_single (codes "plan") more same each.plan
   same_count _ more _ repair same each = by_triple (codes "repair") more same each.repair
   same_count _ more _ text same each = by_single (codes "text") more same each.text
   same_count _ more _ trial same each = by_single (codes "trial") more same each.trial
   same_count _ more _ verify same each = by_pair (codes "verify") more same each.verify
+  same_count _ more _ why same each = by_triple (codes "why") more same each.why
 
   -- words are none, or begin otherwise than with a command, or are not so many as it takes, or are those of a command
   by_words : P [] → ((name : List ℕ) (more : List (List ℕ)) → IsUnknown name → P (name ∷ more))
@@ -377,11 +405,13 @@ reason = by_words (λ words. command_of words ≡ None → AskForNothing words)
     (record {
       certify = certify_reason;
       check = λ a b none. two_reason (codes "check") a b (Check a b) none;
+      lost = λ a b none. two_reason (codes "lost") a b (Lost a b) none;
       plan = λ a none. one_reason (codes "plan") a (Plan a) none;
       repair = repair_reason;
       text = λ a none. one_reason (codes "text") a (Text a) none;
       trial = trial_reason;
       verify = λ a b none. two_reason (codes "verify") a b (Verify a b) none;
+      why = λ a b c none. three_reason (codes "why") a b c (Why a b c) none;
     })
 
 -- ---- what comes is what the words say
@@ -398,6 +428,11 @@ two_asked : (name a b : List ℕ) (this asked : Asked) → Says (name ∷ a ∷ 
     → Says (name ∷ a ∷ b ∷ []) asked
 two_asked name a b this asked says some =
     subst (Says (name ∷ a ∷ b ∷ [])) (same_Some this asked (some_by (is_odd a || is_odd b) (Some this) asked some)) says
+
+three_asked : (name a b c : List ℕ) (this asked : Asked) → Says (name ∷ a ∷ b ∷ c ∷ []) this
+    → (if is_odd a || is_odd b || is_odd c then None else Some this) ≡ Some asked → Says (name ∷ a ∷ b ∷ c ∷ []) asked
+three_asked name a b c this asked says some =
+    subst (Says (name ∷ a ∷ b ∷ c ∷ [])) (same_Some this asked (some_by (is_odd a || is_odd b || is_odd c) (Some this) asked some)) says
 
 certify_asked : (a b : List ℕ) (asked : Asked) → command_of (codes "certify" ∷ a ∷ b ∷ []) ≡ Some asked → Says (codes "certify" ∷ a ∷ b ∷ []) asked
 certify_asked a b asked some =
@@ -430,11 +465,13 @@ asks = by_words (λ words. (asked : Asked) → command_of words ≡ Some asked �
     (record {
       certify = certify_asked;
       check = λ a b asked. two_asked (codes "check") a b (Check a b) asked (says_check a b);
+      lost = λ a b asked. two_asked (codes "lost") a b (Lost a b) asked (says_lost a b);
       plan = λ a asked. one_asked (codes "plan") a (Plan a) asked (says_plan a);
       repair = repair_asked;
       text = λ a asked. one_asked (codes "text") a (Text a) asked (says_text a);
       trial = trial_asked;
       verify = λ a b asked. two_asked (codes "verify") a b (Verify a b) asked (says_verify a b);
+      why = λ a b c asked. three_asked (codes "why") a b c (Why a b c) asked (says_why a b c);
     })
 
 -- ---- and what the words say comes, where there is no reason against it
@@ -454,6 +491,11 @@ two_said : (name a b : List ℕ) (o : Option Asked) (asked : Asked) → (AskForN
 two_said name a b o asked reasonless comes =
     behind (is_odd a || is_odd b) o asked (λ odd. reasonless (odd_of_two name a b odd)) (λ fails. comes)
 
+three_said : (name a b c : List ℕ) (o : Option Asked) (asked : Asked) → (AskForNothing (name ∷ a ∷ b ∷ c ∷ []) → ⊥) → o ≡ Some asked
+    → (if is_odd a || is_odd b || is_odd c then None else o) ≡ Some asked
+three_said name a b c o asked reasonless comes =
+    behind (is_odd a || is_odd b || is_odd c) o asked (λ odd. reasonless (odd_of_three name a b c odd)) (λ fails. comes)
+
 -- another name than that of the specification
 apart : (b a : List ℕ) (asked : Asked) → (b ≡ a → ⊥) → (if bytes_eq b a then None else Some asked) ≡ Some asked
 apart b a asked other = behind (bytes_eq b a) (Some asked) asked (λ same. other ((bytes_eq-Decides b a).0 same)) (λ fails. refl)
@@ -463,6 +505,7 @@ said _ _ (says_certify a b) reasonless =
     two_said (codes "certify") a b (to_certify a b) (Certify a b) reasonless
     (apart b a (Certify a b) (λ same. reasonless (over_spec (subst (λ w. SavesOverSpec (codes "certify" ∷ a ∷ w ∷ [])) (sym same) (certificate a)))))
 said _ _ (says_check a b) reasonless = two_said (codes "check") a b (Some (Check a b)) (Check a b) reasonless refl
+said _ _ (says_lost a b) reasonless = two_said (codes "lost") a b (Some (Lost a b)) (Lost a b) reasonless refl
 said _ _ (says_plan a) reasonless = one_said (codes "plan") a (Some (Plan a)) (Plan a) reasonless refl
 said _ _ (says_repair a b c) reasonless =
     behind (is_odd a || is_odd b || is_odd c) (to_repair a b c) (Repair a b c) (λ odd. reasonless (odd_of_three (codes "repair") a b c odd))
@@ -474,6 +517,7 @@ said _ _ (says_trial a) reasonless = one_said (codes "trial") a (to_try a) (Tria
     by (inl is) = tries a true is
     by (inr not) = absurd (reasonless (trial_lacks (no_trial a (λ is. let e : true ≡ false = sym (of_number a is) ∙ not in absurd cc))))
 said _ _ (says_verify a b) reasonless = two_said (codes "verify") a b (Some (Verify a b)) (Verify a b) reasonless refl
+said _ _ (says_why a b c) reasonless = three_said (codes "why") a b c (Some (Why a b c)) (Why a b c) reasonless refl
 
 -- words that ask for something have no reason to ask for nothing
 pub reasonless : (words : List (List ℕ)) (asked : Asked) → command_of words ≡ Some asked → AskForNothing words → ⊥

@@ -15,11 +15,13 @@ use Rattle.dsr_command_image.specs.Repaired.{Ending, IsRepairOf, Saves, Tells}
 use Rattle.dsr_script.specs.Scripts.{Answer, Script, loads, picks, saves, tells}
 use Rattle.dsr_script.specs.declared.status.Verdict.TheVariants as verdicts
 use Rattle.dsr_command_trial.specs.Trials.{IsTrial}
+use Rattle.dsr_command_why.specs.Losts.{IsLostAnswer}
+use Rattle.dsr_command_why.specs.Whys.{IsWhyAnswer}
 use Rattle.dsr_syntax_theory.specs.Canonical.{canonical}
 use Rattle.dsr_tree.specs.Trees.{TreeShape}
 use Rattle.dsr_language_theory.specs.Specifications.{specification}
 use Rattle.dsr_compile.specs.Readings.{Interpretation, IsInterpretation, Means, Refused}
-use Rattle.dsr_command_theory.specs.Words.{Asked, Certify, Check, Plan, Repair, Text, Trial, Verify, command_of}
+use Rattle.dsr_command_theory.specs.Words.{Asked, Certify, Check, Lost, Plan, Repair, Text, Trial, Verify, Why, command_of}
 
 -- the most bytes of a specification's text
 abbrev pub spec_limit : ℕ
@@ -52,8 +54,12 @@ loads_spec name after = loads name spec_limit (codes "too long spec\n") after
 abbrev pub checks : Spec → List ℕ → Script
 checks spec image = tells (IsCheckAnswer spec image)
 
+-- an image of the specification
+abbrev pub loads_for : List ℕ → Spec → (List ℕ → Script) → Script
+loads_for name spec after = loads name (image_limit spec) (codes "too long image\n") after
+
 abbrev pub loads_image : List ℕ → Spec → Script
-loads_image name spec = loads name (image_limit spec) (codes "too long image\n") (checks spec)
+loads_image name spec = loads_for name spec (checks spec)
 
 -- ---- the commands
 
@@ -111,7 +117,7 @@ repairs out spec choice image = picks (IsRepairOf spec choice image) (ends out)
 -- the image is loaded where there is a plan; where there is none, that is told
 abbrev pub loads_damaged : (image out : List ℕ) → Spec → plans.Found → Script
 loads_damaged image out spec (plan_found.Plan choice) =
-    loads image (image_limit spec) (codes "too long image\n") (repairs out spec choice)
+    loads_for image spec (repairs out spec choice)
 loads_damaged image out spec (plan_found.Stuck set) = tells (λ told. told ≡ refused_answer spec set)
 
 abbrev pub plans_repair : (image out : List ℕ) → Spec → Script
@@ -120,15 +126,38 @@ plans_repair image out spec = picks (planned.IsFound spec) (loads_damaged image 
 abbrev pub repair_after : (image out : List ℕ) → List ℕ → Script
 repair_after image out text = reads text (λ tree. plans_repair image out (specification tree))
 
+-- a chain of the fact is told
+abbrev pub explains : List ℕ → Spec → List ℕ → Script
+explains fact spec image = tells (IsWhyAnswer spec image fact)
+
+abbrev pub loads_explained : (image fact : List ℕ) → Spec → Script
+loads_explained image fact spec = loads_for image spec (explains fact spec)
+
+abbrev pub why_after : (image fact : List ℕ) → List ℕ → Script
+why_after image fact text =
+    reads text (λ tree. loads_explained image fact (specification tree))
+
+-- the records that no set has are told
+abbrev pub lists_lost : Spec → List ℕ → Script
+lists_lost spec image = tells (IsLostAnswer spec image)
+
+abbrev pub loads_listed : List ℕ → Spec → Script
+loads_listed image spec = loads_for image spec (lists_lost spec)
+
+abbrev pub lost_after : List ℕ → List ℕ → Script
+lost_after image text = reads text (λ tree. loads_listed image (specification tree))
+
 abbrev pub script_of : Option Asked → Script
 script_of None = tells (λ told. told ≡ usage)
-script_of (Some (Text spec)) = loads_spec spec text_after
-script_of (Some (Plan spec)) = loads_spec spec plan_after
-script_of (Some (Check spec image)) = loads_spec spec (check_after image)
 script_of (Some (Certify spec certificate)) = loads_spec spec (certify_after certificate)
+script_of (Some (Check spec image)) = loads_spec spec (check_after image)
+script_of (Some (Lost spec image)) = loads_spec spec (lost_after image)
+script_of (Some (Plan spec)) = loads_spec spec plan_after
 script_of (Some (Repair spec image out)) = loads_spec spec (repair_after image out)
+script_of (Some (Text spec)) = loads_spec spec text_after
 script_of (Some (Trial number)) = tells (IsTrial number)
 script_of (Some (Verify spec certificate)) = loads_spec spec (verify_after certificate)
+script_of (Some (Why spec image fact)) = loads_spec spec (why_after image fact)
 
 -- what the words ask for
 abbrev pub asked : List (List ℕ) → Script

@@ -2,17 +2,19 @@
 use Rattle.std.specs.Prelude.{◌≡◌, ◌≢◌, ◌≤◌, ◌⊎◌, ℕ, List, [], ◌∷◌, ◌++◌, length, codes}
 use Rattle.std.specs.Str.Parse.{digits_value}
 use Rattle.dsr_meaning.specs.Counting.{IsIn}
-use Rattle.dsr_command_theory.specs.Words.{Asked, Certify, Check, Plan, Repair, Text, Trial, Verify}
+use Rattle.dsr_command_theory.specs.Words.{Asked, Certify, Check, Lost, Plan, Repair, Text, Trial, Verify, Why}
 
 -- the commands, and how many words each takes behind it
 pub data Takes : List ℕ → ℕ → Type 0 where
   certify : Takes (codes "certify") 2
   check : Takes (codes "check") 2
+  lost : Takes (codes "lost") 2
   plan : Takes (codes "plan") 1
   repair : Takes (codes "repair") 3
   text : Takes (codes "text") 1
   trial : Takes (codes "trial") 1
   verify : Takes (codes "verify") 2
+  why : Takes (codes "why") 3
 
 -- ---- six reasons for which words ask for nothing
 
@@ -72,6 +74,8 @@ pub data Says : List (List ℕ) → Asked → Type 0 where
       → Says (codes "certify" ∷ spec ∷ certificate ∷ []) (Certify spec certificate)
   says_check :
       (spec image : List ℕ) → Says (codes "check" ∷ spec ∷ image ∷ []) (Check spec image)
+  says_lost :
+      (spec image : List ℕ) → Says (codes "lost" ∷ spec ∷ image ∷ []) (Lost spec image)
   says_plan : (spec : List ℕ) → Says (codes "plan" ∷ spec ∷ []) (Plan spec)
   says_repair :
       (spec image out : List ℕ)
@@ -81,3 +85,6 @@ pub data Says : List (List ℕ) → Asked → Type 0 where
   says_verify :
       (spec certificate : List ℕ)
       → Says (codes "verify" ∷ spec ∷ certificate ∷ []) (Verify spec certificate)
+  says_why :
+      (spec image fact : List ℕ)
+      → Says (codes "why" ∷ spec ∷ image ∷ fact ∷ []) (Why spec image fact)

@@ -9,6 +9,8 @@ pub data Asked : Type 0 where
   Certify : (spec certificate : List ℕ) → Asked
   -- whether an image is consistent under a specification
   Check : (spec image : List ℕ) → Asked
+  -- the records of an image that no set has
+  Lost : (spec image : List ℕ) → Asked
   -- the plan of a specification
   Plan : (spec : List ℕ) → Asked
   -- a repair of an image under a specification, saved under the last name
@@ -19,6 +21,8 @@ pub data Asked : Type 0 where
   Trial : (number : ℕ) → Asked
   -- whether a certificate is one of a plan of the specification
   Verify : (spec certificate : List ℕ) → Asked
+  -- a shortest chain of rules that gives the fact of this text in an image
+  Why : (spec image fact : List ℕ) → Asked
 
 -- an empty word, or one that begins with a dash
 abbrev pub is_odd : List ℕ → Bool
@@ -53,16 +57,19 @@ with_two command spec file =
     if bytes_eq command (codes "check") then Some (Check spec file)
     else if bytes_eq command (codes "certify") then to_certify spec file
     else if bytes_eq command (codes "verify") then Some (Verify spec file)
+    else if bytes_eq command (codes "lost") then Some (Lost spec file)
     else None
 
 -- what is saved has another name than the specification, and may have that of the image
 abbrev pub to_repair : (spec image out : List ℕ) → Option Asked
 to_repair spec image out = if bytes_eq out spec then None else Some (Repair spec image out)
 
--- the one with three
-abbrev pub with_three : (command spec image out : List ℕ) → Option Asked
-with_three command spec image out =
-    if bytes_eq command (codes "repair") then to_repair spec image out else None
+-- those with three
+abbrev pub with_three : (command spec image word : List ℕ) → Option Asked
+with_three command spec image word =
+    if bytes_eq command (codes "repair") then to_repair spec image word
+    else if bytes_eq command (codes "why") then Some (Why spec image word)
+    else None
 
 -- What the words ask for. None where they are no command: there is no word, the first one is none
 -- of the commands, not so many words stand behind it as it takes, one of these is an odd word,
@@ -71,6 +78,6 @@ abbrev pub command_of : List (List ℕ) → Option Asked
 command_of (command ∷ word ∷ []) = if is_odd word then None else with_one command word
 command_of (command ∷ spec ∷ file ∷ []) =
     if is_odd spec || is_odd file then None else with_two command spec file
-command_of (command ∷ spec ∷ image ∷ out ∷ []) =
-    if is_odd spec || is_odd image || is_odd out then None else with_three command spec image out
+command_of (command ∷ spec ∷ image ∷ word ∷ []) =
+    if is_odd spec || is_odd image || is_odd word then None else with_three command spec image word
 command_of _ = None

@@ -30,4 +30,8 @@ returns g c =
       no_other_repairs = c.images_are_repaired.ensures.nothing_else words before after status runs;
       lasting = c.images_are_repaired.ensures.last words before after status runs;
       trials = c.trials_are_told.ensures words before after status runs;
+      facts = c.facts_are_explained.ensures.facts words before after status runs;
+      no_other_facts = c.facts_are_explained.ensures.nothing_else words before after status runs;
+      lost = c.lost_records_are_listed.ensures.records words before after status runs;
+      no_others_lost = c.lost_records_are_listed.ensures.nothing_else words before after status runs;
     }

@@ -8,10 +8,11 @@ module _ {A : Type 0} (bytes : A → List ℕ) where
   too_few (a ∷ []) few = refl
   too_few (a ∷ b ∷ more) few = absurd (omega arith)
 
-  pub too_many : (words : List A) → 5 ≤ length words → None ≡ command_of (map bytes words)
+  pub too_many : (words : List A) → 6 ≤ length words → None ≡ command_of (map bytes words)
   too_many [] many = absurd (omega arith)
   too_many (a ∷ []) many = absurd (omega arith)
   too_many (a ∷ b ∷ []) many = absurd (omega arith)
   too_many (a ∷ b ∷ c ∷ []) many = absurd (omega arith)
   too_many (a ∷ b ∷ c ∷ d ∷ []) many = absurd (omega arith)
-  too_many (a ∷ b ∷ c ∷ d ∷ e ∷ more) many = refl
+  too_many (a ∷ b ∷ c ∷ d ∷ e ∷ []) many = absurd (omega arith)
+  too_many (a ∷ b ∷ c ∷ d ∷ e ∷ f ∷ more) many = refl

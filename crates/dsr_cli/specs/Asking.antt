@@ -1,6 +1,6 @@
 -- A command, as its words ask for it.
 use Rattle.std.specs.Prelude.{ℕ, List}
-use Rattle.dsr_command_theory.specs.Words.{Asked, Certify, Check, Lost, Plan, Repair, Text, Trial, Verify, Why}
+use Rattle.dsr_command_theory.specs.Words.{Asked, Certify, Check, Lost, Plan, Repair, Text, Trial, Undo, Verify, Why}
 use Rattle.dsr_cli.specs.declared.words.Command.{Command}
 use Rattle.dsr_cli.specs.declared.words.Command.TheVariants as commands
 use Rattle.dsr_cli.specs.declared.words.Task.{Task}
@@ -14,6 +14,7 @@ asked_for spec (tasks.Lost image) = Lost spec image.now
 asked_for spec tasks.Plan = Plan spec
 asked_for spec (tasks.Repair image out) = Repair spec image.now out.now
 asked_for spec tasks.Text = Text spec
+asked_for spec (tasks.Undo fixed report out) = Undo spec fixed.now report.now out.now
 asked_for spec (tasks.Verify certificate) = Verify spec certificate.now
 asked_for spec (tasks.Why image fact) = Why spec image.now fact.now
 

@@ -5,6 +5,7 @@ use Rattle.dsr_command_laws.specs.FactHeadlines.{ExplainsFacts, ExplainsNothingE
 use Rattle.dsr_command_laws.specs.ImageHeadlines.{ChecksImages, ChecksNothingElse, PrintsTexts, TellsUsage}
 use Rattle.dsr_command_laws.specs.PlanHeadlines.{CertifiesNothingElse, CertifiesPlans, FindsNothingElse, FindsPlans, VerifiesCertificates, VerifiesNothingElse}
 use Rattle.dsr_command_laws.specs.RepairHeadlines.{RepairsImages, RepairsLast, RepairsNothingElse, TellsTrials}
+use Rattle.dsr_command_laws.specs.UndoHeadlines.{UndoesNothingElse, UndoesRepairs}
 use Rattle.dsr_script.specs.Causes.{Causes}
 use Rattle.dsr_script.specs.Outside.{Outside}
 use Rattle.dsr_script.specs.Runs.{Runs}
@@ -52,3 +53,7 @@ pub record Headline (words : List (List ℕ)) (before after : Outside) (status :
   -- `lost` tells exactly the records that no set has
   pub lost : ListsRecords words before after status
   pub no_others_lost : ListsNothingElse words before after status
+  -- `undo` saves what the entries of a report lead back to, or tells the first line that it can't
+  -- take back
+  pub undone : UndoesRepairs words before after status
+  pub no_others_undone : UndoesNothingElse words before after status

@@ -1,6 +1,6 @@
 -- What a command that waits for a file does next, as a script.
 use Rattle.std.specs.Prelude.{◌≤◌, ℕ, List, length, ⊤}
-use Rattle.dsr_command_theory.specs.Commands.{checks, explains, lists_lost, loads_certificate, loads_explained, loads_image, loads_listed, plans_repair, reads, repairs, saves_plan, tells_plan, tells_text, verifies}
+use Rattle.dsr_command_theory.specs.Commands.{checks, explains, lists_lost, loads_certificate, loads_explained, loads_image, loads_listed, loads_repaired, loads_undone, plans_repair, reads, repairs, saves_plan, tells_plan, tells_text, undoes, verifies}
 use Rattle.dsr_meaning.specs.Typed.{IsTyped}
 use Rattle.dsr_plan_theory.specs.Taken.{IsTaken}
 use Rattle.dsr_script.specs.Scripts.{Script}
@@ -19,6 +19,8 @@ comes_to (tasks.Lost image) tree = loads_listed image.now (specification tree)
 comes_to tasks.Plan tree = tells_plan tree
 comes_to (tasks.Repair image out) tree = plans_repair image.now out.now (specification tree)
 comes_to tasks.Text tree = tells_text tree
+comes_to (tasks.Undo fixed report out) tree =
+    loads_repaired fixed.now report.now out.now (specification tree)
 comes_to (tasks.Verify certificate) tree = loads_certificate certificate.now (specification tree)
 comes_to (tasks.Why image fact) tree = loads_explained image.now fact.now (specification tree)
 
@@ -28,6 +30,8 @@ due (stages.Spec task) bytes = reads bytes (comes_to task)
 due (stages.Image spec) bytes = checks spec bytes
 due (stages.Damaged spec choice out) bytes = repairs out.now spec choice bytes
 due (stages.Certificate spec) bytes = verifies spec bytes
+due (stages.Repaired spec report out) bytes = loads_undone report.now out.now spec bytes
+due (stages.UndoneReport spec fixed out) bytes = undoes out.now spec fixed.items bytes
 due (stages.Explained spec fact) bytes = explains fact.now spec bytes
 due (stages.Listed spec) bytes = lists_lost spec bytes
 
@@ -39,6 +43,7 @@ loaded_for (tasks.Lost image) = 1
 loaded_for tasks.Plan = 0
 loaded_for (tasks.Repair image out) = 1
 loaded_for tasks.Text = 0
+loaded_for (tasks.Undo fixed report out) = 2
 loaded_for (tasks.Verify certificate) = 1
 loaded_for (tasks.Why image fact) = 1
 
@@ -48,16 +53,21 @@ left (stages.Spec task) = loaded_for task
 left (stages.Image spec) = 0
 left (stages.Damaged spec choice out) = 0
 left (stages.Certificate spec) = 0
+left (stages.Repaired spec report out) = 1
+left (stages.UndoneReport spec fixed out) = 0
 left (stages.Explained spec fact) = 0
 left (stages.Listed spec) = 0
 
--- an image and a certificate are waited for with a typed specification, and an image that is to be
--- repaired with the plan that is taken; an image isn't longer than any may be
+-- images, certificates and reports are waited for with a typed specification, and an image that is
+-- to be repaired with the plan that is taken; an image isn't longer than any may be
 abbrev pub is_ready : Waiting → List ℕ → Type 0
 is_ready (stages.Spec task) bytes = ⊤
 is_ready (stages.Image spec) bytes = IsTyped spec × (length bytes ≤ 67108864)
 is_ready (stages.Damaged spec choice out) bytes =
     IsTyped spec × IsTaken spec choice × (length bytes ≤ 67108864)
 is_ready (stages.Certificate spec) bytes = IsTyped spec
+is_ready (stages.Repaired spec report out) bytes = IsTyped spec × (length bytes ≤ 67108864)
+is_ready (stages.UndoneReport spec fixed out) bytes =
+    IsTyped spec × (length fixed.items ≤ 67108864)
 is_ready (stages.Explained spec fact) bytes = IsTyped spec × (length bytes ≤ 67108864)
 is_ready (stages.Listed spec) bytes = IsTyped spec × (length bytes ≤ 67108864)

@@ -6,8 +6,8 @@ ghost use Rattle.dsr_script.specs.Outside.{told_by};
 use crate::waiting::Waiting;
 use dsr_command_laws::{
     certificates_are_verified, facts_are_explained, images_are_checked, images_are_repaired,
-    lost_records_are_listed, plans_are_certified, plans_are_found, texts_are_printed,
-    trials_are_told, usage_is_told,
+    lost_records_are_listed, plans_are_certified, plans_are_found, repairs_are_undone,
+    texts_are_printed, trials_are_told, usage_is_told,
 };
 use dsr_script::Status;
 use dsr_store::{Shelf, Sink};
@@ -34,5 +34,6 @@ pub fn run<F: Shelf, O: Sink>(
     trials_are_told();
     facts_are_explained();
     lost_records_are_listed();
+    repairs_are_undone();
     dsr_script::run::<Waiting, F, O>(alloc, words, shelf, out)
 }

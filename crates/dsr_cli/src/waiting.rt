@@ -1,7 +1,7 @@
 // Commands that wait for a file.
 ghost use Rattle.std.specs.Prelude.{◌≡◌, ◌≤◌, ◌+◌, IfOk, Some, length};
 ghost use Rattle.dsr_command_theory.specs.Commands as commands;
-ghost use Rattle.dsr_command_theory.specs.Commands.{loads_certificate, loads_explained, loads_image, loads_listed, plans_repair, reads, repairs, saves_plan, script_of, tells_text};
+ghost use Rattle.dsr_command_theory.specs.Commands.{loads_certificate, loads_explained, loads_image, loads_listed, loads_repaired, loads_undone, plans_repair, reads, repairs, saves_plan, script_of, tells_text, undoes};
 ghost use Rattle.dsr_cli.specs.Asking.{asked_of};
 ghost use Rattle.dsr_cli.specs.Stages.{comes_to, due, is_ready, left, loaded_for};
 ghost use Rattle.dsr_meaning.specs.Typed.{IsTyped};
@@ -12,6 +12,7 @@ ghost use Rattle.dsr_tree.specs.Trees.{tree_shape};
 
 use crate::words::{Command, Task, command_of};
 use dsr_answers::told;
+use dsr_command_audit::{Undone, undo};
 use dsr_command_certify::{Certified, certify, verify};
 use dsr_command_image::{Repaired, check, repair};
 use dsr_command_plan::{Found, find, plan, refused};
@@ -31,6 +32,9 @@ const SPEC_LIMIT: u32 = 65_536;
 /// The most bytes of a certificate.
 const CERTIFICATE_LIMIT: u32 = 1_048_576;
 
+/// The most bytes of a report.
+const REPORT_LIMIT: u32 = 67_108_864;
+
 /// A command that waits for a file.
 #[derive(Drop)]
 pub enum Waiting<'a> {
@@ -47,6 +51,18 @@ pub enum Waiting<'a> {
     },
     /// `verify`, for the certificate, with the specification that the text means.
     Certificate(Spec),
+    /// `undo`, for the image that was repaired, with the specification that the text means.
+    Repaired {
+        spec: Spec,
+        report: &'a str,
+        out: &'a str,
+    },
+    /// `undo`, for the report, with the image as well.
+    UndoneReport {
+        spec: Spec,
+        fixed: Vec<u8>,
+        out: &'a str,
+    },
     /// `why`, for the image, with the specification that the text means.
     Explained {
         spec: Spec,
@@ -154,6 +170,26 @@ fn load_damaged<'a>(
     }
 }
 
+// `undo` goes on with the specification.
+fn load_repaired<'a>(
+    spec: Spec,
+    fixed: &'a str,
+    report: &'a str,
+    out: &'a str,
+) -> Move<'a, Waiting<'a>>
+    requires typed { IsTyped spec }
+    ensures ready { IsReady is_ready result }
+    ensures follows { Follows due (loads_repaired fixed.now report.now out.now spec) result }
+    ensures fewer { loads_of left result ≤ 2 }
+{
+    Move::Load {
+        name: fixed,
+        limit: image_limit(&spec),
+        long: b"too long image\n",
+        stage: Waiting::Repaired { spec, report, out },
+    }
+}
+
 // `why` goes on with the specification.
 fn load_explained<'a>(spec: Spec, image: &'a str, fact: &'a str) -> Move<'a, Waiting<'a>>
     requires typed { IsTyped spec }
@@ -203,6 +239,7 @@ fn go_on_with<'a>(
         Task::Plan => Ok(Move::Tell(plan(alloc, &spec)?)),
         Task::Repair { image, out } => load_damaged(alloc, spec, image, out),
         Task::Text => tell_text(alloc, tree),
+        Task::Undo { fixed, report, out } => Ok(load_repaired(spec, fixed, report, out)),
         Task::Verify { certificate } => Ok(load_certificate(spec, certificate)),
         Task::Why { image, fact } => Ok(load_explained(spec, image, fact)),
     }
@@ -250,6 +287,52 @@ fn save_repaired<'a>(
     }
 }
 
+// `undo` goes on with the image.
+fn load_undone<'a>(
+    spec: Spec,
+    fixed: Vec<u8>,
+    report: &'a str,
+    out: &'a str,
+) -> Move<'a, Waiting<'a>>
+    requires typed { IsTyped spec }
+    requires small { length fixed.items ≤ 67108864 }
+    ensures ready { IsReady is_ready result }
+    ensures follows { Follows due (loads_undone report.now out.now spec fixed.items) result }
+    ensures fewer { loads_of left result ≤ 1 }
+{
+    Move::Load {
+        name: report,
+        limit: REPORT_LIMIT,
+        long: b"too long report\n",
+        stage: Waiting::UndoneReport { spec, fixed, out },
+    }
+}
+
+// `undo` goes on with the report.
+fn save_undone<'a>(
+    alloc: Global,
+    spec: &Spec,
+    fixed: Vec<u8>,
+    report: &[u8],
+    out: &'a str,
+) -> Result<Move<'a, Waiting<'a>>, NoMemory>
+    requires typed { IsTyped spec.now }
+    requires small { length fixed.items ≤ 67108864 }
+    ensures ready { IfOk result (λ move. IsReady is_ready move) }
+    ensures follows { IfOk result (λ move. Follows due
+        (undoes out.now spec.now fixed.items report.now) move) }
+    ensures fewer { IfOk result (λ move. loads_of left move ≤ 0) }
+{
+    match undo(alloc, spec, fixed, report)? {
+        Undone::Saved(bytes, told) => Ok(Move::Save {
+            name: out,
+            bytes,
+            told,
+        }),
+        Undone::Unsaved(told) => Ok(Move::Tell(told)),
+    }
+}
+
 // What a command that waits does next, once the bytes of its file came.
 fn next_move<'a>(
     alloc: Global,
@@ -266,6 +349,8 @@ fn next_move<'a>(
         Waiting::Image(spec) => Ok(Move::Tell(check(alloc, &spec, bytes)?)),
         Waiting::Damaged { spec, choice, out } => save_repaired(alloc, &spec, choice, bytes, out),
         Waiting::Certificate(spec) => Ok(Move::Tell(verify(alloc, &spec, &bytes)?)),
+        Waiting::Repaired { spec, report, out } => Ok(load_undone(spec, bytes, report, out)),
+        Waiting::UndoneReport { spec, fixed, out } => save_undone(alloc, &spec, fixed, &bytes, out),
         Waiting::Explained { spec, fact } => {
             Ok(Move::Tell(why(alloc, &spec, bytes, fact.as_bytes())?))
         }

@@ -1,5 +1,5 @@
 // The words of the command line.
-ghost use Rattle.std.specs.Prelude.{◌≡◌, Some, map, option_map, string_bytes};
+ghost use Rattle.std.specs.Prelude.{◌≡◌, ◌||◌, Some, map, option_map, string_bytes};
 ghost use Rattle.dsr_cli.specs.Asking.{asked_for, asked_of};
 ghost use Rattle.std.specs.Str.{all_ascii_digits};
 ghost use Rattle.dsr_command_theory.specs.Words as said;
@@ -8,21 +8,42 @@ ghost use Rattle.dsr_command_theory.specs.Words as said;
 #[derive(Clone, Copy)]
 pub enum Task<'a> {
     /// The certificate of its plan is saved under this name.
-    Certify { certificate: &'a str },
+    Certify {
+        certificate: &'a str,
+    },
     /// Whether the image of this name is consistent under it is told.
-    Check { image: &'a str },
+    Check {
+        image: &'a str,
+    },
     /// The records of the image that no set has are told.
-    Lost { image: &'a str },
+    Lost {
+        image: &'a str,
+    },
     /// Its plan is told.
     Plan,
     /// The image is repaired by its plan, and what comes of it saved under the other name.
-    Repair { image: &'a str, out: &'a str },
+    Repair {
+        image: &'a str,
+        out: &'a str,
+    },
     /// Its canonical text is told.
     Text,
+    /// What the report tells is taken back from the first file, and what comes of it saved under the
+    /// last name.
+    Undo {
+        fixed: &'a str,
+        report: &'a str,
+        out: &'a str,
+    },
     /// Whether the file of this name is the certificate of a plan for it is told.
-    Verify { certificate: &'a str },
+    Verify {
+        certificate: &'a str,
+    },
     /// A shortest chain of rules that gives the fact of this text in the image is told.
-    Why { image: &'a str, fact: &'a str },
+    Why {
+        image: &'a str,
+        fact: &'a str,
+    },
 }
 
 /// A command, with the names of its files.
@@ -48,6 +69,17 @@ fn is_odd(word: &str) -> bool
         [] => true,
         [first, ..] => *first == b'-',
     }
+}
+
+// Whether one of four words is odd.
+fn any_odd(spec: &str, image: &str, file: &str, word: &str) -> bool
+    ensures { result ≡ said.is_odd spec.now || said.is_odd image.now || said.is_odd file.now
+        || said.is_odd word.now }
+{
+    if is_odd(spec) || is_odd(image) {
+        return true;
+    }
+    is_odd(file) || is_odd(word)
 }
 
 fn are_digits(word: &[u8]) -> bool
@@ -150,6 +182,32 @@ fn with_three<'a>(
     None
 }
 
+fn undo<'a>(spec: &'a str, fixed: &'a str, report: &'a str, out: &'a str) -> Option<Command<'a>>
+    ensures { option_map asked_of result ≡ said.to_undo spec.now fixed.now report.now out.now }
+{
+    if out == spec {
+        return None;
+    }
+    of(spec, Task::Undo { fixed, report, out })
+}
+
+// The one with four.
+fn with_four<'a>(
+    command: &str,
+    spec: &'a str,
+    image: &'a str,
+    file: &'a str,
+    word: &'a str,
+) -> Option<Command<'a>>
+    ensures { option_map asked_of result
+        ≡ said.with_four command.now spec.now image.now file.now word.now }
+{
+    if command == "undo" {
+        return undo(spec, image, file, word);
+    }
+    None
+}
+
 /// What the words ask for; none where they are no command.
 pub fn command_of(words: &[String]) -> Option<Command<'_>>
     ensures { option_map asked_of result ≡ said.command_of (map string_bytes words.now) }
@@ -175,6 +233,18 @@ pub fn command_of(words: &[String]) -> Option<Command<'_>>
                 command.as_str(),
                 spec.as_str(),
                 image.as_str(),
+                word.as_str(),
+            )
+        }
+        [command, spec, image, file, word] => {
+            if any_odd(spec.as_str(), image.as_str(), file.as_str(), word.as_str()) {
+                return None;
+            }
+            with_four(
+                command.as_str(),
+                spec.as_str(),
+                image.as_str(),
+                file.as_str(),
                 word.as_str(),
             )
         }

@@ -71,7 +71,7 @@ pub record RepairRun (files : Files) (spec_name image_name name : List ℕ) (bef
       ⊎ Planned (specification read.tree) files image_name name before after verdict
 
 module _ (before after : Outside) (files : Files) (held : before.held ≡ Some files) (verdict : Verdict) (image_name name : List ℕ) where
-  ended_at : (ending : Ending) (came : List Came) (next : Next) → ends name ending came next → Ends before after (Said verdict) next
+  pub ended_at : (ending : Ending) (came : List Came) (next : Next) → ends name ending came next → Ends before after (Said verdict) next
       → IsEnded name before after verdict ending
   ended_at (Saves bytes answer) [] next saved at =
       let told = said_at_save before after verdict name saved.0 saved.1 (subst (Ends before after (Said verdict)) saved.3 at) in (

@@ -10,3 +10,4 @@ pub mod TrialsTold
 pub mod Lasting
 pub mod Tellings
 pub mod FactsExplained
+pub mod RepairsUndone

@@ -57,6 +57,15 @@ pub record SecondRun (limit : Spec → ℕ) (Fits : Spec → List ℕ → Answer
   pub fits : Fits (specification read.tree) bytes answer
   pub speaks : Speaks before after verdict answer
 
+-- a file was loaded, and the command went on by its bytes
+pub record LoadedRun (then_by : List ℕ → Script) (before : Outside) (files : Files) (name : List ℕ) (limit : ℕ) (next : Next) : Type 0 where
+  pub bytes : List ℕ
+  pub file : get files name ≡ Some bytes
+  pub short : length bytes ≤ limit
+  pub more : List Came
+  pub script : then_by bytes more next
+  pub loaded : AllLoaded before more
+
 -- or an answer was told that fits its meaning
 pub record ToldRun (Fits : TreeShape → Answer → Type 0) (before after : Outside) (files : Files) (name : List ℕ) (verdict : Verdict) : Type 0 where
   pub read : ReadText files name
@@ -83,6 +92,22 @@ module _ (before after : Outside) (files : Files) (held : before.held ≡ Some f
       → Ends before after (Said verdict) next → ⊥
   loads_never name limit long next is ends =
       never_at_load before after verdict name limit long (subst (Ends before after (Said verdict)) is ends)
+
+  -- a command that loads a file next
+  pub load_told : (then_by : List ℕ → Script) (name : List ℕ) (limit : ℕ) (long : List ℕ) (came : List Came) (next : Next)
+      → loads name limit long then_by came next → AllLoaded before came → Ends before after (Said verdict) next
+      → LoadedRun then_by before files name limit next
+  load_told then_by name limit long [] next script loaded ends = absurd (loads_never name limit long next script ends)
+  load_told then_by name limit long (first ∷ more) next script loaded ends =
+      let file = whole first name limit (ap (λ c. c.name) script.0) (ap (λ c. c.limit) script.0) loaded.0 in
+      record {
+        bytes = first.bytes;
+        file = file.0;
+        short = file.1;
+        more = more;
+        script = script.1;
+        loaded = loaded.1;
+      }
 
   pub tells_one : (Fits : Answer → Type 0) (came : List Came) (next : Next) → tells Fits came next
       → Ends before after (Said verdict) next

@@ -1,15 +1,19 @@
 -- Words that ask for nothing are told so, and no command says that of others.
-use Rattle.std.proofs.Common.{◌≡◌, ◌↔◌, ℕ, List, [], ◌∷◌, None, Some, Option, refl, sym, ap, subst, ◌∙◌, inl, inr}
+use Rattle.std.proofs.Common.{◌≡◌, ◌↔◌, ℕ, List, length, [], ◌∷◌, None, Some, Option, refl, sym, ap, subst, ◌∙◌, inl, inr}
 use Rattle.dsr_answers.specs.Refused.{IsRefused, no_meaning, no_token, past_limit, unexpected}
 use Rattle.dsr_answers.specs.Texts.{layout_answer, verdict_answer}
 use Rattle.dsr_command_laws.proofs.Tellings.{Spoken, spoken}
-use Rattle.dsr_command_theory.specs.Commands.{asked, certifies, checks, ends, explains, goes_on, lists_lost, loads_certificate, loads_damaged, loads_explained, loads_image, loads_listed, loads_spec, plans_repair, reads, repairs, saves_plan, script_of, tells_plan, tells_text, usage, verifies}
+use Rattle.dsr_command_theory.specs.Commands.{asked, certifies, checks, ends, explains, goes_on, lists_lost, loads_certificate, loads_damaged, loads_explained, loads_image, loads_listed, loads_repaired, loads_spec, loads_undone, plans_repair, reads, repairs, saves_plan, script_of, tells_plan, tells_text, undoes, usage, verifies}
 use Rattle.dsr_command_theory.specs.Usage.{AskForNothing}
-use Rattle.dsr_command_theory.specs.Words.{Asked, Certify, Check, Lost, Plan, Repair, Text, Trial, Verify, Why, command_of}
+use Rattle.dsr_command_theory.specs.Words.{Asked, Certify, Check, Lost, Plan, Repair, Text, Trial, Undo, Verify, Why, command_of}
 use Rattle.dsr_cert.specs.Certificates.{certificate_text}
 use Rattle.dsr_command_image.specs.Checked.{IsCheckAnswer, checked, refused}
 use Rattle.dsr_command_certify.specs.Certified.{certified_answer}
 use Rattle.dsr_command_certify.specs.Verified.{IsVerifyAnswer, flawed, valid, wrong}
+use Rattle.dsr_command_audit.specs.ReportTexts.{undone_answer}
+use Rattle.dsr_command_audit.specs.ReportTexts as reports
+use Rattle.dsr_command_audit.specs.Undone.{IsUndoOf}
+use Rattle.dsr_command_audit.specs.Undone.IsUndoOf.{back, misread, stopped as undo_stopped}
 use Rattle.dsr_command_why.specs.Losts.{IsLostAnswer}
 use Rattle.dsr_command_why.specs.Losts.IsLostAnswer.{listed, unlaid as lost_unlaid}
 use Rattle.dsr_command_why.specs.Whys.{IsWhyAnswer}
@@ -98,6 +102,9 @@ no_supply is = cc
 no_certificate : verdicts.CertRefused ≡ verdicts.Usage → ⊥
 no_certificate is = cc
 
+no_report : verdicts.ReportRefused ≡ verdicts.Usage → ⊥
+no_report is = cc
+
 refused_otherwise : (text : List ℕ) (answer : Answer) → IsRefused text answer → NotUsage answer
 refused_otherwise text _ (no_token place is) = no_spec
 refused_otherwise text _ (unexpected place is) = no_spec
@@ -170,6 +177,14 @@ never_damaged image out spec (plan_found.Plan choice) =
     never_loads image _ _ (repairs out spec choice) (λ bytes. never_picks (IsRepairOf spec choice bytes) (ends out) (never_ends out spec choice bytes))
 never_damaged image out spec (plan_found.Stuck set) = never_tells_this (refused_answer spec set) no_plan
 
+never_undone : (out : List ℕ) (spec : Spec) (fixed report : List ℕ) (ending : Ending) → IsUndoOf spec fixed report ending → Never (ends out ending)
+never_undone out spec fixed report _ (back log new is_log taken) =
+    never_saves out (λ saved told. (saved ≡ new) × (told ≡ undone_answer (length log)))
+    (λ saved told is. same_answer told (undone_answer (length log)) is.1 no_ok)
+never_undone out spec fixed report _ (misread number first) = never_tells_this (reports.line_answer number) no_report
+never_undone out spec fixed report _ (undo_stopped log reached fault is_log refused) =
+    never_tells_this (reports.refused_answer (reports.undo_words fault)) no_report
+
 never_asked : (asked : Asked) → Never (script_of (Some asked))
 never_asked (Text spec) = never_behind spec tells_text (λ tree. never_tells_this (record { verdict = verdicts.Ok; text = canonical tree }) no_ok)
 never_asked (Plan spec) =
@@ -191,6 +206,11 @@ never_asked (Verify spec certificate) =
 never_asked (Lost spec image) =
     never_behind spec (λ tree. loads_listed image (specification tree)) (λ tree.
     never_loads image _ _ (lists_lost (specification tree)) (λ bytes. never_tells (IsLostAnswer (specification tree) bytes) (lost_otherwise (specification tree) bytes)))
+never_asked (Undo spec fixed report out) =
+    never_behind spec (λ tree. loads_repaired fixed report out (specification tree)) (λ tree.
+    never_loads fixed _ _ (loads_undone report out (specification tree)) (λ bytes.
+    never_loads report _ _ (undoes out (specification tree) bytes) (λ told.
+    never_picks (IsUndoOf (specification tree) bytes told) (ends out) (never_undone out (specification tree) bytes told))))
 never_asked (Why spec image fact) =
     never_behind spec (λ tree. loads_explained image fact (specification tree)) (λ tree.
     never_loads image _ _ (explains fact (specification tree)) (λ bytes. never_tells (IsWhyAnswer (specification tree) bytes fact) (why_otherwise (specification tree) bytes fact)))

@@ -3,3 +3,4 @@ pub mod PlanHeadlines
 pub mod Repairs
 pub mod RepairHeadlines
 pub mod FactHeadlines
+pub mod UndoHeadlines

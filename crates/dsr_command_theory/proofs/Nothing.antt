@@ -8,8 +8,8 @@ use Rattle.std.specs.Char.{is_ascii_digit}
 use Rattle.std.specs.Str.{all_ascii_digits, bytes_eq}
 use Rattle.std.specs.Str.Parse.{digits_value}
 use Rattle.dsr_meaning.specs.Counting.{IsIn}
-use Rattle.dsr_command_theory.specs.Usage.{AskForNothing, word_lacks, dash, otherwise, count, over_spec, trial_lacks, no_command, HasNoTrial, no_trial, other_count, IsTrialNumber, SavesOverSpec, certificate, repaired, Says, says_certify, says_check, says_lost, says_plan, says_repair, says_text, says_trial, says_verify, says_why, Takes, certify, check, lost, plan, repair, text, trial, verify, why}
-use Rattle.dsr_command_theory.specs.Words.{Asked, Certify, Check, Lost, Plan, Repair, Text, Trial, Verify, Why, command_of, is_odd, to_certify, to_repair, to_try, with_one, with_three, with_two}
+use Rattle.dsr_command_theory.specs.Usage.{AskForNothing, word_lacks, dash, otherwise, count, over_spec, trial_lacks, no_command, HasNoTrial, no_trial, other_count, IsTrialNumber, SavesOverSpec, certificate, repaired, undone, Says, says_certify, says_check, says_lost, says_plan, says_repair, says_text, says_trial, says_undo, says_verify, says_why, Takes, certify, check, lost, plan, repair, text, trial, undo, verify, why}
+use Rattle.dsr_command_theory.specs.Words.{Asked, Certify, Check, Lost, Plan, Repair, Text, Trial, Undo, Verify, Why, command_of, is_odd, to_certify, to_repair, to_try, to_undo, with_four, with_one, with_three, with_two}
 
 -- ---- tests
 
@@ -49,18 +49,19 @@ IsNot name this = bytes_eq name this ≡ false
 
 none_of_all : (name : List ℕ)
     → IsNot name (codes "certify") → IsNot name (codes "check") → IsNot name (codes "lost") → IsNot name (codes "plan")
-    → IsNot name (codes "repair") → IsNot name (codes "text") → IsNot name (codes "trial") → IsNot name (codes "verify")
-    → IsNot name (codes "why")
+    → IsNot name (codes "repair") → IsNot name (codes "text") → IsNot name (codes "trial") → IsNot name (codes "undo")
+    → IsNot name (codes "verify") → IsNot name (codes "why")
     → IsUnknown name
-none_of_all _ a b c d e f g h i _ certify = let h : true ≡ false = a in cc
-none_of_all _ a b c d e f g h i _ check = let h : true ≡ false = b in cc
-none_of_all _ a b c d e f g h i _ lost = let h : true ≡ false = c in cc
-none_of_all _ a b c d e f g h i _ plan = let h : true ≡ false = d in cc
-none_of_all _ a b c d e f g h i _ repair = let h : true ≡ false = e in cc
-none_of_all _ a b c d e f g h i _ text = let h : true ≡ false = f in cc
-none_of_all _ a b c d e f g h i _ trial = let h : true ≡ false = g in cc
-none_of_all _ a b c d e f g h i _ verify = let h : true ≡ false = h in cc
-none_of_all _ a b c d e f g h i _ why = let h : true ≡ false = i in cc
+none_of_all _ a b c d e f g h i j _ certify = let h : true ≡ false = a in cc
+none_of_all _ a b c d e f g h i j _ check = let h : true ≡ false = b in cc
+none_of_all _ a b c d e f g h i j _ lost = let h : true ≡ false = c in cc
+none_of_all _ a b c d e f g h i j _ plan = let h : true ≡ false = d in cc
+none_of_all _ a b c d e f g h i j _ repair = let h : true ≡ false = e in cc
+none_of_all _ a b c d e f g h i j _ text = let h : true ≡ false = f in cc
+none_of_all _ a b c d e f g h i j _ trial = let h : true ≡ false = g in cc
+none_of_all _ a b c d e f g h i j _ undo = let h : true ≡ false = h in cc
+none_of_all _ a b c d e f g h i j _ verify = let h : true ≡ false = i in cc
+none_of_all _ a b c d e f g h i j _ why = let h : true ≡ false = j in cc
 
 -- a name is that of a command, or one goes on
 named : (name this : List ℕ) (n : ℕ) → Takes this n → (bytes_eq name this ≡ false → IsKnown name ⊎ IsUnknown name) → IsKnown name ⊎ IsUnknown name
@@ -78,8 +79,9 @@ known name =
     named name (codes "repair") 3 repair (λ e.
     named name (codes "text") 1 text (λ f.
     named name (codes "trial") 1 trial (λ g.
-    named name (codes "verify") 2 verify (λ h.
-    named name (codes "why") 3 why (λ i. inr (none_of_all name a b c d e f g h i))))))))))
+    named name (codes "undo") 4 undo (λ h.
+    named name (codes "verify") 2 verify (λ i.
+    named name (codes "why") 3 why (λ j. inr (none_of_all name a b c d e f g h i j)))))))))))
 
 -- another name is unlike each command's
 unlike : (name this : List ℕ) (n : ℕ) → Takes this n → IsUnknown name → bytes_eq name this ≡ false
@@ -98,8 +100,12 @@ two_unknown : (name spec file : List ℕ) → IsUnknown name → with_two name s
 two_unknown name spec file unknown =
     rw (unlike name (codes "check") 2 check unknown, unlike name (codes "certify") 2 certify unknown, unlike name (codes "verify") 2 verify unknown, unlike name (codes "lost") 2 lost unknown) refl
 
-three_unknown : (name spec image out : List ℕ) → IsUnknown name → with_three name spec image out ≡ None
-three_unknown name spec image out unknown = rw (unlike name (codes "repair") 3 repair unknown, unlike name (codes "why") 3 why unknown) refl
+three_unknown : (name spec image word : List ℕ) → IsUnknown name → with_three name spec image word ≡ None
+three_unknown name spec image word unknown = rw (unlike name (codes "repair") 3 repair unknown, unlike name (codes "why") 3 why unknown) refl
+
+four_unknown : (name spec image file word : List ℕ) → IsUnknown name → with_four name spec image file word ≡ None
+four_unknown name spec image file word unknown =
+    rw (unlike name (codes "undo") 4 undo unknown) refl
 
 unknown_none : (name : List ℕ) (more : List (List ℕ)) → IsUnknown name → command_of (name ∷ more) ≡ None
 unknown_none name [] unknown = refl
@@ -108,7 +114,9 @@ unknown_none name (a ∷ b ∷ []) unknown =
     if_none (is_odd a || is_odd b) (with_two name a b) (two_unknown name a b unknown)
 unknown_none name (a ∷ b ∷ c ∷ []) unknown =
     if_none (is_odd a || is_odd b || is_odd c) (with_three name a b c) (three_unknown name a b c unknown)
-unknown_none name (a ∷ b ∷ c ∷ d ∷ more) unknown = refl
+unknown_none name (a ∷ b ∷ c ∷ d ∷ []) unknown =
+    if_none (is_odd a || is_odd b || is_odd c || is_odd d) (with_four name a b c d) (four_unknown name a b c d unknown)
+unknown_none name (a ∷ b ∷ c ∷ d ∷ e ∷ more) unknown = refl
 
 -- no command has an odd name
 odd_unknown : (name : List ℕ) → is_odd name ≡ true → IsUnknown name
@@ -119,6 +127,7 @@ odd_unknown _ odd _ plan = let h : false ≡ true = odd in cc
 odd_unknown _ odd _ repair = let h : false ≡ true = odd in cc
 odd_unknown _ odd _ text = let h : false ≡ true = odd in cc
 odd_unknown _ odd _ trial = let h : false ≡ true = odd in cc
+odd_unknown _ odd _ undo = let h : false ≡ true = odd in cc
 odd_unknown _ odd _ verify = let h : false ≡ true = odd in cc
 odd_unknown _ odd _ why = let h : false ≡ true = odd in cc
 
@@ -140,7 +149,16 @@ odd_behind_none name (a ∷ b ∷ c ∷ []) word odd is_in =
     by (inr (inl same)) = let e : is_odd b ≡ true = ap is_odd (sym same) ∙ odd in grind (arith, e)
     by (inr (inr (inl same))) = let e : is_odd c ≡ true = ap is_odd (sym same) ∙ odd in grind (arith, e)
     by (inr (inr (inr later))) = absurd later
-odd_behind_none name (a ∷ b ∷ c ∷ d ∷ more) word odd is_in = refl
+odd_behind_none name (a ∷ b ∷ c ∷ d ∷ []) word odd is_in =
+    if_true (is_odd a || is_odd b || is_odd c || is_odd d) (with_four name a b c d) (by is_in)
+  where
+    by : IsIn word (a ∷ b ∷ c ∷ d ∷ []) → (is_odd a || is_odd b || is_odd c || is_odd d) ≡ true
+    by (inl same) = let e : is_odd a ≡ true = ap is_odd (sym same) ∙ odd in grind (arith, e)
+    by (inr (inl same)) = let e : is_odd b ≡ true = ap is_odd (sym same) ∙ odd in grind (arith, e)
+    by (inr (inr (inl same))) = let e : is_odd c ≡ true = ap is_odd (sym same) ∙ odd in grind (arith, e)
+    by (inr (inr (inr (inl same)))) = let e : is_odd d ≡ true = ap is_odd (sym same) ∙ odd in grind (arith, e)
+    by (inr (inr (inr (inr later)))) = absurd later
+odd_behind_none name (a ∷ b ∷ c ∷ d ∷ e ∷ more) word odd is_in = refl
 
 odd_none : (words : List (List ℕ)) (word : List ℕ) → is_odd word ≡ true → IsIn word words → command_of words ≡ None
 odd_none [] word odd is_in = absurd is_in
@@ -155,6 +173,7 @@ one_other _ _ a plan other = absurd (other refl)
 one_other _ _ a repair other = refl
 one_other _ _ a text other = absurd (other refl)
 one_other _ _ a trial other = absurd (other refl)
+one_other _ _ a undo other = refl
 one_other _ _ a verify other = refl
 one_other _ _ a why other = refl
 
@@ -166,6 +185,7 @@ two_other _ _ a b plan other = refl
 two_other _ _ a b repair other = refl
 two_other _ _ a b text other = refl
 two_other _ _ a b trial other = refl
+two_other _ _ a b undo other = refl
 two_other _ _ a b verify other = absurd (other refl)
 two_other _ _ a b why other = refl
 
@@ -177,8 +197,21 @@ three_other _ _ a b c plan other = refl
 three_other _ _ a b c repair other = absurd (other refl)
 three_other _ _ a b c text other = refl
 three_other _ _ a b c trial other = refl
+three_other _ _ a b c undo other = refl
 three_other _ _ a b c verify other = refl
 three_other _ _ a b c why other = absurd (other refl)
+
+four_other : (name : List ℕ) (n : ℕ) (a b c d : List ℕ) → Takes name n → 4 ≢ n → with_four name a b c d ≡ None
+four_other _ _ a b c d certify other = refl
+four_other _ _ a b c d check other = refl
+four_other _ _ a b c d lost other = refl
+four_other _ _ a b c d plan other = refl
+four_other _ _ a b c d repair other = refl
+four_other _ _ a b c d text other = refl
+four_other _ _ a b c d trial other = refl
+four_other _ _ a b c d undo other = absurd (other refl)
+four_other _ _ a b c d verify other = refl
+four_other _ _ a b c d why other = refl
 
 count_none : (name : List ℕ) (more : List (List ℕ)) (n : ℕ) → Takes name n → length more ≢ n → command_of (name ∷ more) ≡ None
 count_none name [] n takes other = refl
@@ -186,7 +219,9 @@ count_none name (a ∷ []) n takes other = if_none (is_odd a) (with_one name a) 
 count_none name (a ∷ b ∷ []) n takes other = if_none (is_odd a || is_odd b) (with_two name a b) (two_other name n a b takes other)
 count_none name (a ∷ b ∷ c ∷ []) n takes other =
     if_none (is_odd a || is_odd b || is_odd c) (with_three name a b c) (three_other name n a b c takes other)
-count_none name (a ∷ b ∷ c ∷ d ∷ more) n takes other = refl
+count_none name (a ∷ b ∷ c ∷ d ∷ []) n takes other =
+    if_none (is_odd a || is_odd b || is_odd c || is_odd d) (with_four name a b c d) (four_other name n a b c d takes other)
+count_none name (a ∷ b ∷ c ∷ d ∷ e ∷ more) n takes other = refl
 
 same_name : (a : List ℕ) → bytes_eq a a ≡ true
 same_name a = (bytes_eq-Decides a a).1 refl
@@ -197,6 +232,9 @@ over_spec_none _ (certificate spec) =
 over_spec_none _ (repaired spec image) =
     if_none (is_odd spec || is_odd image || is_odd spec) (to_repair spec image spec)
     (if_true (bytes_eq spec spec) (Some (Repair spec image spec)) (same_name spec))
+over_spec_none _ (undone spec fixed report) =
+    if_none (is_odd spec || is_odd fixed || is_odd report || is_odd spec) (to_undo spec fixed report spec)
+    (if_true (bytes_eq spec spec) (Some (Undo spec fixed report spec)) (same_name spec))
 
 -- ---- numbers of trials
 
@@ -289,6 +327,18 @@ odd_of_three name a b c odd = elim (or_cases (is_odd a || is_odd b) (is_odd c) o
   | inr is ↦ odd_reason (name ∷ a ∷ b ∷ c ∷ []) c is (inr (inr (inr (inl refl))))
 ]
 
+odd_of_four : (name a b c d : List ℕ) → (is_odd a || is_odd b || is_odd c || is_odd d) ≡ true → AskForNothing (name ∷ a ∷ b ∷ c ∷ d ∷ [])
+odd_of_four name a b c d odd = elim (or_cases (is_odd a || is_odd b || is_odd c) (is_odd d) odd) [
+  | inl three ↦ elim (or_cases (is_odd a || is_odd b) (is_odd c) three) [
+    | inl two ↦ elim (or_cases (is_odd a) (is_odd b) two) [
+      | inl is ↦ odd_reason (name ∷ a ∷ b ∷ c ∷ d ∷ []) a is (inr (inl refl))
+      | inr is ↦ odd_reason (name ∷ a ∷ b ∷ c ∷ d ∷ []) b is (inr (inr (inl refl)))
+    ]
+    | inr is ↦ odd_reason (name ∷ a ∷ b ∷ c ∷ d ∷ []) c is (inr (inr (inr (inl refl))))
+  ]
+  | inr is ↦ odd_reason (name ∷ a ∷ b ∷ c ∷ d ∷ []) d is (inr (inr (inr (inr (inl refl)))))
+]
+
 one_reason : (name a : List ℕ) (asked : Asked) → (if is_odd a then None else Some asked) ≡ None → AskForNothing (name ∷ a ∷ [])
 one_reason name a asked none = elim (none_by (is_odd a) (Some asked) none) [
   | inl odd ↦ odd_reason (name ∷ a ∷ []) a odd (inr (inl refl))
@@ -308,6 +358,13 @@ three_reason name a b c asked none = elim (none_by (is_odd a || is_odd b || is_o
   | inr never ↦ absurd (some_not_none (Some asked) asked refl never)
 ]
 
+four_reason : (name a b c d : List ℕ) (asked : Asked) → (if is_odd a || is_odd b || is_odd c || is_odd d then None else Some asked) ≡ None
+    → AskForNothing (name ∷ a ∷ b ∷ c ∷ d ∷ [])
+four_reason name a b c d asked none = elim (none_by (is_odd a || is_odd b || is_odd c || is_odd d) (Some asked) none) [
+  | inl odd ↦ odd_of_four name a b c d odd
+  | inr never ↦ absurd (some_not_none (Some asked) asked refl never)
+]
+
 certify_reason : (a b : List ℕ) → command_of (codes "certify" ∷ a ∷ b ∷ []) ≡ None → AskForNothing (codes "certify" ∷ a ∷ b ∷ [])
 certify_reason a b none = elim (none_by (is_odd a || is_odd b) (to_certify a b) none) [
   | inl odd ↦ odd_of_two (codes "certify") a b odd
@@ -323,6 +380,15 @@ repair_reason a b c none = elim (none_by (is_odd a || is_odd b || is_odd c) (to_
   | inr none ↦ elim (none_by (bytes_eq c a) (Some (Repair a b c)) none) [
     | inl same ↦ over_spec (subst (λ w. SavesOverSpec (codes "repair" ∷ a ∷ b ∷ w ∷ [])) (sym ((bytes_eq-Decides c a).0 same)) (repaired a b))
     | inr never ↦ absurd (some_not_none (Some (Repair a b c)) (Repair a b c) refl never)
+  ]
+]
+
+undo_reason : (a b c d : List ℕ) → command_of (codes "undo" ∷ a ∷ b ∷ c ∷ d ∷ []) ≡ None → AskForNothing (codes "undo" ∷ a ∷ b ∷ c ∷ d ∷ [])
+undo_reason a b c d none = elim (none_by (is_odd a || is_odd b || is_odd c || is_odd d) (to_undo a b c d) none) [
+  | inl odd ↦ odd_of_four (codes "undo") a b c d odd
+  | inr none ↦ elim (none_by (bytes_eq d a) (Some (Undo a b c d)) none) [
+    | inl same ↦ over_spec (subst (λ w. SavesOverSpec (codes "undo" ∷ a ∷ b ∷ c ∷ w ∷ [])) (sym ((bytes_eq-Decides d a).0 same)) (undone a b c))
+    | inr never ↦ absurd (some_not_none (Some (Undo a b c d)) (Undo a b c d) refl never)
   ]
 ]
 
@@ -351,6 +417,15 @@ triple (a ∷ b ∷ []) same = absurd (omega (arith, same))
 triple (a ∷ b ∷ c ∷ []) same = (a, b, c, refl)
 triple (a ∷ b ∷ c ∷ d ∷ more) same = absurd (omega (arith, same))
 
+quadruple : (more : List (List ℕ)) → length more ≡ 4
+    → (a : List ℕ) × (b : List ℕ) × (c : List ℕ) × (d : List ℕ) × (more ≡ a ∷ b ∷ c ∷ d ∷ [])
+quadruple [] same = absurd (omega (arith, same))
+quadruple (a ∷ []) same = absurd (omega (arith, same))
+quadruple (a ∷ b ∷ []) same = absurd (omega (arith, same))
+quadruple (a ∷ b ∷ c ∷ []) same = absurd (omega (arith, same))
+quadruple (a ∷ b ∷ c ∷ d ∷ []) same = (a, b, c, d, refl)
+quadruple (a ∷ b ∷ c ∷ d ∷ e ∷ more) same = absurd (omega (arith, same))
+
 -- what holds of all words of a command's number holds of the command
 module _ (P : List (List ℕ) → Type 0) where
   by_single : (name : List ℕ) (more : List (List ℕ)) → length more ≡ 1 → ((a : List ℕ) → P (name ∷ a ∷ [])) → P (name ∷ more)
@@ -362,6 +437,10 @@ module _ (P : List (List ℕ) → Type 0) where
   by_triple : (name : List ℕ) (more : List (List ℕ)) → length more ≡ 3 → ((a b c : List ℕ) → P (name ∷ a ∷ b ∷ c ∷ [])) → P (name ∷ more)
   by_triple name more same all = let three = triple more same in subst (λ m. P (name ∷ m)) (sym three.3) (all three.0 three.1 three.2)
 
+  by_quadruple : (name : List ℕ) (more : List (List ℕ)) → length more ≡ 4 → ((a b c d : List ℕ) → P (name ∷ a ∷ b ∷ c ∷ d ∷ [])) → P (name ∷ more)
+  by_quadruple name more same all =
+      let four = quadruple more same in subst (λ m. P (name ∷ m)) (sym four.4) (all four.0 four.1 four.2 four.3)
+
   record EachCommand : Type 0 where
     certify : (a b : List ℕ) → P (codes "certify" ∷ a ∷ b ∷ [])
     check : (a b : List ℕ) → P (codes "check" ∷ a ∷ b ∷ [])
@@ -370,6 +449,7 @@ module _ (P : List (List ℕ) → Type 0) where
     repair : (a b c : List ℕ) → P (codes "repair" ∷ a ∷ b ∷ c ∷ [])
     text : (a : List ℕ) → P (codes "text" ∷ a ∷ [])
     trial : (a : List ℕ) → P (codes "trial" ∷ a ∷ [])
+    undo : (a b c d : List ℕ) → P (codes "undo" ∷ a ∷ b ∷ c ∷ d ∷ [])
     verify : (a b : List ℕ) → P (codes "verify" ∷ a ∷ b ∷ [])
     why : (a b c : List ℕ) → P (codes "why" ∷ a ∷ b ∷ c ∷ [])
 
@@ -381,6 +461,7 @@ module _ (P : List (List ℕ) → Type 0) where
   same_count _ more _ repair same each = by_triple (codes "repair") more same each.repair
   same_count _ more _ text same each = by_single (codes "text") more same each.text
   same_count _ more _ trial same each = by_single (codes "trial") more same each.trial
+  same_count _ more _ undo same each = by_quadruple (codes "undo") more same each.undo
   same_count _ more _ verify same each = by_pair (codes "verify") more same each.verify
   same_count _ more _ why same each = by_triple (codes "why") more same each.why
 
@@ -410,6 +491,7 @@ reason = by_words (λ words. command_of words ≡ None → AskForNothing words)
       repair = repair_reason;
       text = λ a none. one_reason (codes "text") a (Text a) none;
       trial = trial_reason;
+      undo = undo_reason;
       verify = λ a b none. two_reason (codes "verify") a b (Verify a b) none;
       why = λ a b c none. three_reason (codes "why") a b c (Why a b c) none;
     })
@@ -434,6 +516,11 @@ three_asked : (name a b c : List ℕ) (this asked : Asked) → Says (name ∷ a 
 three_asked name a b c this asked says some =
     subst (Says (name ∷ a ∷ b ∷ c ∷ [])) (same_Some this asked (some_by (is_odd a || is_odd b || is_odd c) (Some this) asked some)) says
 
+four_asked : (name a b c d : List ℕ) (this asked : Asked) → Says (name ∷ a ∷ b ∷ c ∷ d ∷ []) this
+    → (if is_odd a || is_odd b || is_odd c || is_odd d then None else Some this) ≡ Some asked → Says (name ∷ a ∷ b ∷ c ∷ d ∷ []) asked
+four_asked name a b c d this asked says some =
+    subst (Says (name ∷ a ∷ b ∷ c ∷ d ∷ [])) (same_Some this asked (some_by (is_odd a || is_odd b || is_odd c || is_odd d) (Some this) asked some)) says
+
 certify_asked : (a b : List ℕ) (asked : Asked) → command_of (codes "certify" ∷ a ∷ b ∷ []) ≡ Some asked → Says (codes "certify" ∷ a ∷ b ∷ []) asked
 certify_asked a b asked some =
     let tested : to_certify a b ≡ Some asked = some_by (is_odd a || is_odd b) (to_certify a b) asked some in
@@ -445,6 +532,13 @@ repair_asked a b c asked some =
     let tested : to_repair a b c ≡ Some asked = some_by (is_odd a || is_odd b || is_odd c) (to_repair a b c) asked some in
     subst (Says (codes "repair" ∷ a ∷ b ∷ c ∷ [])) (same_Some (Repair a b c) asked (some_by (bytes_eq c a) (Some (Repair a b c)) asked tested))
     (says_repair a b c)
+
+undo_asked : (a b c d : List ℕ) (asked : Asked) → command_of (codes "undo" ∷ a ∷ b ∷ c ∷ d ∷ []) ≡ Some asked
+    → Says (codes "undo" ∷ a ∷ b ∷ c ∷ d ∷ []) asked
+undo_asked a b c d asked some =
+    let tested : to_undo a b c d ≡ Some asked = some_by (is_odd a || is_odd b || is_odd c || is_odd d) (to_undo a b c d) asked some in
+    subst (Says (codes "undo" ∷ a ∷ b ∷ c ∷ d ∷ [])) (same_Some (Undo a b c d) asked (some_by (bytes_eq d a) (Some (Undo a b c d)) asked tested))
+    (says_undo a b c d)
 
 trial_asked : (a : List ℕ) (asked : Asked) → command_of (codes "trial" ∷ a ∷ []) ≡ Some asked → Says (codes "trial" ∷ a ∷ []) asked
 trial_asked a asked some = by (cases_Bool (is_number a))
@@ -470,6 +564,7 @@ asks = by_words (λ words. (asked : Asked) → command_of words ≡ Some asked �
       repair = repair_asked;
       text = λ a asked. one_asked (codes "text") a (Text a) asked (says_text a);
       trial = trial_asked;
+      undo = undo_asked;
       verify = λ a b asked. two_asked (codes "verify") a b (Verify a b) asked (says_verify a b);
       why = λ a b c asked. three_asked (codes "why") a b c (Why a b c) asked (says_why a b c);
     })
@@ -496,6 +591,11 @@ three_said : (name a b c : List ℕ) (o : Option Asked) (asked : Asked) → (Ask
 three_said name a b c o asked reasonless comes =
     behind (is_odd a || is_odd b || is_odd c) o asked (λ odd. reasonless (odd_of_three name a b c odd)) (λ fails. comes)
 
+four_said : (name a b c d : List ℕ) (o : Option Asked) (asked : Asked) → (AskForNothing (name ∷ a ∷ b ∷ c ∷ d ∷ []) → ⊥) → o ≡ Some asked
+    → (if is_odd a || is_odd b || is_odd c || is_odd d then None else o) ≡ Some asked
+four_said name a b c d o asked reasonless comes =
+    behind (is_odd a || is_odd b || is_odd c || is_odd d) o asked (λ odd. reasonless (odd_of_four name a b c d odd)) (λ fails. comes)
+
 -- another name than that of the specification
 apart : (b a : List ℕ) (asked : Asked) → (b ≡ a → ⊥) → (if bytes_eq b a then None else Some asked) ≡ Some asked
 apart b a asked other = behind (bytes_eq b a) (Some asked) asked (λ same. other ((bytes_eq-Decides b a).0 same)) (λ fails. refl)
@@ -504,12 +604,16 @@ pub said : (words : List (List ℕ)) (asked : Asked) → Says words asked → (A
 said _ _ (says_certify a b) reasonless =
     two_said (codes "certify") a b (to_certify a b) (Certify a b) reasonless
     (apart b a (Certify a b) (λ same. reasonless (over_spec (subst (λ w. SavesOverSpec (codes "certify" ∷ a ∷ w ∷ [])) (sym same) (certificate a)))))
-said _ _ (says_check a b) reasonless = two_said (codes "check") a b (Some (Check a b)) (Check a b) reasonless refl
 said _ _ (says_lost a b) reasonless = two_said (codes "lost") a b (Some (Lost a b)) (Lost a b) reasonless refl
+said _ _ (says_undo a b c d) reasonless =
+    four_said (codes "undo") a b c d (to_undo a b c d) (Undo a b c d) reasonless
+    (apart d a (Undo a b c d) (λ same. reasonless (over_spec (subst (λ w. SavesOverSpec (codes "undo" ∷ a ∷ b ∷ c ∷ w ∷ [])) (sym same) (undone a b c)))))
+said _ _ (says_why a b c) reasonless = three_said (codes "why") a b c (Some (Why a b c)) (Why a b c) reasonless refl
+said _ _ (says_check a b) reasonless = two_said (codes "check") a b (Some (Check a b)) (Check a b) reasonless refl
 said _ _ (says_plan a) reasonless = one_said (codes "plan") a (Some (Plan a)) (Plan a) reasonless refl
 said _ _ (says_repair a b c) reasonless =
-    behind (is_odd a || is_odd b || is_odd c) (to_repair a b c) (Repair a b c) (λ odd. reasonless (odd_of_three (codes "repair") a b c odd))
-    (λ fails. apart c a (Repair a b c) (λ same. reasonless (over_spec (subst (λ w. SavesOverSpec (codes "repair" ∷ a ∷ b ∷ w ∷ [])) (sym same) (repaired a b)))))
+    three_said (codes "repair") a b c (to_repair a b c) (Repair a b c) reasonless
+    (apart c a (Repair a b c) (λ same. reasonless (over_spec (subst (λ w. SavesOverSpec (codes "repair" ∷ a ∷ b ∷ w ∷ [])) (sym same) (repaired a b)))))
 said _ _ (says_text a) reasonless = one_said (codes "text") a (Some (Text a)) (Text a) reasonless refl
 said _ _ (says_trial a) reasonless = one_said (codes "trial") a (to_try a) (Trial (digits_value 10 a)) reasonless (by (cases_Bool (is_number a)))
   where
@@ -517,7 +621,6 @@ said _ _ (says_trial a) reasonless = one_said (codes "trial") a (to_try a) (Tria
     by (inl is) = tries a true is
     by (inr not) = absurd (reasonless (trial_lacks (no_trial a (λ is. let e : true ≡ false = sym (of_number a is) ∙ not in absurd cc))))
 said _ _ (says_verify a b) reasonless = two_said (codes "verify") a b (Some (Verify a b)) (Verify a b) reasonless refl
-said _ _ (says_why a b c) reasonless = three_said (codes "why") a b c (Some (Why a b c)) (Why a b c) reasonless refl
 
 -- words that ask for something have no reason to ask for nothing
 pub reasonless : (words : List (List ℕ)) (asked : Asked) → command_of words ≡ Some asked → AskForNothing words → ⊥

@@ -1,6 +1,7 @@
 -- What each command does, as a script: which files it loads, and what it tells.
 use Rattle.std.specs.Prelude.{◌≡◌, ℕ, List, codes, Option, None, Some, nat_eq, if◌then◌else◌}
 use Rattle.dsr_cert.specs.Certificates.{certificate_text}
+use Rattle.dsr_command_audit.specs.Undone.{IsUndoOf}
 use Rattle.dsr_command_certify.specs.Certified.{certified_answer}
 use Rattle.dsr_command_certify.specs.Verified.{IsVerifyAnswer}
 use Rattle.dsr_command_image.specs.Checked.{IsCheckAnswer}
@@ -21,7 +22,7 @@ use Rattle.dsr_syntax_theory.specs.Canonical.{canonical}
 use Rattle.dsr_tree.specs.Trees.{TreeShape}
 use Rattle.dsr_language_theory.specs.Specifications.{specification}
 use Rattle.dsr_compile.specs.Readings.{Interpretation, IsInterpretation, Means, Refused}
-use Rattle.dsr_command_theory.specs.Words.{Asked, Certify, Check, Lost, Plan, Repair, Text, Trial, Verify, Why, command_of}
+use Rattle.dsr_command_theory.specs.Words.{Asked, Certify, Check, Lost, Plan, Repair, Text, Trial, Undo, Verify, Why, command_of}
 
 -- the most bytes of a specification's text
 abbrev pub spec_limit : ℕ
@@ -34,6 +35,10 @@ image_limit spec = if nat_eq spec.base.version 2 then 67108864 else 4194304
 -- the most bytes of a certificate
 abbrev pub certificate_limit : ℕ
 certificate_limit = 1048576
+
+-- the most bytes of a report
+abbrev pub report_limit : ℕ
+report_limit = 67108864
 
 abbrev pub usage : Answer
 usage = record { verdict = verdicts.Usage; text = codes "usage\n" }
@@ -126,6 +131,8 @@ plans_repair image out spec = picks (planned.IsFound spec) (loads_damaged image 
 abbrev pub repair_after : (image out : List ℕ) → List ℕ → Script
 repair_after image out text = reads text (λ tree. plans_repair image out (specification tree))
 
+-- ---- facts
+
 -- a chain of the fact is told
 abbrev pub explains : List ℕ → Spec → List ℕ → Script
 explains fact spec image = tells (IsWhyAnswer spec image fact)
@@ -147,6 +154,27 @@ loads_listed image spec = loads_for image spec (lists_lost spec)
 abbrev pub lost_after : List ℕ → List ℕ → Script
 lost_after image text = reads text (λ tree. loads_listed image (specification tree))
 
+-- ---- reports
+
+abbrev pub loads_report : List ℕ → (List ℕ → Script) → Script
+loads_report name after = loads name report_limit (codes "too long report\n") after
+
+-- what the report tells is taken back
+abbrev pub undoes : List ℕ → Spec → (fixed report : List ℕ) → Script
+undoes out spec fixed report = picks (IsUndoOf spec fixed report) (ends out)
+
+abbrev pub loads_undone : (report out : List ℕ) → Spec → List ℕ → Script
+loads_undone report out spec fixed = loads_report report (undoes out spec fixed)
+
+abbrev pub loads_repaired : (fixed report out : List ℕ) → Spec → Script
+loads_repaired fixed report out spec = loads_for fixed spec (loads_undone report out spec)
+
+abbrev pub undo_after : (fixed report out : List ℕ) → List ℕ → Script
+undo_after fixed report out text =
+    reads text (λ tree. loads_repaired fixed report out (specification tree))
+
+-- ---- what words ask for
+
 abbrev pub script_of : Option Asked → Script
 script_of None = tells (λ told. told ≡ usage)
 script_of (Some (Certify spec certificate)) = loads_spec spec (certify_after certificate)
@@ -156,6 +184,7 @@ script_of (Some (Plan spec)) = loads_spec spec plan_after
 script_of (Some (Repair spec image out)) = loads_spec spec (repair_after image out)
 script_of (Some (Text spec)) = loads_spec spec text_after
 script_of (Some (Trial number)) = tells (IsTrial number)
+script_of (Some (Undo spec fixed report out)) = loads_spec spec (undo_after fixed report out)
 script_of (Some (Verify spec certificate)) = loads_spec spec (verify_after certificate)
 script_of (Some (Why spec image fact)) = loads_spec spec (why_after image fact)
 

@@ -2,7 +2,7 @@
 use Rattle.std.specs.Prelude.{◌≡◌, ◌≢◌, ◌≤◌, ◌⊎◌, ℕ, List, [], ◌∷◌, ◌++◌, length, codes}
 use Rattle.std.specs.Str.Parse.{digits_value}
 use Rattle.dsr_meaning.specs.Counting.{IsIn}
-use Rattle.dsr_command_theory.specs.Words.{Asked, Certify, Check, Lost, Plan, Repair, Text, Trial, Verify, Why}
+use Rattle.dsr_command_theory.specs.Words.{Asked, Certify, Check, Lost, Plan, Repair, Text, Trial, Undo, Verify, Why}
 
 -- the commands, and how many words each takes behind it
 pub data Takes : List ℕ → ℕ → Type 0 where
@@ -13,6 +13,7 @@ pub data Takes : List ℕ → ℕ → Type 0 where
   repair : Takes (codes "repair") 3
   text : Takes (codes "text") 1
   trial : Takes (codes "trial") 1
+  undo : Takes (codes "undo") 4
   verify : Takes (codes "verify") 2
   why : Takes (codes "why") 3
 
@@ -38,10 +39,13 @@ pub data HasOtherCount : List (List ℕ) → Type 0 where
       (name : List ℕ) (more : List (List ℕ)) (count : ℕ) → Takes name count → length more ≢ count
       → HasOtherCount (name ∷ more)
 
--- a certificate, or a repaired image, has the name of its specification
+-- a certificate, or an image that is repaired or taken back, has the name of its specification
 pub data SavesOverSpec : List (List ℕ) → Type 0 where
   certificate : (spec : List ℕ) → SavesOverSpec (codes "certify" ∷ spec ∷ spec ∷ [])
   repaired : (spec image : List ℕ) → SavesOverSpec (codes "repair" ∷ spec ∷ image ∷ spec ∷ [])
+  undone :
+      (spec fixed report : List ℕ)
+      → SavesOverSpec (codes "undo" ∷ spec ∷ fixed ∷ report ∷ spec ∷ [])
 
 -- the word is the number of a trial: one to five decimal digits, zeros in front included, up to
 -- 65,535
@@ -82,6 +86,9 @@ pub data Says : List (List ℕ) → Asked → Type 0 where
       → Says (codes "repair" ∷ spec ∷ image ∷ out ∷ []) (Repair spec image out)
   says_text : (spec : List ℕ) → Says (codes "text" ∷ spec ∷ []) (Text spec)
   says_trial : (word : List ℕ) → Says (codes "trial" ∷ word ∷ []) (Trial (digits_value 10 word))
+  says_undo :
+      (spec fixed report out : List ℕ)
+      → Says (codes "undo" ∷ spec ∷ fixed ∷ report ∷ out ∷ []) (Undo spec fixed report out)
   says_verify :
       (spec certificate : List ℕ)
       → Says (codes "verify" ∷ spec ∷ certificate ∷ []) (Verify spec certificate)

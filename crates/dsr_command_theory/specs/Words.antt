@@ -19,6 +19,8 @@ pub data Asked : Type 0 where
   Text : (spec : List ℕ) → Asked
   -- the trial of this number
   Trial : (number : ℕ) → Asked
+  -- what a report tells is taken back from an image, and the image saved under the last name
+  Undo : (spec fixed report out : List ℕ) → Asked
   -- whether a certificate is one of a plan of the specification
   Verify : (spec certificate : List ℕ) → Asked
   -- a shortest chain of rules that gives the fact of this text in an image
@@ -71,6 +73,16 @@ with_three command spec image word =
     else if bytes_eq command (codes "why") then Some (Why spec image word)
     else None
 
+abbrev pub to_undo : (spec fixed report out : List ℕ) → Option Asked
+to_undo spec fixed report out =
+    if bytes_eq out spec then None else Some (Undo spec fixed report out)
+
+-- the one with four
+abbrev pub with_four : (command spec image file word : List ℕ) → Option Asked
+with_four command spec image file word =
+    if bytes_eq command (codes "undo") then to_undo spec image file word
+    else None
+
 -- What the words ask for. None where they are no command: there is no word, the first one is none
 -- of the commands, not so many words stand behind it as it takes, one of these is an odd word,
 -- something is to be saved over its specification, or there is no trial of the number.
@@ -80,4 +92,7 @@ command_of (command ∷ spec ∷ file ∷ []) =
     if is_odd spec || is_odd file then None else with_two command spec file
 command_of (command ∷ spec ∷ image ∷ word ∷ []) =
     if is_odd spec || is_odd image || is_odd word then None else with_three command spec image word
+command_of (command ∷ spec ∷ image ∷ file ∷ word ∷ []) =
+    if is_odd spec || is_odd image || is_odd file || is_odd word then None
+    else with_four command spec image file word
 command_of _ = None

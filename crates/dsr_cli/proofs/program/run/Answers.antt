@@ -34,4 +34,6 @@ returns g c =
       no_other_facts = c.facts_are_explained.ensures.nothing_else words before after status runs;
       lost = c.lost_records_are_listed.ensures.records words before after status runs;
       no_others_lost = c.lost_records_are_listed.ensures.nothing_else words before after status runs;
+      undone = c.repairs_are_undone.ensures.repairs words before after status runs;
+      no_others_undone = c.repairs_are_undone.ensures.nothing_else words before after status runs;
     }

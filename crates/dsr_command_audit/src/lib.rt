@@ -4,9 +4,11 @@
 #![tactic(auto)]
 
 mod audits;
+mod laws;
 mod layouts;
 mod undos;
 
 pub use audits::audit;
+pub use laws::{audited_repairs_are_taken_back, reports_of_repairs_are_audited};
 pub use layouts::{Laid, lay_out};
 pub use undos::{Undone, undo};

@@ -3,5 +3,7 @@
 #![tactic(auto)]
 
 mod faults;
+mod laws;
 
 pub use faults::AuditFault;
+pub use laws::audits_have_one_outcome;

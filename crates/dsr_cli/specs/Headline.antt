@@ -1,6 +1,7 @@
 -- What the program does: the theorem of the whole.
 use Rattle.std.specs.Prelude.{ℕ, List}
 use Rattle.dsr_command_theory.specs.Commands.{asked}
+use Rattle.dsr_command_laws.specs.AuditHeadlines.{AuditsNothingElse, AuditsReports, UndoesAudited}
 use Rattle.dsr_command_laws.specs.FactHeadlines.{ExplainsFacts, ExplainsNothingElse, ListsNothingElse, ListsRecords}
 use Rattle.dsr_command_laws.specs.ImageHeadlines.{ChecksImages, ChecksNothingElse, PrintsTexts, TellsUsage}
 use Rattle.dsr_command_laws.specs.PlanHeadlines.{CertifiesNothingElse, CertifiesPlans, FindsNothingElse, FindsPlans, VerifiesCertificates, VerifiesNothingElse}
@@ -53,7 +54,12 @@ pub record Headline (words : List (List ℕ)) (before after : Outside) (status :
   -- `lost` tells exactly the records that no set has
   pub lost : ListsRecords words before after status
   pub no_others_lost : ListsNothingElse words before after status
+  -- `audit` calls a report sound exactly where it is that of the repair of the image, by the plan
+  -- that is taken, which led to the fixed bytes, and tells the first reason otherwise
+  pub audits : AuditsReports words before after status
+  pub no_other_audits : AuditsNothingElse words before after status
   -- `undo` saves what the entries of a report lead back to, or tells the first line that it can't
-  -- take back
+  -- take back; of a sound report that is the image from which the repair began
   pub undone : UndoesRepairs words before after status
   pub no_others_undone : UndoesNothingElse words before after status
+  pub taken_back : UndoesAudited words before after status

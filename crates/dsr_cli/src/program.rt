@@ -7,7 +7,8 @@ use crate::waiting::Waiting;
 use dsr_command_laws::{
     certificates_are_verified, facts_are_explained, images_are_checked, images_are_repaired,
     lost_records_are_listed, plans_are_certified, plans_are_found, repairs_are_undone,
-    texts_are_printed, trials_are_told, usage_is_told,
+    reports_are_audited, sound_repairs_are_taken_back, texts_are_printed, trials_are_told,
+    usage_is_told,
 };
 use dsr_script::Status;
 use dsr_store::{Shelf, Sink};
@@ -34,6 +35,8 @@ pub fn run<F: Shelf, O: Sink>(
     trials_are_told();
     facts_are_explained();
     lost_records_are_listed();
+    reports_are_audited();
     repairs_are_undone();
+    sound_repairs_are_taken_back();
     dsr_script::run::<Waiting, F, O>(alloc, words, shelf, out)
 }

@@ -1,25 +1,26 @@
 // Commands that wait for a file.
 ghost use Rattle.std.specs.Prelude.{◌≡◌, ◌≤◌, ◌+◌, IfOk, Some, length};
 ghost use Rattle.dsr_command_theory.specs.Commands as commands;
-ghost use Rattle.dsr_command_theory.specs.Commands.{loads_certificate, loads_explained, loads_image, loads_listed, loads_repaired, loads_undone, plans_repair, reads, repairs, saves_plan, script_of, tells_text, undoes};
+ghost use Rattle.dsr_command_theory.specs.Commands.{audits, lays_out, loads_certificate, loads_explained, loads_for, loads_image, loads_listed, loads_repaired, loads_undone, plans_audit, plans_repair, reads, repairs, saves_plan, script_of, tells_text, undoes};
 ghost use Rattle.dsr_cli.specs.Asking.{asked_of};
 ghost use Rattle.dsr_cli.specs.Stages.{comes_to, due, is_ready, left, loaded_for};
 ghost use Rattle.dsr_meaning.specs.Typed.{IsTyped};
 ghost use Rattle.dsr_plan_theory.specs.Taken.{IsTaken};
 ghost use Rattle.dsr_compile.specs.Readings.{IsSpecOf};
 ghost use Rattle.dsr_script.specs.Moves.{Follows, IsReady, loads_of};
+ghost use Rattle.dsr_step_theory.specs.Images.{IsImageOf};
 ghost use Rattle.dsr_tree.specs.Trees.{tree_shape};
 
 use crate::words::{Command, Task, command_of};
 use dsr_answers::told;
-use dsr_command_audit::{Undone, undo};
+use dsr_command_audit::{Laid, Undone, audit, lay_out, undo};
 use dsr_command_certify::{Certified, certify, verify};
 use dsr_command_image::{Repaired, check, repair};
 use dsr_command_plan::{Found, find, plan, refused};
 use dsr_command_trial::trial;
 use dsr_command_why::{lost, why};
 use dsr_compile::{Reading, read};
-use dsr_ir::{NoMemory, Spec};
+use dsr_ir::{Layout, NoMemory, Spec};
 use dsr_parse::print;
 use dsr_plan_theory::{Choice, Plan};
 use dsr_script::{Commands, Move, Stage, Told, Verdict};
@@ -51,6 +52,30 @@ pub enum Waiting<'a> {
     },
     /// `verify`, for the certificate, with the specification that the text means.
     Certificate(Spec),
+    /// `audit`, for the image, with the specification that the text means and the choice that is its
+    /// plan.
+    Audited {
+        spec: Spec,
+        choice: Choice,
+        report: &'a str,
+        fixed: &'a str,
+    },
+    /// `audit`, for the report, with the image and its layout as well.
+    AuditedReport {
+        spec: Spec,
+        choice: Choice,
+        layout: Layout,
+        image: Vec<u8>,
+        fixed: &'a str,
+    },
+    /// `audit`, for the bytes that the repair is said to have left, with the report as well.
+    AuditedEnd {
+        spec: Spec,
+        choice: Choice,
+        layout: Layout,
+        image: Vec<u8>,
+        report: Vec<u8>,
+    },
     /// `undo`, for the image that was repaired, with the specification that the text means.
     Repaired {
         spec: Spec,
@@ -170,6 +195,36 @@ fn load_damaged<'a>(
     }
 }
 
+// `audit` goes on with the specification.
+fn load_audited<'a>(
+    alloc: Global,
+    spec: Spec,
+    image: &'a str,
+    report: &'a str,
+    fixed: &'a str,
+) -> Result<Move<'a, Waiting<'a>>, NoMemory>
+    requires typed { IsTyped spec }
+    ensures ready { IfOk result (λ move. IsReady is_ready move) }
+    ensures follows { IfOk result (λ move. Follows due
+        (plans_audit image.now report.now fixed.now spec) move) }
+    ensures fewer { IfOk result (λ move. loads_of left move ≤ 3) }
+{
+    match find(alloc, &spec)? {
+        Found::Plan(choice) => Ok(Move::Load {
+            name: image,
+            limit: image_limit(&spec),
+            long: b"too long image\n",
+            stage: Waiting::Audited {
+                spec,
+                choice,
+                report,
+                fixed,
+            },
+        }),
+        Found::Stuck(set) => Ok(Move::Tell(refused(alloc, &spec, &set)?)),
+    }
+}
+
 // `undo` goes on with the specification.
 fn load_repaired<'a>(
     spec: Spec,
@@ -233,6 +288,11 @@ fn go_on_with<'a>(
     ensures fewer { IfOk result (λ move. loads_of left move ≤ loaded_for task.entry) }
 {
     match task {
+        Task::Audit {
+            image,
+            report,
+            fixed,
+        } => load_audited(alloc, spec, image, report, fixed),
         Task::Certify { certificate } => save_certificate(alloc, &spec, certificate),
         Task::Check { image } => Ok(load_image(spec, image)),
         Task::Lost { image } => Ok(load_listed(spec, image)),
@@ -285,6 +345,91 @@ fn save_repaired<'a>(
         }),
         Repaired::Unsaved(told) => Ok(Move::Tell(told)),
     }
+}
+
+// `audit` goes on with the image.
+fn load_report<'a>(
+    alloc: Global,
+    spec: Spec,
+    choice: Choice,
+    image: Vec<u8>,
+    report: &'a str,
+    fixed: &'a str,
+) -> Result<Move<'a, Waiting<'a>>, NoMemory>
+    requires typed { IsTyped spec }
+    requires taken { IsTaken spec choice }
+    requires small { length image.items ≤ 67108864 }
+    ensures ready { IfOk result (λ move. IsReady is_ready move) }
+    ensures follows { IfOk result (λ move. Follows due
+        (lays_out report.now fixed.now spec choice image.items) move) }
+    ensures fewer { IfOk result (λ move. loads_of left move ≤ 2) }
+{
+    match lay_out(alloc, &spec, &image)? {
+        Laid::Layout(layout) => Ok(Move::Load {
+            name: report,
+            limit: REPORT_LIMIT,
+            long: b"too long report\n",
+            stage: Waiting::AuditedReport {
+                spec,
+                choice,
+                layout,
+                image,
+                fixed,
+            },
+        }),
+        Laid::Refused(told) => Ok(Move::Tell(told)),
+    }
+}
+
+// `audit` goes on with the report.
+fn load_fixed<'a>(
+    spec: Spec,
+    choice: Choice,
+    layout: Layout,
+    image: Vec<u8>,
+    report: Vec<u8>,
+    fixed: &'a str,
+) -> Move<'a, Waiting<'a>>
+    requires taken { IsTaken spec choice }
+    requires image { IsImageOf spec layout image.items }
+    ensures ready { IsReady is_ready result }
+    ensures follows { Follows due
+        (loads_for fixed.now spec (audits spec choice image.items report.items)) result }
+    ensures fewer { loads_of left result ≤ 1 }
+{
+    Move::Load {
+        name: fixed,
+        limit: image_limit(&spec),
+        long: b"too long image\n",
+        stage: Waiting::AuditedEnd {
+            spec,
+            choice,
+            layout,
+            image,
+            report,
+        },
+    }
+}
+
+// `audit` goes on with the bytes that the repair is said to have left.
+fn tell_audit<'a>(
+    alloc: Global,
+    spec: &Spec,
+    choice: Choice,
+    layout: &Layout,
+    image: Vec<u8>,
+    report: &[u8],
+    fixed: &[u8],
+) -> Result<Move<'a, Waiting<'a>>, NoMemory>
+    requires taken { IsTaken spec.now choice }
+    requires image { IsImageOf spec.now layout.now image.items }
+    ensures ready { IfOk result (λ move. IsReady is_ready move) }
+    ensures follows { IfOk result (λ move. Follows due
+        (audits spec.now choice image.items report.now fixed.now) move) }
+    ensures fewer { IfOk result (λ move. loads_of left move ≤ 0) }
+{
+    let plan = Plan::adopt(spec, choice);
+    Ok(Move::Tell(audit(alloc, &plan, layout, image, report, fixed)?))
 }
 
 // `undo` goes on with the image.
@@ -349,6 +494,26 @@ fn next_move<'a>(
         Waiting::Image(spec) => Ok(Move::Tell(check(alloc, &spec, bytes)?)),
         Waiting::Damaged { spec, choice, out } => save_repaired(alloc, &spec, choice, bytes, out),
         Waiting::Certificate(spec) => Ok(Move::Tell(verify(alloc, &spec, &bytes)?)),
+        Waiting::Audited {
+            spec,
+            choice,
+            report,
+            fixed,
+        } => load_report(alloc, spec, choice, bytes, report, fixed),
+        Waiting::AuditedReport {
+            spec,
+            choice,
+            layout,
+            image,
+            fixed,
+        } => Ok(load_fixed(spec, choice, layout, image, bytes, fixed)),
+        Waiting::AuditedEnd {
+            spec,
+            choice,
+            layout,
+            image,
+            report,
+        } => tell_audit(alloc, &spec, choice, &layout, image, &report, &bytes),
         Waiting::Repaired { spec, report, out } => Ok(load_undone(spec, bytes, report, out)),
         Waiting::UndoneReport { spec, fixed, out } => save_undone(alloc, &spec, fixed, &bytes, out),
         Waiting::Explained { spec, fact } => {

@@ -7,6 +7,13 @@ ghost use Rattle.dsr_command_theory.specs.Words as said;
 /// What is to be done with a specification.
 #[derive(Clone, Copy)]
 pub enum Task<'a> {
+    /// Whether the report is that of the repair of the image, and what that left is the last file,
+    /// is told.
+    Audit {
+        image: &'a str,
+        report: &'a str,
+        fixed: &'a str,
+    },
     /// The certificate of its plan is saved under this name.
     Certify {
         certificate: &'a str,
@@ -191,7 +198,7 @@ fn undo<'a>(spec: &'a str, fixed: &'a str, report: &'a str, out: &'a str) -> Opt
     of(spec, Task::Undo { fixed, report, out })
 }
 
-// The one with four.
+// Those with four.
 fn with_four<'a>(
     command: &str,
     spec: &'a str,
@@ -202,6 +209,16 @@ fn with_four<'a>(
     ensures { option_map asked_of result
         ≡ said.with_four command.now spec.now image.now file.now word.now }
 {
+    if command == "audit" {
+        return of(
+            spec,
+            Task::Audit {
+                image,
+                report: file,
+                fixed: word,
+            },
+        );
+    }
     if command == "undo" {
         return undo(spec, image, file, word);
     }

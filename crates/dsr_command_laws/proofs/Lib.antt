@@ -11,3 +11,5 @@ pub mod Lasting
 pub mod Tellings
 pub mod FactsExplained
 pub mod RepairsUndone
+pub mod ReportsAudited
+pub mod RepairsTakenBack

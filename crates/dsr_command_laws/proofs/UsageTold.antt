@@ -3,13 +3,17 @@ use Rattle.std.proofs.Common.{◌≡◌, ◌↔◌, ℕ, List, length, [], ◌�
 use Rattle.dsr_answers.specs.Refused.{IsRefused, no_meaning, no_token, past_limit, unexpected}
 use Rattle.dsr_answers.specs.Texts.{layout_answer, verdict_answer}
 use Rattle.dsr_command_laws.proofs.Tellings.{Spoken, spoken}
-use Rattle.dsr_command_theory.specs.Commands.{asked, certifies, checks, ends, explains, goes_on, lists_lost, loads_certificate, loads_damaged, loads_explained, loads_image, loads_listed, loads_repaired, loads_spec, loads_undone, plans_repair, reads, repairs, saves_plan, script_of, tells_plan, tells_text, undoes, usage, verifies}
+use Rattle.dsr_command_theory.specs.Commands.{asked, audits, certifies, checks, ends, explains, goes_on, lays_out, lists_lost, loads_audited, loads_certificate, loads_damaged, loads_explained, loads_for, loads_image, loads_listed, loads_repaired, loads_spec, loads_told, loads_undone, plans_audit, plans_repair, reads, repairs, saves_plan, script_of, tells_plan, tells_text, undoes, usage, verifies}
 use Rattle.dsr_command_theory.specs.Usage.{AskForNothing}
-use Rattle.dsr_command_theory.specs.Words.{Asked, Certify, Check, Lost, Plan, Repair, Text, Trial, Undo, Verify, Why, command_of}
+use Rattle.dsr_command_theory.specs.Words.{Asked, Audit, Certify, Check, Lost, Plan, Repair, Text, Trial, Undo, Verify, Why, command_of}
 use Rattle.dsr_cert.specs.Certificates.{certificate_text}
 use Rattle.dsr_command_image.specs.Checked.{IsCheckAnswer, checked, refused}
 use Rattle.dsr_command_certify.specs.Certified.{certified_answer}
 use Rattle.dsr_command_certify.specs.Verified.{IsVerifyAnswer, flawed, valid, wrong}
+use Rattle.dsr_command_audit.specs.Audited.{IsAuditAnswer}
+use Rattle.dsr_command_audit.specs.Audited.IsAuditAnswer.{audited, misread as audit_misread, unlike}
+use Rattle.dsr_command_audit.specs.Laid as laid
+use Rattle.dsr_command_audit.specs.Laid.IsFound.{lies, refused as unlaid_image}
 use Rattle.dsr_command_audit.specs.ReportTexts.{undone_answer}
 use Rattle.dsr_command_audit.specs.ReportTexts as reports
 use Rattle.dsr_command_audit.specs.Undone.{IsUndoOf}
@@ -145,6 +149,11 @@ lost_otherwise : (spec : Spec) (image : List ℕ) (answer : Answer) → IsLostAn
 lost_otherwise spec image _ (lost_unlaid refusal first) = no_layout
 lost_otherwise spec image _ (listed layout es laid_out lost) = no_ok
 
+audit_otherwise : (spec : Spec) (choice : Choice) (image report fixed : List ℕ) (answer : Answer) → IsAuditAnswer spec choice image report fixed answer → NotUsage answer
+audit_otherwise spec choice image report fixed _ (audited run is) = no_ok
+audit_otherwise spec choice image report fixed _ (audit_misread number first) = no_report
+audit_otherwise spec choice image report fixed _ (unlike layout log fault image_is is_log known is) = no_report
+
 -- ---- commands
 
 never_reads : (text : List ℕ) (after : TreeShape → Script) → ((tree : TreeShape) → Never (after tree)) → Never (reads text after)
@@ -185,6 +194,20 @@ never_undone out spec fixed report _ (misread number first) = never_tells_this (
 never_undone out spec fixed report _ (undo_stopped log reached fault is_log refused) =
     never_tells_this (reports.refused_answer (reports.undo_words fault)) no_report
 
+never_held : (report fixed : List ℕ) (spec : Spec) (choice : Choice) (image : List ℕ) (found : laid.Found) → laid.IsFound spec image found
+    → Never (loads_told report fixed spec choice image found)
+never_held report fixed spec choice image _ (lies layout is) =
+    never_loads report _ _ (λ told. loads_for fixed spec (audits spec choice image told)) (λ told.
+    never_loads fixed _ _ (audits spec choice image told) (λ bytes.
+    never_tells (IsAuditAnswer spec choice image told bytes) (audit_otherwise spec choice image told bytes)))
+never_held report fixed spec choice image _ (unlaid_image refusal first) = never_tells_this (layout_answer spec refusal) no_layout
+
+never_audited : (image report fixed : List ℕ) (spec : Spec) (found : plans.Found) → Never (loads_audited image report fixed spec found)
+never_audited image report fixed spec (plan_found.Plan choice) =
+    never_loads image _ _ (lays_out report fixed spec choice) (λ bytes.
+    never_picks (laid.IsFound spec bytes) (loads_told report fixed spec choice bytes) (never_held report fixed spec choice bytes))
+never_audited image report fixed spec (plan_found.Stuck set) = never_tells_this (refused_answer spec set) no_plan
+
 never_asked : (asked : Asked) → Never (script_of (Some asked))
 never_asked (Text spec) = never_behind spec tells_text (λ tree. never_tells_this (record { verdict = verdicts.Ok; text = canonical tree }) no_ok)
 never_asked (Plan spec) =
@@ -203,6 +226,9 @@ never_asked (Trial number) = never_tells (IsTrial number) (trial_otherwise numbe
 never_asked (Verify spec certificate) =
     never_behind spec (λ tree. loads_certificate certificate (specification tree)) (λ tree.
     never_loads certificate _ _ (verifies (specification tree)) (λ bytes. never_tells (IsVerifyAnswer (specification tree) bytes) (verify_otherwise (specification tree) bytes)))
+never_asked (Audit spec image report fixed) =
+    never_behind spec (λ tree. plans_audit image report fixed (specification tree)) (λ tree.
+    never_picks _ (loads_audited image report fixed (specification tree)) (λ found is. never_audited image report fixed (specification tree) found))
 never_asked (Lost spec image) =
     never_behind spec (λ tree. loads_listed image (specification tree)) (λ tree.
     never_loads image _ _ (lists_lost (specification tree)) (λ bytes. never_tells (IsLostAnswer (specification tree) bytes) (lost_otherwise (specification tree) bytes)))

@@ -4,3 +4,4 @@ pub mod Repairs
 pub mod RepairHeadlines
 pub mod FactHeadlines
 pub mod UndoHeadlines
+pub mod AuditHeadlines

@@ -8,8 +8,8 @@ use Rattle.std.specs.Char.{is_ascii_digit}
 use Rattle.std.specs.Str.{all_ascii_digits, bytes_eq}
 use Rattle.std.specs.Str.Parse.{digits_value}
 use Rattle.dsr_meaning.specs.Counting.{IsIn}
-use Rattle.dsr_command_theory.specs.Usage.{AskForNothing, word_lacks, dash, otherwise, count, over_spec, trial_lacks, no_command, HasNoTrial, no_trial, other_count, IsTrialNumber, SavesOverSpec, certificate, repaired, undone, Says, says_certify, says_check, says_lost, says_plan, says_repair, says_text, says_trial, says_undo, says_verify, says_why, Takes, certify, check, lost, plan, repair, text, trial, undo, verify, why}
-use Rattle.dsr_command_theory.specs.Words.{Asked, Certify, Check, Lost, Plan, Repair, Text, Trial, Undo, Verify, Why, command_of, is_odd, to_certify, to_repair, to_try, to_undo, with_four, with_one, with_three, with_two}
+use Rattle.dsr_command_theory.specs.Usage.{AskForNothing, word_lacks, dash, otherwise, count, over_spec, trial_lacks, no_command, HasNoTrial, no_trial, other_count, IsTrialNumber, SavesOverSpec, certificate, repaired, undone, Says, says_audit, says_certify, says_check, says_lost, says_plan, says_repair, says_text, says_trial, says_undo, says_verify, says_why, Takes, audit, certify, check, lost, plan, repair, text, trial, undo, verify, why}
+use Rattle.dsr_command_theory.specs.Words.{Asked, Audit, Certify, Check, Lost, Plan, Repair, Text, Trial, Undo, Verify, Why, command_of, is_odd, to_certify, to_repair, to_try, to_undo, with_four, with_one, with_three, with_two}
 
 -- ---- tests
 
@@ -48,20 +48,21 @@ abbrev IsNot : (name this : List ℕ) → Type 0
 IsNot name this = bytes_eq name this ≡ false
 
 none_of_all : (name : List ℕ)
-    → IsNot name (codes "certify") → IsNot name (codes "check") → IsNot name (codes "lost") → IsNot name (codes "plan")
-    → IsNot name (codes "repair") → IsNot name (codes "text") → IsNot name (codes "trial") → IsNot name (codes "undo")
-    → IsNot name (codes "verify") → IsNot name (codes "why")
+    → IsNot name (codes "audit") → IsNot name (codes "certify") → IsNot name (codes "check") → IsNot name (codes "lost")
+    → IsNot name (codes "plan") → IsNot name (codes "repair") → IsNot name (codes "text") → IsNot name (codes "trial")
+    → IsNot name (codes "undo") → IsNot name (codes "verify") → IsNot name (codes "why")
     → IsUnknown name
-none_of_all _ a b c d e f g h i j _ certify = let h : true ≡ false = a in cc
-none_of_all _ a b c d e f g h i j _ check = let h : true ≡ false = b in cc
-none_of_all _ a b c d e f g h i j _ lost = let h : true ≡ false = c in cc
-none_of_all _ a b c d e f g h i j _ plan = let h : true ≡ false = d in cc
-none_of_all _ a b c d e f g h i j _ repair = let h : true ≡ false = e in cc
-none_of_all _ a b c d e f g h i j _ text = let h : true ≡ false = f in cc
-none_of_all _ a b c d e f g h i j _ trial = let h : true ≡ false = g in cc
-none_of_all _ a b c d e f g h i j _ undo = let h : true ≡ false = h in cc
-none_of_all _ a b c d e f g h i j _ verify = let h : true ≡ false = i in cc
-none_of_all _ a b c d e f g h i j _ why = let h : true ≡ false = j in cc
+none_of_all _ a b c d e f g h i j k _ audit = let h : true ≡ false = a in cc
+none_of_all _ a b c d e f g h i j k _ certify = let h : true ≡ false = b in cc
+none_of_all _ a b c d e f g h i j k _ check = let h : true ≡ false = c in cc
+none_of_all _ a b c d e f g h i j k _ lost = let h : true ≡ false = d in cc
+none_of_all _ a b c d e f g h i j k _ plan = let h : true ≡ false = e in cc
+none_of_all _ a b c d e f g h i j k _ repair = let h : true ≡ false = f in cc
+none_of_all _ a b c d e f g h i j k _ text = let h : true ≡ false = g in cc
+none_of_all _ a b c d e f g h i j k _ trial = let h : true ≡ false = h in cc
+none_of_all _ a b c d e f g h i j k _ undo = let h : true ≡ false = i in cc
+none_of_all _ a b c d e f g h i j k _ verify = let h : true ≡ false = j in cc
+none_of_all _ a b c d e f g h i j k _ why = let h : true ≡ false = k in cc
 
 -- a name is that of a command, or one goes on
 named : (name this : List ℕ) (n : ℕ) → Takes this n → (bytes_eq name this ≡ false → IsKnown name ⊎ IsUnknown name) → IsKnown name ⊎ IsUnknown name
@@ -72,16 +73,17 @@ named name this n takes other_name = elim (cases_Bool (bytes_eq name this)) [
 
 known : (name : List ℕ) → IsKnown name ⊎ IsUnknown name
 known name =
-    named name (codes "certify") 2 certify (λ a.
-    named name (codes "check") 2 check (λ b.
-    named name (codes "lost") 2 lost (λ c.
-    named name (codes "plan") 1 plan (λ d.
-    named name (codes "repair") 3 repair (λ e.
-    named name (codes "text") 1 text (λ f.
-    named name (codes "trial") 1 trial (λ g.
-    named name (codes "undo") 4 undo (λ h.
-    named name (codes "verify") 2 verify (λ i.
-    named name (codes "why") 3 why (λ j. inr (none_of_all name a b c d e f g h i j)))))))))))
+    named name (codes "audit") 4 audit (λ a.
+    named name (codes "certify") 2 certify (λ b.
+    named name (codes "check") 2 check (λ c.
+    named name (codes "lost") 2 lost (λ d.
+    named name (codes "plan") 1 plan (λ e.
+    named name (codes "repair") 3 repair (λ f.
+    named name (codes "text") 1 text (λ g.
+    named name (codes "trial") 1 trial (λ h.
+    named name (codes "undo") 4 undo (λ i.
+    named name (codes "verify") 2 verify (λ j.
+    named name (codes "why") 3 why (λ k. inr (none_of_all name a b c d e f g h i j k))))))))))))
 
 -- another name is unlike each command's
 unlike : (name this : List ℕ) (n : ℕ) → Takes this n → IsUnknown name → bytes_eq name this ≡ false
@@ -105,7 +107,7 @@ three_unknown name spec image word unknown = rw (unlike name (codes "repair") 3 
 
 four_unknown : (name spec image file word : List ℕ) → IsUnknown name → with_four name spec image file word ≡ None
 four_unknown name spec image file word unknown =
-    rw (unlike name (codes "undo") 4 undo unknown) refl
+    rw (unlike name (codes "audit") 4 audit unknown, unlike name (codes "undo") 4 undo unknown) refl
 
 unknown_none : (name : List ℕ) (more : List (List ℕ)) → IsUnknown name → command_of (name ∷ more) ≡ None
 unknown_none name [] unknown = refl
@@ -120,6 +122,7 @@ unknown_none name (a ∷ b ∷ c ∷ d ∷ e ∷ more) unknown = refl
 
 -- no command has an odd name
 odd_unknown : (name : List ℕ) → is_odd name ≡ true → IsUnknown name
+odd_unknown _ odd _ audit = let h : false ≡ true = odd in cc
 odd_unknown _ odd _ certify = let h : false ≡ true = odd in cc
 odd_unknown _ odd _ check = let h : false ≡ true = odd in cc
 odd_unknown _ odd _ lost = let h : false ≡ true = odd in cc
@@ -166,6 +169,7 @@ odd_none (name ∷ more) word odd (inl same) = unknown_none name more (odd_unkno
 odd_none (name ∷ more) word odd (inr later) = odd_behind_none name more word odd later
 
 one_other : (name : List ℕ) (n : ℕ) (a : List ℕ) → Takes name n → 1 ≢ n → with_one name a ≡ None
+one_other _ _ a audit other = refl
 one_other _ _ a certify other = refl
 one_other _ _ a check other = refl
 one_other _ _ a lost other = refl
@@ -178,6 +182,7 @@ one_other _ _ a verify other = refl
 one_other _ _ a why other = refl
 
 two_other : (name : List ℕ) (n : ℕ) (a b : List ℕ) → Takes name n → 2 ≢ n → with_two name a b ≡ None
+two_other _ _ a b audit other = refl
 two_other _ _ a b certify other = absurd (other refl)
 two_other _ _ a b check other = absurd (other refl)
 two_other _ _ a b lost other = absurd (other refl)
@@ -190,6 +195,7 @@ two_other _ _ a b verify other = absurd (other refl)
 two_other _ _ a b why other = refl
 
 three_other : (name : List ℕ) (n : ℕ) (a b c : List ℕ) → Takes name n → 3 ≢ n → with_three name a b c ≡ None
+three_other _ _ a b c audit other = refl
 three_other _ _ a b c certify other = refl
 three_other _ _ a b c check other = refl
 three_other _ _ a b c lost other = refl
@@ -202,6 +208,7 @@ three_other _ _ a b c verify other = refl
 three_other _ _ a b c why other = absurd (other refl)
 
 four_other : (name : List ℕ) (n : ℕ) (a b c d : List ℕ) → Takes name n → 4 ≢ n → with_four name a b c d ≡ None
+four_other _ _ a b c d audit other = absurd (other refl)
 four_other _ _ a b c d certify other = refl
 four_other _ _ a b c d check other = refl
 four_other _ _ a b c d lost other = refl
@@ -442,6 +449,7 @@ module _ (P : List (List ℕ) → Type 0) where
       let four = quadruple more same in subst (λ m. P (name ∷ m)) (sym four.4) (all four.0 four.1 four.2 four.3)
 
   record EachCommand : Type 0 where
+    audit : (a b c d : List ℕ) → P (codes "audit" ∷ a ∷ b ∷ c ∷ d ∷ [])
     certify : (a b : List ℕ) → P (codes "certify" ∷ a ∷ b ∷ [])
     check : (a b : List ℕ) → P (codes "check" ∷ a ∷ b ∷ [])
     lost : (a b : List ℕ) → P (codes "lost" ∷ a ∷ b ∷ [])
@@ -454,6 +462,7 @@ module _ (P : List (List ℕ) → Type 0) where
     why : (a b c : List ℕ) → P (codes "why" ∷ a ∷ b ∷ c ∷ [])
 
   same_count : (name : List ℕ) (more : List (List ℕ)) (n : ℕ) → Takes name n → length more ≡ n → EachCommand → P (name ∷ more)
+  same_count _ more _ audit same each = by_quadruple (codes "audit") more same each.audit
   same_count _ more _ certify same each = by_pair (codes "certify") more same each.certify
   same_count _ more _ check same each = by_pair (codes "check") more same each.check
   same_count _ more _ lost same each = by_pair (codes "lost") more same each.lost
@@ -484,6 +493,7 @@ reason = by_words (λ words. command_of words ≡ None → AskForNothing words)
     (λ name more unknown none. otherwise (no_command name more unknown))
     (λ name more n takes other none. count (other_count name more n takes other))
     (record {
+      audit = λ a b c d none. four_reason (codes "audit") a b c d (Audit a b c d) none;
       certify = certify_reason;
       check = λ a b none. two_reason (codes "check") a b (Check a b) none;
       lost = λ a b none. two_reason (codes "lost") a b (Lost a b) none;
@@ -557,6 +567,7 @@ asks = by_words (λ words. (asked : Asked) → command_of words ≡ Some asked �
     (λ name more unknown. never_asked (name ∷ more) (unknown_none name more unknown))
     (λ name more n takes other. never_asked (name ∷ more) (count_none name more n takes other))
     (record {
+      audit = λ a b c d asked. four_asked (codes "audit") a b c d (Audit a b c d) asked (says_audit a b c d);
       certify = certify_asked;
       check = λ a b asked. two_asked (codes "check") a b (Check a b) asked (says_check a b);
       lost = λ a b asked. two_asked (codes "lost") a b (Lost a b) asked (says_lost a b);
@@ -604,6 +615,8 @@ pub said : (words : List (List ℕ)) (asked : Asked) → Says words asked → (A
 said _ _ (says_certify a b) reasonless =
     two_said (codes "certify") a b (to_certify a b) (Certify a b) reasonless
     (apart b a (Certify a b) (λ same. reasonless (over_spec (subst (λ w. SavesOverSpec (codes "certify" ∷ a ∷ w ∷ [])) (sym same) (certificate a)))))
+said _ _ (says_audit a b c d) reasonless =
+    four_said (codes "audit") a b c d (Some (Audit a b c d)) (Audit a b c d) reasonless refl
 said _ _ (says_lost a b) reasonless = two_said (codes "lost") a b (Some (Lost a b)) (Lost a b) reasonless refl
 said _ _ (says_undo a b c d) reasonless =
     four_said (codes "undo") a b c d (to_undo a b c d) (Undo a b c d) reasonless

@@ -1,6 +1,9 @@
 -- What each command does, as a script: which files it loads, and what it tells.
 use Rattle.std.specs.Prelude.{◌≡◌, ℕ, List, codes, Option, None, Some, nat_eq, if◌then◌else◌}
 use Rattle.dsr_cert.specs.Certificates.{certificate_text}
+use Rattle.dsr_command_audit.specs.Audited.{IsAuditAnswer}
+use Rattle.dsr_command_audit.specs.Laid as laid
+use Rattle.dsr_command_audit.specs.Laid.{Lies, Refused as Unlaid}
 use Rattle.dsr_command_audit.specs.Undone.{IsUndoOf}
 use Rattle.dsr_command_certify.specs.Certified.{certified_answer}
 use Rattle.dsr_command_certify.specs.Verified.{IsVerifyAnswer}
@@ -22,7 +25,7 @@ use Rattle.dsr_syntax_theory.specs.Canonical.{canonical}
 use Rattle.dsr_tree.specs.Trees.{TreeShape}
 use Rattle.dsr_language_theory.specs.Specifications.{specification}
 use Rattle.dsr_compile.specs.Readings.{Interpretation, IsInterpretation, Means, Refused}
-use Rattle.dsr_command_theory.specs.Words.{Asked, Certify, Check, Lost, Plan, Repair, Text, Trial, Undo, Verify, Why, command_of}
+use Rattle.dsr_command_theory.specs.Words.{Asked, Audit, Certify, Check, Lost, Plan, Repair, Text, Trial, Undo, Verify, Why, command_of}
 
 -- the most bytes of a specification's text
 abbrev pub spec_limit : ℕ
@@ -159,6 +162,36 @@ lost_after image text = reads text (λ tree. loads_listed image (specification t
 abbrev pub loads_report : List ℕ → (List ℕ → Script) → Script
 loads_report name after = loads name report_limit (codes "too long report\n") after
 
+-- a report is held against the image, and the bytes that its repair is said to have left
+abbrev pub audits : Spec → Choice → (image report fixed : List ℕ) → Script
+audits spec choice image report fixed = tells (IsAuditAnswer spec choice image report fixed)
+
+-- the report and those bytes are loaded where the image has a layout; where it has none, that is
+-- told
+abbrev pub loads_told : (report fixed : List ℕ) → Spec → Choice → List ℕ → laid.Found → Script
+loads_told report fixed spec choice image (Lies layout) =
+    loads_report report (λ told. loads_for fixed spec (audits spec choice image told))
+loads_told report fixed spec choice image (Unlaid answer) = tells (λ told. told ≡ answer)
+
+abbrev pub lays_out : (report fixed : List ℕ) → Spec → Choice → List ℕ → Script
+lays_out report fixed spec choice image =
+    picks (laid.IsFound spec image) (loads_told report fixed spec choice image)
+
+-- the image is loaded where there is a plan; where there is none, that is told
+abbrev pub loads_audited : (image report fixed : List ℕ) → Spec → plans.Found → Script
+loads_audited image report fixed spec (plan_found.Plan choice) =
+    loads_for image spec (lays_out report fixed spec choice)
+loads_audited image report fixed spec (plan_found.Stuck set) =
+    tells (λ told. told ≡ refused_answer spec set)
+
+abbrev pub plans_audit : (image report fixed : List ℕ) → Spec → Script
+plans_audit image report fixed spec =
+    picks (planned.IsFound spec) (loads_audited image report fixed spec)
+
+abbrev pub audit_after : (image report fixed : List ℕ) → List ℕ → Script
+audit_after image report fixed text =
+    reads text (λ tree. plans_audit image report fixed (specification tree))
+
 -- what the report tells is taken back
 abbrev pub undoes : List ℕ → Spec → (fixed report : List ℕ) → Script
 undoes out spec fixed report = picks (IsUndoOf spec fixed report) (ends out)
@@ -177,6 +210,8 @@ undo_after fixed report out text =
 
 abbrev pub script_of : Option Asked → Script
 script_of None = tells (λ told. told ≡ usage)
+script_of (Some (Audit spec image report fixed)) =
+    loads_spec spec (audit_after image report fixed)
 script_of (Some (Certify spec certificate)) = loads_spec spec (certify_after certificate)
 script_of (Some (Check spec image)) = loads_spec spec (check_after image)
 script_of (Some (Lost spec image)) = loads_spec spec (lost_after image)

@@ -2,10 +2,11 @@
 use Rattle.std.specs.Prelude.{◌≡◌, ◌≢◌, ◌≤◌, ◌⊎◌, ℕ, List, [], ◌∷◌, ◌++◌, length, codes}
 use Rattle.std.specs.Str.Parse.{digits_value}
 use Rattle.dsr_meaning.specs.Counting.{IsIn}
-use Rattle.dsr_command_theory.specs.Words.{Asked, Certify, Check, Lost, Plan, Repair, Text, Trial, Undo, Verify, Why}
+use Rattle.dsr_command_theory.specs.Words.{Asked, Audit, Certify, Check, Lost, Plan, Repair, Text, Trial, Undo, Verify, Why}
 
 -- the commands, and how many words each takes behind it
 pub data Takes : List ℕ → ℕ → Type 0 where
+  audit : Takes (codes "audit") 4
   certify : Takes (codes "certify") 2
   check : Takes (codes "check") 2
   lost : Takes (codes "lost") 2
@@ -73,6 +74,9 @@ pub data AskForNothing (words : List (List ℕ)) : Type 0 where
 
 -- a command stands first, and the words behind it are taken by their places
 pub data Says : List (List ℕ) → Asked → Type 0 where
+  says_audit :
+      (spec image report fixed : List ℕ)
+      → Says (codes "audit" ∷ spec ∷ image ∷ report ∷ fixed ∷ []) (Audit spec image report fixed)
   says_certify :
       (spec certificate : List ℕ)
       → Says (codes "certify" ∷ spec ∷ certificate ∷ []) (Certify spec certificate)

@@ -5,6 +5,8 @@ use Rattle.std.specs.Str.Parse.{digits_value}
 
 -- a command, with the names of its files
 pub data Asked : Type 0 where
+  -- whether a report is that of the repair of an image, and another image what that repair left
+  Audit : (spec image report fixed : List ℕ) → Asked
   -- a certificate of the plan of a specification, saved under the second name
   Certify : (spec certificate : List ℕ) → Asked
   -- whether an image is consistent under a specification
@@ -77,10 +79,11 @@ abbrev pub to_undo : (spec fixed report out : List ℕ) → Option Asked
 to_undo spec fixed report out =
     if bytes_eq out spec then None else Some (Undo spec fixed report out)
 
--- the one with four
+-- those with four
 abbrev pub with_four : (command spec image file word : List ℕ) → Option Asked
 with_four command spec image file word =
-    if bytes_eq command (codes "undo") then to_undo spec image file word
+    if bytes_eq command (codes "audit") then Some (Audit spec image file word)
+    else if bytes_eq command (codes "undo") then to_undo spec image file word
     else None
 
 -- What the words ask for. None where they are no command: there is no word, the first one is none

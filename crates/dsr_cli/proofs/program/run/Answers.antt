@@ -34,6 +34,9 @@ returns g c =
       no_other_facts = c.facts_are_explained.ensures.nothing_else words before after status runs;
       lost = c.lost_records_are_listed.ensures.records words before after status runs;
       no_others_lost = c.lost_records_are_listed.ensures.nothing_else words before after status runs;
+      audits = c.reports_are_audited.ensures.reports words before after status runs;
+      no_other_audits = c.reports_are_audited.ensures.nothing_else words before after status runs;
       undone = c.repairs_are_undone.ensures.repairs words before after status runs;
       no_others_undone = c.repairs_are_undone.ensures.nothing_else words before after status runs;
+      taken_back = c.sound_repairs_are_taken_back.ensures words before after status runs;
     }

@@ -1,0 +1,4 @@
+pub mod Opened
+pub mod Named
+pub mod Edited
+pub mod Ends

@@ -1,0 +1,4 @@
+pub mod Chained
+pub mod Naming
+pub mod Whying
+pub mod Answering

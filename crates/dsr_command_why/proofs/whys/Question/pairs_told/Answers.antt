@@ -1,0 +1,22 @@
+use Rattle.std.proofs.Common.{Option, length, ap, subst, arith, below_more}
+use Rattle.dsr_command_why.proofs.Whying.{listed_at}
+use Rattle.dsr_command_why.specs.Whys.{TellsOf}
+use Rattle.dsr_ir.specs.declared.updates.Symbol.TheVariants as symbols
+use Rattle.dsr_script.specs.declared.moves.Told.{Told}
+use Rattle.dsr_command_why.proofs.whys.Question.pairs_told.Goals as goal
+
+pub cast-number : goal.cast-number
+cast-number c =
+    let few = c.requires.image.typed.base.few_symbols in
+    omega (arith, few, c.loop-number-test.true, ap length c.items-rel-items.ensures)
+
+pub pair_told-requires-clause-among : goal.pair_told-requires-clause-among
+pair_told-requires-clause-among c = listed_at c.args.self.now.spec.now.base.rels c.items-rel-items.result.now c.items-rel-items.ensures c.loop-number.number c.rel-item.result c.loop-number-test.true c.rel-item.is
+
+pub loop-number-preserved : goal.loop-number-preserved
+loop-number-preserved c =
+    let q = c.args.self.now in
+    below_more _ _ c.loop-number.invariant (subst (λ (o : Option Told). TellsOf q.spec.now q.layout.now q.image.now q.word.now (symbols.Rel c.loop-number.number) o) c.in_default.is c.in_ok-answer.ensures)
+
+pub returns : goal.returns
+returns c = λ k below. c.loop-number.invariant k (omega (arith, below, c.loop-number-test.false, ap length c.items-rel-items.ensures))

@@ -1,0 +1,4 @@
+pub mod Facts
+pub mod Named
+pub mod Whys
+pub mod Losts

@@ -9,10 +9,14 @@ use Rattle.dsr_command_edit.specs.declared.editing.Judgement.{Judgement}
 use Rattle.dsr_command_edit.specs.declared.editing.Judgement.TheVariants as judgements
 use Rattle.dsr_command_edit.specs.declared.editing.Outcome.{Outcome}
 use Rattle.dsr_command_edit.specs.declared.editing.Outcome.TheVariants as outcomes
+use Rattle.dsr_command_edit.specs.declared.editing.Step.{Step}
+use Rattle.dsr_command_edit.specs.declared.editing.Step.TheVariants as steps
 use Rattle.dsr_command_edit.specs.declared.opening.Opened.{Opened}
 use Rattle.dsr_command_edit.specs.declared.opening.Opened.TheVariants as opened
 use Rattle.dsr_command_image.specs.Repaired.{Ending, Saves, Tells}
-use Rattle.dsr_edit.specs.Edits.{MayWriteSome}
+use Rattle.dsr_edit.specs.Edits.{IsBroken, IsEdited, MayWriteSome}
+use Rattle.dsr_edit.specs.declared.faults.EditFault.{EditFault}
+use Rattle.dsr_edit.specs.declared.faults.EditFault.TheVariants as faults
 use Rattle.dsr_edit.specs.declared.groups.CellWrite.{CellWrite}
 use Rattle.dsr_edit_text.specs.Scripts.{SetText}
 use Rattle.dsr_ir.specs.declared.declarations.Spec.{Spec}
@@ -33,6 +37,8 @@ abbrev pub ending_of : Edited → Ending
 ending_of (edited.Saved bytes told) = Saves bytes.items (shown told)
 ending_of (edited.Unsaved told) = Tells (shown told)
 
+-- ---- for the functions that make groups
+
 -- the writes that the lines name, each of which can be made; or the first line that names none
 abbrev pub IsJudgement : Spec → Layout → List SetText → Judgement → Type 0
 IsJudgement spec layout group (judgements.Writes writes) =
@@ -40,6 +46,23 @@ IsJudgement spec layout group (judgements.Writes writes) =
     × ((write : CellWrite) → IsIn write writes.items → MayWriteSome spec layout write)
 IsJudgement spec layout group (judgements.Unwritable place) =
     IsFirstUnwritableLine spec layout group place
+
+-- the step tells what the fault does
+abbrev pub TellsFault : EditFault → Step → Type 0
+TellsFault (faults.Cell place) (steps.Unwritable its) = its ≡ place
+TellsFault (faults.Broken constraint binding) (steps.Broken its bound) =
+    (its ≡ constraint) × (bound ≡ binding)
+TellsFault fault step = ⊥
+
+-- one group is made, and the image is as before where it isn't
+abbrev pub IsStep : Spec → Layout → List SetText → List ℕ → List ℕ → Step → Type 0
+IsStep spec layout group old new steps.Made =
+    (writes : List CellWrite) × AreWritesOf spec group writes × IsEdited spec layout writes old new
+IsStep spec layout group old new (steps.Unwritable place) =
+    IsFirstUnwritableLine spec layout group place
+IsStep spec layout group old new (steps.Broken constraint binding) =
+    (writes : List CellWrite) × AreWritesOf spec group writes
+    × IsBroken spec layout writes old (record { constraint = constraint; binding = binding })
 
 -- how groups end that are made from an image on
 abbrev pub IsOutcome : Spec → Layout → List (List SetText) → List ℕ → List ℕ → Outcome → Type 0

@@ -1,12 +1,14 @@
 // An image is edited as a script says.
 ghost use Rattle.std.specs.Prelude.{◌≡◌, ◌≤◌, ◌<◌, ◌^◌, IfOk, MatchOption, length, map};
 ghost use Rattle.dsr_command_edit.specs.Edited.{IsEditOf};
-ghost use Rattle.dsr_command_edit.specs.Ends.{IsJudgement, IsOutcome, ending_of};
-ghost use Rattle.dsr_command_edit.specs.Named.{CanBeMade, IsWriteOf};
+ghost use Rattle.dsr_command_edit.specs.Ends.{IsJudgement, IsOutcome, IsStep, TellsFault, ending_of};
+ghost use Rattle.dsr_command_edit.specs.Named.{AreWritesOf, CanBeMade, IsWriteOf};
 ghost use Rattle.dsr_edit.specs.Edits.{MayWriteSome};
 ghost use Rattle.dsr_edit_text.specs.Scripts.{script_texts};
-ghost use Rattle.dsr_meaning.specs.Typed.{IsTyped};
+ghost use Rattle.dsr_edit.specs.declared.groups.CellWrite as places;
 ghost use Rattle.dsr_edit_text.specs.Shown.{shown, shown_groups};
+ghost use Rattle.dsr_meaning.specs.Counting.{IsIn};
+ghost use Rattle.dsr_meaning.specs.Typed.{IsTyped};
 
 use crate::named::write_of;
 use crate::ready::Ready;
@@ -36,6 +38,16 @@ enum Judgement {
     Unwritable(u64),
 }
 
+// How a group ends.
+#[derive(Clone, Copy, Drop)]
+enum Step {
+    Made,
+    /// The place of the first line that can't be made.
+    Unwritable(u64),
+    /// The constraint would be violated after it.
+    Broken(u32, Binding),
+}
+
 // How the groups of a script end.
 #[derive(Clone, Copy, Drop)]
 enum Outcome {
@@ -57,11 +69,10 @@ fn writable(session: &Session, spec: &Spec, set: &SetLine) -> Option<CellWrite>
     let Some(write) = write_of(spec, set) else {
         return None;
     };
-    if session.may_write(&write) {
-        Some(write)
-    } else {
-        None
+    if !session.may_write(&write) {
+        return None;
     }
+    Some(write)
 }
 
 // Judges the lines of a group.
@@ -76,13 +87,67 @@ fn judge(
     ensures { IfOk result (IsJudgement spec.now session.now.1 (map shown group.now)) }
 {
     let mut writes = Vec::with_capacity(alloc, group.len())?;
-    for (place, set) in group.iter().enumerate() {
-        match writable(session, spec, set) {
-            Some(write) => writes.push(write)?,
-            None => return Ok(Judgement::Unwritable(place as u64)),
-        }
+    for place in 0..group.len() {
+        let Some(write) = writable(session, spec, &group[place]) else {
+            return Ok(Judgement::Unwritable(place as u64));
+        };
+        writes.push(write)?;
     }
     Ok(Judgement::Writes(writes))
+}
+
+// What a refusal tells.
+fn refused(fault: EditFault) -> Result<Step, NoMemory>
+    ensures { IfOk result (TellsFault fault) }
+{
+    match fault {
+        EditFault::Cell(place) => Ok(Step::Unwritable(place)),
+        EditFault::Broken(constraint, binding) => Ok(Step::Broken(constraint, binding)),
+        EditFault::NoMemory => Err(NoMemory),
+    }
+}
+
+// Makes the writes that the lines of a group name.
+fn make(
+    alloc: Global,
+    session: &mut Session,
+    spec: &Spec,
+    group: &[SetLine],
+    writes: &[CellWrite],
+) -> Result<Step, NoMemory>
+    requires spec { session.old.0 ≡ spec.now }
+    requires writes { AreWritesOf spec.now (map shown group.now) writes.now }
+    requires may { (write : places.CellWrite) → IsIn write writes.now
+        → MayWriteSome spec.now session.old.1 write }
+    ensures spec { session.new.0 ≡ session.old.0 }
+    ensures layout { session.new.1 ≡ session.old.1 }
+    ensures step { IfOk result (IsStep spec.now session.old.1 (map shown group.now) session.old.2
+        session.new.2) }
+{
+    match session.edit(alloc, writes) {
+        Ok(()) => Ok(Step::Made),
+        Err(fault) => refused(fault),
+    }
+}
+
+// Makes a group, where its lines name writes that can be made.
+fn edit_group(
+    alloc: Global,
+    session: &mut Session,
+    spec: &Spec,
+    group: &[SetLine],
+) -> Result<Step, NoMemory>
+    requires spec { session.old.0 ≡ spec.now }
+    requires typed { IsTyped spec.now }
+    ensures spec { session.new.0 ≡ session.old.0 }
+    ensures layout { session.new.1 ≡ session.old.1 }
+    ensures step { IfOk result (IsStep spec.now session.old.1 (map shown group.now) session.old.2
+        session.new.2) }
+{
+    match judge(alloc, session, spec, group)? {
+        Judgement::Writes(writes) => make(alloc, session, spec, group, &writes),
+        Judgement::Unwritable(place) => Ok(Step::Unwritable(place)),
+    }
 }
 
 // Makes the groups of a script, one after the other, as long as each may be made.
@@ -96,24 +161,18 @@ fn edit_groups(
     requires typed { IsTyped spec.now }
     requires few { length (script_texts (shown_groups groups.now)) < 2 ^ 63 }
     ensures same { session.new.1 ≡ session.old.1 }
-    ensures outcome { IfOk result (IsOutcome spec.now session.old.1 (shown_groups groups.now) session.old.2
-        session.new.2) }
+    ensures outcome { IfOk result (IsOutcome spec.now session.old.1 (shown_groups groups.now)
+        session.old.2 session.new.2) }
 {
     let mut line = 1;
     for (number, group) in groups.iter().enumerate() {
-        let writes = match judge(alloc, session, spec, group)? {
-            Judgement::Writes(writes) => writes,
-            Judgement::Unwritable(place) => return Ok(Outcome::Unwritable(line + place)),
-        };
-        match session.edit(alloc, &writes) {
-            Ok(()) => {}
-            Err(EditFault::Cell(place)) => return Ok(Outcome::Unwritable(line + place)),
-            Err(EditFault::Broken(constraint, binding)) => {
+        match edit_group(alloc, session, spec, group)? {
+            Step::Made => line += group.len() as u64 + 1,
+            Step::Unwritable(place) => return Ok(Outcome::Unwritable(line + place)),
+            Step::Broken(constraint, binding) => {
                 return Ok(Outcome::Broken(number as u64 + 1, constraint, binding));
             }
-            Err(EditFault::NoMemory) => return Err(NoMemory),
         }
-        line += group.len() as u64 + 1;
     }
     Ok(Outcome::Made)
 }

@@ -1,5 +1,5 @@
 -- Groups of lines that were read one after the other.
-use Rattle.std.proofs.Common.{◌≡◌, ◌≢◌, ◌<◌, ◌≤◌, ◌+◌, ◌++◌, ◌∙◌, ◌⊎◌, ℕ, zero, suc, Bool, true, false, All, List, [], ◌∷◌, Option, None, Some, Result, Ok, Err, Vec, Global, IfOk, IfErr, length, map, take, slice_get, inl, inr, refl, sym, ap, subst, arith, append_assoc, append-nil, length-append}
+use Rattle.std.proofs.Common.{◌≡◌, ◌≢◌, ◌<◌, ◌≤◌, ◌+◌, ◌^◌, ◌++◌, ◌∙◌, ◌⊎◌, ℕ, zero, suc, Bool, true, false, All, List, [], ◌∷◌, Option, None, Some, Result, Ok, Err, Vec, Global, IfOk, IfErr, length, map, take, slice_get, inl, inr, refl, sym, ap, subst, arith, append_assoc, append-nil, length-append}
 use Rattle.std.specs.Prelude.{nat_eq}
 use Rattle.std.specs.List.{flat_map}
 use Rattle.std.proofs.lemmas.Bool.{eqb-true}
@@ -173,3 +173,9 @@ fault_told second text texts (Err faults.NoMemory) are reads = tt
 fault_told second text texts (Err (faults.Line number)) are reads =
     let its = subst (λ ts. IsWrongAt second ts number) are reads in
     record { groups = its.groups; group = its.group; begins = its.begins; number_is = its.number_is; wrong = its.wrong }
+
+pub few_lines :
+    (second : Bool) (texts : List (List ℕ)) (result : Result (Vec (Vec SetLine Global) Global) ScriptFault) → length texts < 2 ^ 63 → ReadsGroups second texts result
+    → IfOk result (λ groups. length (script_texts (shown_groups groups.items)) < 2 ^ 63)
+few_lines second texts (Err fault) few reads = tt
+few_lines second texts (Ok groups) few reads = let same = ap length reads.texts_are in omega (arith, few, same)

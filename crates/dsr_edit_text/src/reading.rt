@@ -1,5 +1,5 @@
 // The groups of a script.
-ghost use Rattle.std.specs.Prelude.{◌≡◌, ◌<◌, Decides, IfErr, IfOk, Some, codes, length, nat_eq, slice_get};
+ghost use Rattle.std.specs.Prelude.{◌≡◌, ◌<◌, ◌^◌, Decides, IfErr, IfOk, Some, codes, length, nat_eq, slice_get};
 ghost use Rattle.bstr.specs.Text.{lines_of};
 ghost use Rattle.dsr_edit_text.specs.Scripts as said;
 ghost use Rattle.dsr_edit_text.specs.Scripts.{IsFirstWrong, IsScript, Tells};
@@ -16,7 +16,8 @@ use std::alloc::Global;
 
 // The lines of the text, with their line feeds.
 fn split<'a>(alloc: Global, text: &'a [u8]) -> Result<Vec<&'a [u8]>, NoMemory>
-    ensures { IfOk result (λ lines. texts_of lines.items ≡ lines_of text.entry.now) }
+    ensures lines { IfOk result (λ lines. texts_of lines.items ≡ lines_of text.entry.now) }
+    ensures few { IfOk result (λ lines. length lines.items < 2 ^ 63) }
 {
     Ok(text.lines_with_terminator().collect(alloc)?)
 }
@@ -118,6 +119,8 @@ pub fn read<'a>(
     text: &'a [u8],
 ) -> Result<Vec<Vec<SetLine<'a>>>, ScriptFault>
     ensures read { IfOk result (λ groups. IsScript second text.entry.now (shown_groups groups.items)) }
+    ensures few { IfOk result (λ groups.
+        length (said.script_texts (shown_groups groups.items)) < 2 ^ 63) }
     ensures fault { IfErr result (Tells (IsFirstWrong second text.entry.now)) }
 {
     let texts = split(alloc, text)?;

@@ -1,5 +1,5 @@
 -- The instances of a chain fire, and their lines.
-use Rattle.std.proofs.Common.{◌≡◌, ◌<◌, ◌≤◌, ◌+◌, ◌∙◌, ◌↔◌, ◌++◌, ℕ, List, [], ◌∷◌, Option, None, Some, Result, Ok, Err, length, option_map, slice_get, get_or, take, inl, inr, refl, sym, ap, subst, arith}
+use Rattle.std.proofs.Common.{◌≡◌, ◌<◌, ◌≤◌, ◌+◌, ◌∙◌, ◌↔◌, ◌++◌, ℕ, List, [], ◌∷◌, Option, None, Some, Result, Ok, Err, length, option_map, slice_get, get_or, take, inl, inr, refl, sym, ap, subst, arith, append_assoc}
 use Rattle.std.proofs.lemmas.Grind.{common_steps}
 use Rattle.std.proofs.lemmas.List.{reverse-append, take_more}
 use Rattle.std.proofs.lemmas.Option.{get_or_from_slice_get, slice_get_within}
@@ -36,6 +36,16 @@ in_reverse x (y ∷ ys) is = subst (IsIn x) (sym (reverse-append (y ∷ []) ys))
   | inl here ↦ in_right x (reverse ys) (y ∷ []) (inl here)
   | inr behind ↦ in_left x (reverse ys) (y ∷ []) (in_reverse x ys behind)
 ])
+
+-- a text that is put piece by piece
+pub line_put :
+    {A E : Type 0} (r : Result A E) (old one two three new place word fact last : List ℕ) → one ≡ old ++ place → two ≡ one ++ word → three ≡ two ++ fact
+    → OnOk r (new ≡ three ++ last) → OnOk r (new ≡ old ++ (((place ++ word) ++ fact) ++ last))
+line_put (Err e) old one two three new place word fact last a b c put = tt
+line_put (Ok x) old one two three new place word fact last a b c put =
+    put ∙ (ap (λ t. t ++ last) (c ∙ ap (λ t. t ++ fact) (b ∙ ap (λ t. t ++ word) a))
+        ∙ (ap (λ t. (t ++ fact) ++ last) (append_assoc old place word)
+        ∙ (ap (λ t. t ++ last) (append_assoc old (place ++ word) fact) ∙ append_assoc old ((place ++ word) ++ fact) last)))
 
 module _ (spec : Spec) (layout : Layout) (bytes : List ℕ) where
   all_give : (js : List Instance) (fact : Fact) → FirstChain spec layout bytes js fact → (i : Instance) → IsIn i js → GivesSome spec layout bytes i

@@ -21,8 +21,7 @@ use dsr_script::{Told, Verdict};
 use dsr_why::chain;
 use std::alloc::Global;
 
-/// A question why a fact is in the model of an image that has a layout; the fact is named by its
-/// text.
+// Why a fact is in the model of an image that has a layout; the fact is named by its text.
 #[derive(Clone, Copy)]
 struct Question<'a> {
     spec: &'a Spec,

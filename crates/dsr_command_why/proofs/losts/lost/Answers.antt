@@ -1,4 +1,4 @@
-use Rattle.std.proofs.Common.{◌≡◌, ◌∙◌, IfOk, List, subst}
+use Rattle.std.proofs.Common.{◌≡◌, IfOk, List, subst}
 use Rattle.dsr_command_why.proofs.Answering.{listed_told, refused_told}
 use Rattle.dsr_command_why.specs.Losts.{IsLostAnswer, lost_answer}
 use Rattle.dsr_command_why.specs.Losts.IsLostAnswer.{unlaid}
@@ -19,5 +19,5 @@ pub returns : goal.returns
 returns c =
     listed_told c.args.spec.now c.args.image.items c.in-Ok.layout c.in_ok-found.found.items c.lost_told.result
     (subst (λ bytes. IsLayoutOf c.args.spec.now bytes c.in-Ok.layout) c.deref.ensures.value c.in-Ok.ensures.image.layout_is)
-    (subst (λ bytes. AreLost c.args.spec.now c.in-Ok.layout bytes c.in_ok-found.found.items) (c.lost_in.view_is ∙ c.new.ensures) c.in_ok-found.ensures)
+    (subst (λ bytes. AreLost c.args.spec.now c.in-Ok.layout bytes c.in_ok-found.found.items) c.new.ensures c.in_ok-found.ensures)
     (subst (λ (es : List Element). IfOk c.lost_told.result (λ told. shown told ≡ lost_answer c.args.spec.now es)) c.deref-2.ensures.value c.lost_told.ensures)

@@ -1,4 +1,4 @@
-use Rattle.std.proofs.Common.{◌∙◌, IfOk, subst}
+use Rattle.std.proofs.Common.{IfOk, subst}
 use Rattle.dsr_command_why.proofs.Answering.{refused_told}
 use Rattle.dsr_command_why.specs.Whys.{IsWhyAnswer}
 use Rattle.dsr_command_why.specs.Whys.IsWhyAnswer.{unlaid}
@@ -16,4 +16,4 @@ returns-in-Err c =
 pub returns : goal.returns
 returns c =
     subst (λ bytes. IfOk c.laid_out_told.result (λ told. IsWhyAnswer c.args.spec.now bytes c.args.word.now (shown told)))
-    (c.laid_out_told.view_is ∙ c.new.ensures) c.laid_out_told.ensures
+    c.new.ensures c.laid_out_told.ensures

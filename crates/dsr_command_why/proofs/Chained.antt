@@ -44,8 +44,8 @@ pub line_put :
 line_put (Err e) old one two three new place word fact last a b c put = tt
 line_put (Ok x) old one two three new place word fact last a b c put =
     put ∙ (ap (λ t. t ++ last) (c ∙ ap (λ t. t ++ fact) (b ∙ ap (λ t. t ++ word) a))
-        ∙ (ap (λ t. (t ++ fact) ++ last) (append_assoc old place word)
-        ∙ (ap (λ t. t ++ last) (append_assoc old (place ++ word) fact) ∙ append_assoc old ((place ++ word) ++ fact) last)))
+    ∙ (ap (λ t. (t ++ fact) ++ last) (append_assoc old place word)
+    ∙ (ap (λ t. t ++ last) (append_assoc old (place ++ word) fact) ∙ append_assoc old ((place ++ word) ++ fact) last)))
 
 module _ (spec : Spec) (layout : Layout) (bytes : List ℕ) where
   all_give : (js : List Instance) (fact : Fact) → FirstChain spec layout bytes js fact → (i : Instance) → IsIn i js → GivesSome spec layout bytes i

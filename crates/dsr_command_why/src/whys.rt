@@ -67,14 +67,7 @@ impl Question<'_> {
         let Some(chain) = chain(alloc, self.spec, self.layout, self.image, fact)? else {
             return Ok(None);
         };
-        let mut text = lines(
-            alloc,
-            self.spec,
-            self.layout,
-            self.image,
-            fact,
-            &chain,
-        )?;
+        let mut text = lines(alloc, self.spec, self.layout, self.image, fact, &chain)?;
         push(&mut text, b"chain ")?;
         push_number(&mut text, chain.len() as u64)?;
         push(&mut text, b"\n")?;
@@ -130,12 +123,7 @@ impl Question<'_> {
     }
 
     // The answer for the pair of a relation of which the word may be the text.
-    fn pair_told(
-        &self,
-        alloc: Global,
-        number: u32,
-        rel: &Rel,
-    ) -> Result<Option<Told>, NoMemory>
+    fn pair_told(&self, alloc: Global, number: u32, rel: &Rel) -> Result<Option<Told>, NoMemory>
         requires image { IsImageOf self.now.spec.now self.now.layout.now self.now.image.now }
         requires legal { IsLegalLayout self.now.layout.now }
         requires among { slice_get self.now.spec.now.base.rels number ≡ Some rel.now }
@@ -220,5 +208,6 @@ pub fn why(alloc: Global, spec: &Spec, image: Vec<u8>, word: &[u8]) -> Result<To
         Ok(layout) => layout,
         Err(fault) => return layout_refused(alloc, spec, fault),
     };
-    laid_out_told(alloc, spec, &layout, &Whole::new(image), word)
+    let image = Whole::new(image);
+    laid_out_told(alloc, spec, &layout, &image, word)
 }

@@ -10,7 +10,7 @@ pub loop-place-init : goal.loop-place-init
 loop-place-init c = subst (AreLines c.args.spec.now c.args.layout.now c.args.image.now _) (sym c.new-text.ensures.items) none
 
 pub push_instance-requires-clause-rules : goal.push_instance-requires-clause-rules
-push_instance-requires-clause-rules c = subst (AreResolved c.args.spec.now c.args.layout.now) (sym (c.items.ensures ∙ c.rules.view_is)) c.in_ok-rules.ensures
+push_instance-requires-clause-rules c = subst (AreResolved c.args.spec.now c.args.layout.now) (sym c.items.ensures) c.in_ok-rules.ensures
 
 pub push_instance-requires-clause-gives : goal.push_instance-requires-clause-gives
 push_instance-requires-clause-gives c =

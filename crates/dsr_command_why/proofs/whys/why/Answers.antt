@@ -15,5 +15,4 @@ returns-in-Err c =
 
 pub returns : goal.returns
 returns c =
-    subst (λ bytes. IfOk c.laid_out_told.result (λ told. IsWhyAnswer c.args.spec.now bytes c.args.word.now (shown told)))
-    c.new.ensures c.laid_out_told.ensures
+    subst (λ bytes. IfOk c.laid_out_told.result (λ told. IsWhyAnswer c.args.spec.now bytes c.args.word.now (shown told))) c.new-image.ensures c.laid_out_told.ensures

@@ -5,11 +5,6 @@ use Rattle.dsr_ir.specs.declared.updates.Symbol.TheVariants as symbols
 use Rattle.dsr_script.specs.declared.moves.Told.{Told}
 use Rattle.dsr_command_why.proofs.whys.Question.members_told.Goals as goal
 
-pub cast-number : goal.cast-number
-cast-number c =
-    let few = c.requires.image.typed.base.few_symbols in
-    omega (arith, few, c.loop-number-test.true, ap length c.items-set-items.ensures)
-
 pub member_told-requires-clause-among : goal.member_told-requires-clause-among
 member_told-requires-clause-among c = listed_at c.args.self.now.spec.now.base.sets c.items-set-items.result.now c.items-set-items.ensures c.loop-number.number c.set-item.result c.loop-number-test.true c.set-item.is
 

@@ -5,11 +5,6 @@ use Rattle.dsr_ir.specs.declared.updates.Symbol.TheVariants as symbols
 use Rattle.dsr_script.specs.declared.moves.Told.{Told}
 use Rattle.dsr_command_why.proofs.whys.Question.pairs_told.Goals as goal
 
-pub cast-number : goal.cast-number
-cast-number c =
-    let few = c.requires.image.typed.base.few_symbols in
-    omega (arith, few, c.loop-number-test.true, ap length c.items-rel-items.ensures)
-
 pub pair_told-requires-clause-among : goal.pair_told-requires-clause-among
 pair_told-requires-clause-among c = listed_at c.args.self.now.spec.now.base.rels c.items-rel-items.result.now c.items-rel-items.ensures c.loop-number.number c.rel-item.result c.loop-number-test.true c.rel-item.is
 

@@ -1,7 +1,7 @@
 -- The fact of a symbol whose text is a word is read from the word.
-use Rattle.std.proofs.Common.{◌≡◌, ◌<◌, ◌≤◌, ◌+◌, ◌^◌, ◌⊎◌, ◌++◌, ◌∙◌, ◌%◌, ℕ, zero, suc, Bool, true, false, List, [], ◌∷◌, Option, None, Some, All, IfSome, length, drop, slice_get, inl, inr, refl, sym, ap, subst, arith, append_assoc, append-nil, pow_mono}
+use Rattle.std.proofs.Common.{◌≡◌, ◌<◌, ◌≤◌, ◌+◌, ◌^◌, ◌++◌, ◌∙◌, ◌%◌, ℕ, Bool, true, false, List, [], ◌∷◌, Option, None, Some, IfSome, length, drop, slice_get, inl, inr, refl, sym, ap, subst, arith, append_assoc, append-nil, pow_mono}
 use Rattle.std.proofs.Math.Seq.{drop-append-add}
-use Rattle.std.specs.Prelude.{MatchBool, codes, decimal}
+use Rattle.std.specs.Prelude.{MatchBool, codes}
 use Rattle.dsr_answers.specs.Texts.{element_text, symbol_name}
 use Rattle.dsr_command_why.specs.Facts.{fact_text, target_text}
 use Rattle.dsr_command_why.specs.Named.{behind_name, member_ahead, pair_ahead, target_ahead}
@@ -16,7 +16,6 @@ use Rattle.dsr_ir.specs.declared.rules.Inc.TheVariants.{Own, Target, Slot, OwnPa
 use Rattle.dsr_ir.specs.declared.rules.Path.{Path}
 use Rattle.dsr_ir.specs.declared.rules.Rule.{Rule}
 use Rattle.dsr_ir.specs.declared.tuples.Element.{Element}
-use Rattle.dsr_ir.specs.declared.tuples.Fact.{Fact}
 use Rattle.dsr_ir.specs.declared.tuples.Fact.TheVariants.{Member, Pair}
 use Rattle.dsr_ir.specs.declared.tuples.Instance.{Instance}
 use Rattle.dsr_ir.specs.declared.tuples.Target.{Target as TargetOf}
@@ -35,7 +34,7 @@ use Rattle.dsr_meaning.specs.Typed.{IsPoolNumber, IsTypedInc, IsTypedPath, IsTyp
 use Rattle.dsr_report_read.proofs.LinesBack.{element_back}
 use Rattle.dsr_report_read.proofs.ReadBack.{number_back, regroup}
 use Rattle.dsr_report_read.specs.Forms.{IsRecord}
-use Rattle.dsr_report_read.specs.Lenient.{behind_element, element_ahead, number_ahead}
+use Rattle.dsr_report_read.specs.Lenient.{behind_element, element_ahead}
 use Rattle.dsr_resolve.proofs.RuleReads.{path_read, rule_typed}
 use Rattle.dsr_resolve.specs.Readings.{cell_at, reading_of}
 use Rattle.dsr_step_theory.specs.Images.{IsImageOf}

@@ -1,5 +1,5 @@
 -- The answers for facts, by what was found of them.
-use Rattle.std.proofs.Common.{◌≡◌, ◌<◌, ◌≤◌, ◌+◌, ◌++◌, ◌∙◌, ℕ, Bool, true, false, List, Option, None, Some, MatchOption, Result, Ok, Err, Decides, IfOk, Vec, Global, length, drop, slice_get, get_or, is_some, inl, inr, refl, sym, ap, subst, arith}
+use Rattle.std.proofs.Common.{◌≡◌, ◌<◌, ◌+◌, ◌++◌, ◌∙◌, ℕ, Bool, true, false, List, Option, None, Some, MatchOption, Result, Ok, Err, Decides, IfOk, Vec, Global, length, drop, slice_get, get_or, is_some, refl, sym, ap, subst}
 use Rattle.std.specs.Option.{option_map_or}
 use Rattle.std.specs.Prelude.{codes, decimal, if◌then◌else◌, nat_eq, option_and_then, reverse}
 use Rattle.std.proofs.lemmas.Bool.{eqb-true, false≢true}
@@ -10,7 +10,7 @@ use Rattle.dsr_chain_laws.specs.Shortest.{FirstChain}
 use Rattle.dsr_command_why.proofs.Naming.{member_read, pair_read}
 use Rattle.dsr_command_why.specs.Facts.{fact_text}
 use Rattle.dsr_command_why.specs.Named.{member_ahead, pair_ahead}
-use Rattle.dsr_command_why.specs.Whys.{IsWhyAnswer, TellsBelow, TellsChain, TellsMember, TellsOf, outside_answer}
+use Rattle.dsr_command_why.specs.Whys.{IsWhyAnswer, TellsBelow, TellsChain, TellsMember, TellsOf}
 use Rattle.dsr_command_why.specs.Whys.IsWhyAnswer.{outside}
 use Rattle.dsr_ir.specs.declared.declarations.Rel.{Rel}
 use Rattle.dsr_ir.specs.declared.declarations.SetDecl.{SetDecl}
@@ -20,7 +20,6 @@ use Rattle.dsr_ir.specs.declared.tuples.Element.{Element}
 use Rattle.dsr_ir.specs.declared.tuples.Fact.{Fact}
 use Rattle.dsr_ir.specs.declared.tuples.Fact.TheVariants.{Member, Pair}
 use Rattle.dsr_ir.specs.declared.tuples.Instance.{Instance}
-use Rattle.dsr_ir.specs.declared.updates.Symbol.{Symbol}
 use Rattle.dsr_ir.specs.declared.updates.Symbol.TheVariants as symbols
 use Rattle.dsr_layout.proofs.RangeOfFacts.{fact_in_range}
 use Rattle.dsr_layout.specs.InRange.{IsMemberInRange, IsPairInRange}
@@ -29,7 +28,6 @@ use Rattle.dsr_meaning.specs.Instances.{record_count, set_pool}
 use Rattle.dsr_meaning.specs.Legal.{IsLegalLayout}
 use Rattle.dsr_meaning.specs.Looking.{symbol_of}
 use Rattle.dsr_meaning.specs.Models.{IsDerived, IsFact, IsInComplement, IsMemberBy, base_of}
-use Rattle.dsr_script.specs.Moves.{shown}
 use Rattle.dsr_script.specs.declared.moves.Told.{Told}
 use Rattle.dsr_step_theory.specs.Images.{IsImageOf}
 

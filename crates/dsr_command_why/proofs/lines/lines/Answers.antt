@@ -1,4 +1,4 @@
-use Rattle.std.proofs.Common.{◌≡◌, ◌∙◌, List, ℕ, sym, subst, arith}
+use Rattle.std.proofs.Common.{sym, subst}
 use Rattle.std.proofs.lemmas.Option.{slice_get-get_or}
 use Rattle.dsr_command_why.proofs.Chained.{all_lines, gives_some, line_more}
 use Rattle.dsr_command_why.specs.Whys.{AreLines}

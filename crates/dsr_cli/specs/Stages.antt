@@ -10,6 +10,7 @@ use Rattle.dsr_cli.specs.declared.waiting.Waiting.{Waiting}
 use Rattle.dsr_cli.specs.declared.waiting.Waiting.TheVariants as stages
 use Rattle.dsr_cli.specs.declared.words.Task.{Task}
 use Rattle.dsr_cli.specs.declared.words.Task.TheVariants as tasks
+use Rattle.dsr_meaning.specs.Limits.{most_bytes}
 
 -- what a task comes to, once the text of the specification was read as this tree
 abbrev pub comes_to : Task → TreeShape → Script
@@ -47,7 +48,7 @@ left (stages.Certificate spec) = 0
 -- repaired with the plan that is taken; an image isn't longer than any may be
 abbrev pub is_ready : Waiting → List ℕ → Type 0
 is_ready (stages.Spec task) bytes = ⊤
-is_ready (stages.Image spec) bytes = IsTyped spec × (length bytes ≤ 67108864)
+is_ready (stages.Image spec) bytes = IsTyped spec × (length bytes ≤ most_bytes)
 is_ready (stages.Damaged spec choice out) bytes =
-    IsTyped spec × IsTaken spec choice × (length bytes ≤ 67108864)
+    IsTyped spec × IsTaken spec choice × (length bytes ≤ most_bytes)
 is_ready (stages.Certificate spec) bytes = IsTyped spec

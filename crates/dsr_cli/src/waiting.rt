@@ -9,6 +9,7 @@ ghost use Rattle.dsr_plan_theory.specs.Taken.{IsTaken};
 ghost use Rattle.dsr_compile.specs.Readings.{IsSpecOf};
 ghost use Rattle.dsr_script.specs.Moves.{Follows, IsReady, loads_of};
 ghost use Rattle.dsr_tree.specs.Trees.{tree_shape};
+ghost use Rattle.dsr_meaning.specs.Limits.{most_bytes};
 
 use crate::words::{Command, Task, command_of};
 use dsr_answers::told;
@@ -51,7 +52,7 @@ pub enum Waiting<'a> {
 // The most bytes of an image.
 fn image_limit(spec: &Spec) -> u32
     ensures is { result ≡ commands.image_limit spec.now }
-    ensures most { result ≤ 67108864 }
+    ensures most { result ≤ most_bytes }
 {
     if spec.base.version == 2 {
         67_108_864
@@ -194,7 +195,7 @@ fn save_repaired<'a>(
 ) -> Result<Move<'a, Waiting<'a>>, NoMemory>
     requires typed { IsTyped spec.now }
     requires taken { IsTaken spec.now choice }
-    requires small { length image.items ≤ 67108864 }
+    requires small { length image.items ≤ most_bytes }
     ensures ready { IfOk result (λ move. IsReady is_ready move) }
     ensures follows { IfOk result (λ move. Follows due (repairs out.now spec.now choice image.items) move) }
     ensures fewer { IfOk result (λ move. loads_of left move ≤ 0) }

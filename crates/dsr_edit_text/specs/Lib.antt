@@ -1,0 +1,4 @@
+pub mod Scripts
+pub mod Shown
+pub mod Lenient
+pub mod Reads

@@ -4,7 +4,7 @@ use Rattle.std.specs.Prelude.{codes, decimal}
 use Rattle.std.specs.List.{prefix_len}
 use Rattle.std.proofs.Math.Seq.{drop-append_seam, take-append_seam}
 use Rattle.std.proofs.lemmas.Bool.{false≢true}
-use Rattle.dsr_edit_text.proofs.Names.{record_word, spelled}
+use Rattle.dsr_edit_text.proofs.Spelled.{record_word, spelled}
 use Rattle.dsr_edit_text.specs.Lenient.{behind_index, behind_word, field_in, index_ahead, index_in, opens, pool_in, set_in, slot_in, value_in, word_ahead}
 use Rattle.dsr_edit_text.specs.Reads.{ReadsSet}
 use Rattle.dsr_edit_text.specs.Scripts.{IsName, IsRecordText, IsSetText, SetText, index_text, set_text}

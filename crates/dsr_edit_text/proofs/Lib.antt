@@ -1,3 +1,3 @@
-pub mod Names
+pub mod Spelled
 pub mod Back
 pub mod Rows

@@ -1,5 +1,5 @@
 use Rattle.std.proofs.Common.{◌∙◌, sym}
-use Rattle.dsr_edit_text.proofs.Names.{a_keyword_found, no_keyword_found, no_letter, too_long}
+use Rattle.dsr_edit_text.proofs.Spelled.{a_keyword_found, no_keyword_found, no_letter, too_long}
 use Rattle.dsr_edit_text.proofs.names.is_name.Goals as goal
 
 pub returns-then-not-begins_with_letter : goal.returns-then-not-begins_with_letter

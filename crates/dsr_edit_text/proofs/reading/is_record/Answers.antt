@@ -1,4 +1,4 @@
-use Rattle.dsr_edit_text.proofs.Names.{record_of_head, record_of_slot}
+use Rattle.dsr_edit_text.proofs.Spelled.{record_of_head, record_of_slot}
 use Rattle.dsr_edit_text.specs.Shown.{shown}
 use Rattle.dsr_edit_text.proofs.reading.is_record.Goals as goal
 

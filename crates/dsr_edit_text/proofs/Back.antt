@@ -12,7 +12,7 @@ use Rattle.dsr_edit_text.specs.Shown.{shown}
 use Rattle.dsr_edit_text.specs.declared.lines.SetLine.{SetLine}
 use Rattle.dsr_lexer.proofs.Shapes.{both, every_front}
 use Rattle.dsr_report_read.proofs.ReadBack.{number_back, regroup}
-use Rattle.dsr_report_read.specs.Lenient.{behind_number, number_ahead, value_after}
+use Rattle.dsr_report_read.specs.Lenient.{behind_number, digits_len, number_ahead, value_after}
 use Rattle.dsr_syntax_theory.specs.Tokens.{every, is_in_word}
 
 -- ---- numbers have 64 bits
@@ -25,7 +25,7 @@ value_small [] v small = small
 value_small (d ∷ ds) v small = value_small ds ((v * 10 % 2 ^ 64 + (d - 48)) % 2 ^ 64) (mod_small (v * 10 % 2 ^ 64 + (d - 48)))
 
 number_small : (text : List ℕ) → number_ahead text < 2 ^ 64
-number_small text = value_small _ 0 (omega arith)
+number_small text = value_small (take (digits_len text) text) 0 (omega arith)
 
 index_small : (text : List ℕ) → IfSome (index_ahead text) (λ n. n < 2 ^ 64)
 index_small text = by_case (opens text) where

@@ -1,3 +1,4 @@
 pub mod Spelled
+pub mod Put
 pub mod Back
 pub mod Rows

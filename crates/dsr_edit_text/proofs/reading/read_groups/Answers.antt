@@ -1,8 +1,9 @@
-use Rattle.std.proofs.Common.{◌≡◌, ◌+◌, ◌∙◌, false, true, [], Option, length, map, sym, ap, subst, arith}
+use Rattle.std.proofs.Common.{◌≡◌, ◌+◌, ◌++◌, ◌∙◌, false, true, List, [], ◌∷◌, Option, Some, length, map, sym, ap, subst, arith}
 use Rattle.std.specs.Prelude.{nat_eq}
 use Rattle.std.proofs.lemmas.Bool.{false≢true}
 use Rattle.dsr_edit_text.proofs.Rows.{AreRead, all_read, commit_read, groups_more, lines_more, no_lines, none_read, set_read, some_lines, unended, wrong_here}
 use Rattle.dsr_edit_text.specs.Reads.{IsWrongAt, ReadsSet}
+use Rattle.dsr_edit_text.specs.Scripts.{SetText}
 use Rattle.dsr_edit_text.specs.Shown.{shown, shown_groups, texts_of}
 use Rattle.dsr_edit_text.specs.declared.lines.SetLine.{SetLine}
 use Rattle.dsr_report_read.proofs.Row.{texts_long}
@@ -20,7 +21,22 @@ returns-in_default c =
     (subst (λ (o : Option SetLine). ReadsSet c.args.second c.text_at-text.result.now o) c.in_default.is c.in_ok-set.ensures)
 
 pub loop-place-preserved : goal.loop-place-preserved
-loop-place-preserved c = ?
+loop-place-preserved c =
+    let reads : ReadsSet c.args.second c.text_at-text.result.now (Some c.in-Some.set) =
+    subst (λ (o : Option SetLine). ReadsSet c.args.second c.text_at-text.result.now o) c.in-Some.is c.in_ok-set.ensures in
+    subst (λ (ls : List SetText). AreRead c.args.second (texts_of c.args.texts.now) (c.loop-place.place + 1) (shown_groups c.loop-place.groups.items) ls)
+    (sym (ap (map shown) c.in_ok-push-2.ensures.items ∙ lines_more c.loop-place.group.items c.in-Some.set))
+    (set_read c.args.second (texts_of c.args.texts.now) c.loop-place.place (shown_groups c.loop-place.groups.items) (map shown c.loop-place.group.items) c.loop-place.invariant
+        c.text_at-text.result.now c.text_at-text.ensures (shown c.in-Some.set) reads.0 reads.1)
+
+pub loop-place-preserved-then-is_commit : goal.loop-place-preserved-then-is_commit
+loop-place-preserved-then-is_commit c =
+    subst (λ (gs : List (List SetText)). AreRead c.args.second (texts_of c.args.texts.now) (c.loop-place.place + 1) gs (map shown c.new-group-then-is_commit.result.items))
+    (sym (ap shown_groups c.in_ok-push.ensures.items ∙ groups_more c.loop-place.groups.items c.loop-place.group))
+    (subst (λ (ls : List SetLine). AreRead c.args.second (texts_of c.args.texts.now) (c.loop-place.place + 1) (shown_groups c.loop-place.groups.items ++ map shown c.loop-place.group.items ∷ []) (map shown ls))
+        (sym c.new-group-then-is_commit.ensures.items)
+        (commit_read c.args.second (texts_of c.args.texts.now) c.loop-place.place (shown_groups c.loop-place.groups.items) (map shown c.loop-place.group.items) c.loop-place.invariant
+            c.text_at-text.result.now c.text_at-text.ensures (c.is_commit.ensures.0 c.if-is_commit.true)))
 
 pub returns-then-not-is_empty : goal.returns-then-not-is_empty
 returns-then-not-is_empty c =

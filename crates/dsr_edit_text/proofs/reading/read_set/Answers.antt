@@ -1,11 +1,11 @@
 use Rattle.dsr_edit_text.proofs.Back.{field_word, no_field, no_record, no_text, pool_word, read_so}
 use Rattle.dsr_edit_text.proofs.reading.read_set.Goals as goal
 
-pub is_record-requires-clause-word : goal.is_record-requires-clause-word
-is_record-requires-clause-word c = pool_word c.args.second c.args.text.now c.set_in-set.result c.set_in-set.ensures
+pub is_record-requires : goal.is_record-requires
+is_record-requires c = record { word = pool_word c.args.second c.args.text.now c.set_in-set.result c.set_in-set.ensures }
 
-pub is_name-requires-clause-word : goal.is_name-requires-clause-word
-is_name-requires-clause-word c = field_word c.args.second c.args.text.now c.set_in-set.result c.set_in-set.ensures
+pub is_name-requires : goal.is_name-requires
+is_name-requires c = record { word = field_word c.args.second c.args.text.now c.set_in-set.result c.set_in-set.ensures }
 
 pub returns-then-not-is_record : goal.returns-then-not-is_record
 returns-then-not-is_record c = no_record c.args.second c.args.text.now c.set_in-set.result c.set_in-set.ensures c.is_record.result c.is_record.ensures c.if-not-is_record.true

@@ -1,5 +1,5 @@
 -- A printed line is read back.
-use Rattle.std.proofs.Common.{◌≡◌, ◌≢◌, ◌<◌, ◌+◌, ◌*◌, ◌-◌, ◌%◌, ◌^◌, ◌++◌, ◌∙◌, ℕ, suc, Bool, true, false, Decides, IfSome, cond, List, [], ◌∷◌, Option, None, Some, length, take, drop, refl, sym, ap, subst, arith, append_assoc, append-nil}
+use Rattle.std.proofs.Common.{◌≡◌, ◌<◌, ◌+◌, ◌*◌, ◌-◌, ◌%◌, ◌^◌, ◌++◌, ◌∙◌, ℕ, Bool, true, false, Decides, IfSome, cond, List, [], ◌∷◌, Option, None, Some, length, take, drop, refl, sym, ap, subst, arith, append-nil}
 use Rattle.std.specs.Prelude.{codes, decimal}
 use Rattle.std.specs.List.{prefix_len}
 use Rattle.std.proofs.Math.Seq.{drop-append_seam, take-append_seam}

@@ -1,7 +1,6 @@
 -- Groups of lines that were read one after the other.
-use Rattle.std.proofs.Common.{◌≡◌, ◌≢◌, ◌<◌, ◌≤◌, ◌+◌, ◌^◌, ◌++◌, ◌∙◌, ◌⊎◌, ℕ, zero, suc, Bool, true, false, All, List, [], ◌∷◌, Option, None, Some, Result, Ok, Err, Vec, Global, IfOk, IfErr, length, map, take, slice_get, inl, inr, refl, sym, ap, subst, arith, append_assoc, append-nil, length-append}
+use Rattle.std.proofs.Common.{◌≡◌, ◌<◌, ◌≤◌, ◌+◌, ◌^◌, ◌++◌, ◌∙◌, ℕ, zero, suc, Bool, true, false, All, List, [], ◌∷◌, None, Some, Result, Ok, Err, Vec, Global, IfOk, IfErr, length, map, take, slice_get, inl, inr, refl, sym, ap, subst, arith, append_assoc, append-nil, length-append}
 use Rattle.std.specs.Prelude.{nat_eq}
-use Rattle.std.specs.List.{flat_map}
 use Rattle.std.proofs.lemmas.Bool.{eqb-true}
 use Rattle.std.proofs.lemmas.List.{flat_map_more, length-map, map-append}
 use Rattle.std.proofs.lemmas.List.Elements.{All-nil, All-push}
@@ -82,8 +81,8 @@ module _ (second : Bool) (texts : List (List ℕ)) where
           let long : lines_of_groups (groups ++ group ∷ []) [] ≡ k + 1 = commit_long groups group ∙ ap (λ n. n + 1) read.place_is in
           let texts_now : take (k + 1) texts ≡ script_texts (groups ++ group ∷ []) ++ [] =
           next_texts ∙ (ap (λ t. (script_texts groups ++ map set_text group) ++ t ∷ []) is
-              ∙ (append_assoc (script_texts groups) (map set_text group) (commit_text ∷ [])
-              ∙ (sym (script_more groups group) ∙ sym (append-nil (script_texts (groups ++ group ∷ [])))))) in
+          ∙ (append_assoc (script_texts groups) (map set_text group) (commit_text ∷ [])
+          ∙ (sym (script_more groups group) ∙ sym (append-nil (script_texts (groups ++ group ∷ [])))))) in
           record {
             begins = record {
               formed = All-push (All (IsSetText second)) groups group read.begins.formed read.begins.group_formed;
@@ -99,8 +98,8 @@ module _ (second : Bool) (texts : List (List ℕ)) where
           let long : lines_of_groups groups (group ++ set ∷ []) ≡ k + 1 = set_long groups group set ∙ ap (λ n. n + 1) read.place_is in
           let texts_now : take (k + 1) texts ≡ script_texts groups ++ map set_text (group ++ set ∷ []) =
           next_texts ∙ (ap (λ t. (script_texts groups ++ map set_text group) ++ t ∷ []) is
-              ∙ (append_assoc (script_texts groups) (map set_text group) (set_text set ∷ [])
-              ∙ ap (λ ts. script_texts groups ++ ts) (sym (map-append set_text group (set ∷ []))))) in
+          ∙ (append_assoc (script_texts groups) (map set_text group) (set_text set ∷ [])
+          ∙ ap (λ ts. script_texts groups ++ ts) (sym (map-append set_text group (set ∷ []))))) in
           record {
             begins = record {
               formed = read.begins.formed;

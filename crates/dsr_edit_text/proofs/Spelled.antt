@@ -1,6 +1,6 @@
 -- Which words are names.
-use Rattle.std.proofs.Common.{◌≡◌, ◌≢◌, ◌<◌, ◌≤◌, ◌⊎◌, ◌∙◌, ℕ, Bool, true, false, IsTrue, Decides, List, [], ◌∷◌, Option, None, Some, length, is_some, inl, inr, refl, sym, ap, subst, arith}
-use Rattle.std.specs.Prelude.{IsSome, codes}
+use Rattle.std.proofs.Common.{◌≡◌, ◌≢◌, ◌<◌, ◌≤◌, ◌∙◌, ℕ, Bool, true, false, IsTrue, Decides, List, [], ◌∷◌, Option, None, Some, length, is_some, inl, inr, refl, sym, ap, subst, arith}
+use Rattle.std.specs.Prelude.{codes}
 use Rattle.std.proofs.lemmas.Bool.{false≢true}
 use Rattle.dsr_edit_text.specs.Scripts.{IsName, IsRecordText, SetText}
 use Rattle.dsr_lexer.proofs.Reaches.{letter_in_word}

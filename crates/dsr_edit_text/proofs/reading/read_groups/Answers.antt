@@ -27,16 +27,16 @@ loop-place-preserved c =
     subst (λ (ls : List SetText). AreRead c.args.second (texts_of c.args.texts.now) (c.loop-place.place + 1) (shown_groups c.loop-place.groups.items) ls)
     (sym (ap (map shown) c.in_ok-push-2.ensures.items ∙ lines_more c.loop-place.group.items c.in-Some.set))
     (set_read c.args.second (texts_of c.args.texts.now) c.loop-place.place (shown_groups c.loop-place.groups.items) (map shown c.loop-place.group.items) c.loop-place.invariant
-        c.text_at-text.result.now c.text_at-text.ensures (shown c.in-Some.set) reads.0 reads.1)
+    c.text_at-text.result.now c.text_at-text.ensures (shown c.in-Some.set) reads.0 reads.1)
 
 pub loop-place-preserved-then-is_commit : goal.loop-place-preserved-then-is_commit
 loop-place-preserved-then-is_commit c =
     subst (λ (gs : List (List SetText)). AreRead c.args.second (texts_of c.args.texts.now) (c.loop-place.place + 1) gs (map shown c.new-group-then-is_commit.result.items))
     (sym (ap shown_groups c.in_ok-push.ensures.items ∙ groups_more c.loop-place.groups.items c.loop-place.group))
     (subst (λ (ls : List SetLine). AreRead c.args.second (texts_of c.args.texts.now) (c.loop-place.place + 1) (shown_groups c.loop-place.groups.items ++ map shown c.loop-place.group.items ∷ []) (map shown ls))
-        (sym c.new-group-then-is_commit.ensures.items)
-        (commit_read c.args.second (texts_of c.args.texts.now) c.loop-place.place (shown_groups c.loop-place.groups.items) (map shown c.loop-place.group.items) c.loop-place.invariant
-            c.text_at-text.result.now c.text_at-text.ensures (c.is_commit.ensures.0 c.if-is_commit.true)))
+    (sym c.new-group-then-is_commit.ensures.items)
+    (commit_read c.args.second (texts_of c.args.texts.now) c.loop-place.place (shown_groups c.loop-place.groups.items) (map shown c.loop-place.group.items) c.loop-place.invariant
+    c.text_at-text.result.now c.text_at-text.ensures (c.is_commit.ensures.0 c.if-is_commit.true)))
 
 pub returns-then-not-is_empty : goal.returns-then-not-is_empty
 returns-then-not-is_empty c =

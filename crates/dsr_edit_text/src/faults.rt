@@ -8,8 +8,8 @@ use thiserror::Error;
 /// Why a text wasn't read.
 #[derive(Debug, Drop, Error)]
 pub enum ScriptFault {
-    /// The first line that isn't of the form, counted from 1; one more than there are lines, where the
-    /// text ends inside a group.
+    /// The first line that isn't of the form, counted from 1; one more than there are lines, where
+    /// the text ends inside a group.
     #[error("line {0} isn't what is asked for")]
     Line(u64),
     /// The allocator had no memory left.

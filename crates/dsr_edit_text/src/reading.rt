@@ -118,7 +118,8 @@ pub fn read<'a>(
     second: bool,
     text: &'a [u8],
 ) -> Result<Vec<Vec<SetLine<'a>>>, ScriptFault>
-    ensures read { IfOk result (λ groups. IsScript second text.entry.now (shown_groups groups.items)) }
+    ensures read { IfOk result (λ groups.
+        IsScript second text.entry.now (shown_groups groups.items)) }
     ensures few { IfOk result (λ groups.
         length (said.script_texts (shown_groups groups.items)) < 2 ^ 63) }
     ensures fault { IfErr result (Tells (IsFirstWrong second text.entry.now)) }

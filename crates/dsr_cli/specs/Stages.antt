@@ -11,6 +11,7 @@ use Rattle.dsr_cli.specs.declared.waiting.Waiting.{Waiting}
 use Rattle.dsr_cli.specs.declared.waiting.Waiting.TheVariants as stages
 use Rattle.dsr_cli.specs.declared.words.Task.{Task}
 use Rattle.dsr_cli.specs.declared.words.Task.TheVariants as tasks
+use Rattle.dsr_meaning.specs.Limits.{most_bytes}
 
 -- what a task comes to, once the text of the specification was read as this tree
 abbrev pub comes_to : Task → TreeShape → Script
@@ -76,18 +77,18 @@ left (stages.Listed spec) = 0
 -- came before; an image isn't longer than any may be
 abbrev pub is_ready : Waiting → List ℕ → Type 0
 is_ready (stages.Spec task) bytes = ⊤
-is_ready (stages.Image spec) bytes = IsTyped spec × (length bytes ≤ 67108864)
+is_ready (stages.Image spec) bytes = IsTyped spec × (length bytes ≤ most_bytes)
 is_ready (stages.Damaged spec choice out) bytes =
-    IsTyped spec × IsTaken spec choice × (length bytes ≤ 67108864)
+    IsTyped spec × IsTaken spec choice × (length bytes ≤ most_bytes)
 is_ready (stages.Certificate spec) bytes = IsTyped spec
 is_ready (stages.Audited spec choice report fixed) bytes =
-    IsTyped spec × IsTaken spec choice × (length bytes ≤ 67108864)
+    IsTyped spec × IsTaken spec choice × (length bytes ≤ most_bytes)
 is_ready (stages.AuditedReport spec choice layout image fixed) bytes =
     IsTaken spec choice × IsImageOf spec layout image.items
 is_ready (stages.AuditedEnd spec choice layout image report) bytes =
     IsTaken spec choice × IsImageOf spec layout image.items
-is_ready (stages.Repaired spec report out) bytes = IsTyped spec × (length bytes ≤ 67108864)
+is_ready (stages.Repaired spec report out) bytes = IsTyped spec × (length bytes ≤ most_bytes)
 is_ready (stages.UndoneReport spec fixed out) bytes =
-    IsTyped spec × (length fixed.items ≤ 67108864)
-is_ready (stages.Explained spec fact) bytes = IsTyped spec × (length bytes ≤ 67108864)
-is_ready (stages.Listed spec) bytes = IsTyped spec × (length bytes ≤ 67108864)
+    IsTyped spec × (length fixed.items ≤ most_bytes)
+is_ready (stages.Explained spec fact) bytes = IsTyped spec × (length bytes ≤ most_bytes)
+is_ready (stages.Listed spec) bytes = IsTyped spec × (length bytes ≤ most_bytes)

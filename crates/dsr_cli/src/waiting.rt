@@ -10,6 +10,7 @@ ghost use Rattle.dsr_compile.specs.Readings.{IsSpecOf};
 ghost use Rattle.dsr_script.specs.Moves.{Follows, IsReady, loads_of};
 ghost use Rattle.dsr_step_theory.specs.Images.{IsImageOf};
 ghost use Rattle.dsr_tree.specs.Trees.{tree_shape};
+ghost use Rattle.dsr_meaning.specs.Limits.{most_bytes};
 
 use crate::words::{Command, Task, command_of};
 use dsr_answers::told;
@@ -100,7 +101,7 @@ pub enum Waiting<'a> {
 // The most bytes of an image.
 fn image_limit(spec: &Spec) -> u32
     ensures is { result ≡ commands.image_limit spec.now }
-    ensures most { result ≤ 67108864 }
+    ensures most { result ≤ most_bytes }
 {
     if spec.base.version == 2 {
         67_108_864
@@ -331,7 +332,7 @@ fn save_repaired<'a>(
 ) -> Result<Move<'a, Waiting<'a>>, NoMemory>
     requires typed { IsTyped spec.now }
     requires taken { IsTaken spec.now choice }
-    requires small { length image.items ≤ 67108864 }
+    requires small { length image.items ≤ most_bytes }
     ensures ready { IfOk result (λ move. IsReady is_ready move) }
     ensures follows { IfOk result (λ move. Follows due (repairs out.now spec.now choice image.items) move) }
     ensures fewer { IfOk result (λ move. loads_of left move ≤ 0) }
@@ -358,7 +359,7 @@ fn load_report<'a>(
 ) -> Result<Move<'a, Waiting<'a>>, NoMemory>
     requires typed { IsTyped spec }
     requires taken { IsTaken spec choice }
-    requires small { length image.items ≤ 67108864 }
+    requires small { length image.items ≤ most_bytes }
     ensures ready { IfOk result (λ move. IsReady is_ready move) }
     ensures follows { IfOk result (λ move. Follows due
         (lays_out report.now fixed.now spec choice image.items) move) }
@@ -440,7 +441,7 @@ fn load_undone<'a>(
     out: &'a str,
 ) -> Move<'a, Waiting<'a>>
     requires typed { IsTyped spec }
-    requires small { length fixed.items ≤ 67108864 }
+    requires small { length fixed.items ≤ most_bytes }
     ensures ready { IsReady is_ready result }
     ensures follows { Follows due (loads_undone report.now out.now spec fixed.items) result }
     ensures fewer { loads_of left result ≤ 1 }
@@ -462,7 +463,7 @@ fn save_undone<'a>(
     out: &'a str,
 ) -> Result<Move<'a, Waiting<'a>>, NoMemory>
     requires typed { IsTyped spec.now }
-    requires small { length fixed.items ≤ 67108864 }
+    requires small { length fixed.items ≤ most_bytes }
     ensures ready { IfOk result (λ move. IsReady is_ready move) }
     ensures follows { IfOk result (λ move. Follows due
         (undoes out.now spec.now fixed.items report.now) move) }

@@ -7,6 +7,7 @@ ghost use Rattle.dsr_meaning.specs.Models.{IsFact};
 ghost use Rattle.dsr_meaning.specs.Typed.{IsTyped};
 ghost use Rattle.dsr_script.specs.Moves.{shown};
 ghost use Rattle.dsr_meaning.specs.Consistency.{bound_constraint};
+ghost use Rattle.dsr_meaning.specs.Limits.{most_bytes};
 
 use dsr_answers::{layout_refused, verdict};
 use dsr_fixpoint::rebuild;
@@ -39,7 +40,7 @@ pub fn violations_of(
 /// The answer about the bytes of an image: why they have no layout, or the violated bindings.
 pub fn check(alloc: Global, spec: &Spec, image: Vec<u8>) -> Result<Told, NoMemory>
     requires typed { IsTyped spec.now }
-    requires small { length image.items ≤ 67108864 }
+    requires small { length image.items ≤ most_bytes }
     ensures { IfOk result (λ told. IsCheckAnswer spec.now image.items (shown told)) }
 {
     let layout = match layout(alloc, spec, &image) {

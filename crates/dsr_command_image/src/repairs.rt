@@ -6,6 +6,7 @@ ghost use Rattle.dsr_meaning.specs.Refusals.{refusals};
 ghost use Rattle.dsr_meaning.specs.Typed.{IsTyped};
 ghost use Rattle.dsr_command_image.specs.Repaired.{IsRepairOf, ending_of};
 ghost use Rattle.dsr_step_theory.specs.Images.{IsImageOf};
+ghost use Rattle.dsr_meaning.specs.Limits.{most_bytes};
 
 use crate::runs::repair_whole;
 use crate::texts::{need_told, report_told};
@@ -31,7 +32,7 @@ pub enum Repaired {
 /// least kind, by order of declaration.
 pub fn laid_out(alloc: Global, spec: &Spec, image: &[u8]) -> Result<Layout, LayoutFault>
     requires typed { IsTyped spec.now }
-    requires small { length image.now ≤ 67108864 }
+    requires small { length image.now ≤ most_bytes }
     ensures image { IfOk result (λ layout. IsImageOf spec.now layout image.now) }
     ensures legal { IfOk result IsLegalLayout }
     ensures refused { IfErr result (Tells (refusals spec.now image.now)) }
@@ -42,7 +43,7 @@ pub fn laid_out(alloc: Global, spec: &Spec, image: &[u8]) -> Result<Layout, Layo
 /// Repairs an image by a plan.
 pub fn repair(alloc: Global, plan: &Plan, image: Vec<u8>) -> Result<Repaired, NoMemory>
     requires typed { IsTyped plan.now.0 }
-    requires small { length image.items ≤ 67108864 }
+    requires small { length image.items ≤ most_bytes }
     ensures { IfOk result (λ r. IsRepairOf plan.now.0 plan.now.1 image.items (ending_of r)) }
 {
     let spec = plan.spec();

@@ -26,6 +26,7 @@ use Rattle.dsr_tree.specs.Trees.{TreeShape}
 use Rattle.dsr_language_theory.specs.Specifications.{specification}
 use Rattle.dsr_compile.specs.Readings.{Interpretation, IsInterpretation, Means, Refused}
 use Rattle.dsr_command_theory.specs.Words.{Asked, Audit, Certify, Check, Lost, Plan, Repair, Text, Trial, Undo, Verify, Why, command_of}
+use Rattle.dsr_meaning.specs.Limits.{most_bytes}
 
 -- the most bytes of a specification's text
 abbrev pub spec_limit : ℕ
@@ -33,7 +34,7 @@ spec_limit = 65536
 
 -- the most bytes of an image, by the version of its specification
 abbrev pub image_limit : Spec → ℕ
-image_limit spec = if nat_eq spec.base.version 2 then 67108864 else 4194304
+image_limit spec = if nat_eq spec.base.version 2 then most_bytes else 4194304
 
 -- the most bytes of a certificate
 abbrev pub certificate_limit : ℕ

@@ -2,6 +2,7 @@
 ghost use Rattle.std.specs.Prelude.{◌≤◌, IfErr, IfOk, length};
 ghost use Rattle.dsr_layout.specs.Telling.{Tells};
 ghost use Rattle.dsr_meaning.specs.Legal.{IsLegalLayout};
+ghost use Rattle.dsr_meaning.specs.Limits.{most_bytes};
 ghost use Rattle.dsr_meaning.specs.Refusals.{refusals};
 ghost use Rattle.dsr_meaning.specs.Typed.{IsTyped};
 ghost use Rattle.dsr_step_theory.specs.Images.{IsImageOf};
@@ -14,7 +15,7 @@ use std::alloc::Global;
 /// least kind, by order of declaration.
 pub fn laid_out(alloc: Global, spec: &Spec, image: &[u8]) -> Result<Layout, LayoutFault>
     requires typed { IsTyped spec.now }
-    requires small { length image.now ≤ 67108864 }
+    requires small { length image.now ≤ most_bytes }
     ensures image { IfOk result (λ layout. IsImageOf spec.now layout image.now) }
     ensures legal { IfOk result IsLegalLayout }
     ensures refused { IfErr result (Tells (refusals spec.now image.now)) }

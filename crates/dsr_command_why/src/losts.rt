@@ -4,6 +4,7 @@ ghost use Rattle.std.specs.List.{flat_map};
 ghost use Rattle.dsr_command_why.specs.Losts.{IsLostAnswer, lost_answer, lost_line};
 ghost use Rattle.dsr_lost.specs.Lost.{AreLost};
 ghost use Rattle.dsr_meaning.specs.Legal.{IsLegalLayout};
+ghost use Rattle.dsr_meaning.specs.Limits.{most_bytes};
 ghost use Rattle.dsr_meaning.specs.Typed.{IsTyped};
 ghost use Rattle.dsr_script.specs.Moves.{shown};
 ghost use Rattle.dsr_step_theory.specs.Images.{IsImageOf};
@@ -65,7 +66,7 @@ fn lost_told(alloc: Global, spec: &Spec, lost: &[Element]) -> Result<Told, NoMem
 /// layout; or a line for each of them, in order of pools and slots, and their number.
 pub fn lost(alloc: Global, spec: &Spec, image: Vec<u8>) -> Result<Told, NoMemory>
     requires typed { IsTyped spec.now }
-    requires small { length image.items ≤ 67108864 }
+    requires small { length image.items ≤ most_bytes }
     ensures { IfOk result (λ told. IsLostAnswer spec.now image.items (shown told)) }
 {
     let layout = match laid_out(alloc, spec, &image) {

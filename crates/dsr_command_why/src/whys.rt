@@ -4,6 +4,7 @@ ghost use Rattle.dsr_command_why.specs.Whys.{IsWhyAnswer, TellsBelow, TellsChain
 ghost use Rattle.dsr_ir.specs.declared.updates.Symbol.TheVariants as symbols;
 ghost use Rattle.dsr_command_why.specs.Facts.{fact_text};
 ghost use Rattle.dsr_meaning.specs.Legal.{IsLegalLayout};
+ghost use Rattle.dsr_meaning.specs.Limits.{most_bytes};
 ghost use Rattle.dsr_meaning.specs.Models.{IsDerived};
 ghost use Rattle.dsr_meaning.specs.Typed.{IsTyped};
 ghost use Rattle.dsr_script.specs.Moves.{shown};
@@ -201,7 +202,7 @@ fn laid_out_told(
 /// or `no chain`, where no fact of the model has this text.
 pub fn why(alloc: Global, spec: &Spec, image: Vec<u8>, word: &[u8]) -> Result<Told, NoMemory>
     requires typed { IsTyped spec.now }
-    requires small { length image.items ≤ 67108864 }
+    requires small { length image.items ≤ most_bytes }
     ensures { IfOk result (λ told. IsWhyAnswer spec.now image.items word.now (shown told)) }
 {
     let layout = match laid_out(alloc, spec, &image) {

@@ -3,6 +3,7 @@ ghost use Rattle.std.specs.Prelude.{◌≡◌, ◌≤◌, MatchBool};
 ghost use Rattle.dsr_fixed_bits.specs.Bits.{AreFixedBefore, ChangesCell, ChangesOneOf, ChangesSome, IsBefore, IsSomeBefore};
 ghost use Rattle.dsr_layout.specs.FixedCells.{cell_from, next_bit};
 ghost use Rattle.dsr_undo_laws.specs.TakingBack.{ChangesFixed};
+ghost use Rattle.dsr_meaning.specs.Limits.{most_bytes};
 
 use crate::places::{bit_behind_fields, start_of};
 use dsr_ir::{Cell, Field, Order, Structures};
@@ -109,7 +110,7 @@ fn end_of_fixed(order: Order, start: Option<u64>, fields: &[Field]) -> u64
 
 // Whether the line changes a bit of the cell.
 fn changes_cell(cell: &Cell, line: &ByteChange) -> bool
-    requires { line.now.place ≤ 67108864 }
+    requires { line.now.place ≤ most_bytes }
     ensures { MatchBool result (ChangesCell cell.now line.now)
         (ChangesCell cell.now line.now → ⊥) }
 {
@@ -125,7 +126,7 @@ fn changes_cell(cell: &Cell, line: &ByteChange) -> bool
 
 // Whether it changes a bit of the field that begins at a bit, where that is a fixed one.
 fn changes_field(order: Order, bit: Option<u64>, field: &Field, line: &ByteChange) -> bool
-    requires { line.now.place ≤ 67108864 }
+    requires { line.now.place ≤ most_bytes }
     ensures { MatchBool result (ChangesSome (cell_from order bit field.now) line.now)
         (ChangesSome (cell_from order bit field.now) line.now → ⊥) }
 {
@@ -138,7 +139,7 @@ fn changes_field(order: Order, bit: Option<u64>, field: &Field, line: &ByteChang
 // Whether it changes a bit of one of the fixed fields among fields that follow each other from a
 // bit on.
 fn changes_one_of(order: Order, start: Option<u64>, fields: &[Field], line: &ByteChange) -> bool
-    requires { line.now.place ≤ 67108864 }
+    requires { line.now.place ≤ most_bytes }
     ensures { MatchBool result (ChangesOneOf order start fields.now line.now)
         (ChangesOneOf order start fields.now line.now → ⊥) }
 {
@@ -155,7 +156,7 @@ fn changes_one_of(order: Order, start: Option<u64>, fields: &[Field], line: &Byt
 /// Whether the line's two bytes differ in a bit of a fixed field. Takes no memory. Fields are
 /// looked at only where the byte lies among them.
 pub fn changes_fixed(fixed: &FixedBits, line: &ByteChange) -> bool
-    requires { line.now.place ≤ 67108864 }
+    requires { line.now.place ≤ most_bytes }
     ensures { MatchBool result (ChangesFixed fixed.now line.now)
         (ChangesFixed fixed.now line.now → ⊥) }
 {

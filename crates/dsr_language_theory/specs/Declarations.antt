@@ -23,6 +23,7 @@ use Rattle.dsr_meaning.specs.Extents.{Extent, bit_behind_all}
 use Rattle.dsr_language_theory.specs.Faults.{when}
 use Rattle.dsr_meaning.specs.Lists.{any_of, each_at}
 use Rattle.dsr_language_theory.specs.Names.{Names, names_of, asked_structures, is_at, is_head, used_structure, ancestors_of, own_field, inherits, descends, pool_structure, plain_set, set_pool}
+use Rattle.dsr_meaning.specs.Limits.{most_fields, most_structures, most_symbols}
 
 -- a name that isn't declared as what it is used for
 abbrev pub unknown_name : (List ℕ → Option ℕ) → PlacedName → List Fault
@@ -155,7 +156,7 @@ is_misplaced at f = not at.in_head || is_some f.length || at.behind_open
 abbrev pub named_field_faults : Names → FieldPosition → NamedFieldTree → List Fault
 named_field_faults names at f =
     when (is_declared_above names at f.name.name) conditions.NameTwice f.name.place
-    ++ (when (nat_eq at.number 64) conditions.Limit f.name.place
+    ++ (when (nat_eq at.number most_fields) conditions.Limit f.name.place
     ++ (when ((is_bytewise f.width || is_some f.length) && not at.on_byte) conditions.Align f.name.place
     ++ (when (is_some f.fixed && is_misplaced at f) conditions.FixedPlace f.name.place
     ++ (width_faults f.width
@@ -165,7 +166,7 @@ named_field_faults names at f =
 abbrev pub field_faults : Names → FieldPosition → FieldTree → List Fault
 field_faults names at (named f) = named_field_faults names at f
 field_faults names at (skipped place length) =
-    when (nat_eq at.number 64) conditions.Limit place
+    when (nat_eq at.number most_fields) conditions.Limit place
     ++ (when (not at.on_byte) conditions.Align place
     ++ expr_faults names.fixed length)
 
@@ -195,7 +196,7 @@ position_of names i s j =
 abbrev pub structure_faults : Names → ℕ → StructureTree → List Fault
 structure_faults names i s =
     when (not (is_at i (names.structure s.name.name))) conditions.NameTwice s.name.place
-    ++ (when (nat_eq i 64) conditions.Limit s.name.place
+    ++ (when (nat_eq i most_structures) conditions.Limit s.name.place
     ++ (parent_faults names i s.parent
     ++ each_at (λ j f. field_faults names (position_of names i s j) f) 0 s.fields))
 
@@ -244,7 +245,7 @@ view_faults names s (Some (views.Except place q)) =
 abbrev pub set_faults : Names → ℕ → Set → List Fault
 set_faults names i s =
     when (not (is_at i (names.set s.name.name))) conditions.NameTwice s.name.place
-    ++ (when (nat_eq i 64) conditions.Limit s.name.place
+    ++ (when (nat_eq i most_symbols) conditions.Limit s.name.place
     ++ (unknown_name names.pool s.pool
     ++ view_faults names s s.view))
 
@@ -262,7 +263,7 @@ abbrev pub relation_faults : Names → ℕ → Relation → List Fault
 relation_faults names i r =
     when (is_some (names.set r.name.name) || not (is_at i (names.relation r.name.name)))
     conditions.NameTwice r.name.place
-    ++ (when (nat_eq (length names.tree.sets + i) 64) conditions.Limit r.name.place
+    ++ (when (nat_eq (length names.tree.sets + i) most_symbols) conditions.Limit r.name.place
     ++ (source_faults names r.source
     ++ target_faults names r.target))
 

@@ -30,6 +30,7 @@ use Rattle.dsr_language_theory.specs.Declarations.{disagree}
 use Rattle.dsr_language_theory.specs.Faults.{when}
 use Rattle.dsr_language_theory.specs.Known.{Known, is_nil, pool_named, plain_set, plain_named, relation_named, unknown, is_this, field_length, differ, field_is}
 use Rattle.dsr_language_theory.specs.Rules.{Scope, scope_of, guards_of, is_record, field_of, path_field, var_place}
+use Rattle.dsr_meaning.specs.Limits.{most_rules}
 
 -- ---- tests of fields
 
@@ -261,7 +262,7 @@ span_faults scope (Some span) =
 -- 128 rules are allowed, and 4 guards in each
 abbrev pub rule_faults : Known → ℕ → Rule → List Fault
 rule_faults known i r =
-    when (nat_eq i 128 || nat_lt 4 (length (guards_of r.guards))) conditions.Limit r.place
+    when (nat_eq i most_rules || nat_lt 4 (length (guards_of r.guards))) conditions.Limit r.place
     ++ (premise_faults known r.premise
     ++ (span_faults (scope_of known r) r.span
     ++ (each_at (λ _ g. guard_faults (scope_of known r) g) 0 (guards_of r.guards)

@@ -3,6 +3,7 @@ use Rattle.std.specs.Prelude.{◌<◌, ◌≤◌, length, IsTrue, Option, None, 
 use Rattle.dsr_ir.specs.declared.declarations.Structure.{Structure}
 use Rattle.dsr_ir.specs.declared.layouts.PoolNumbers.{PoolNumbers}
 use Rattle.dsr_meaning.specs.Refusals.{is_computable}
+use Rattle.dsr_meaning.specs.Limits.{most_fields}
 
 -- the end of the pool has a value, and its last code where it has a slot
 abbrev pub IsComputable : PoolNumbers → Type 0
@@ -16,4 +17,4 @@ abbrev pub HasStep : PoolNumbers → Type 0
 HasStep n = 0 < n.step
 
 abbrev pub HasFewFields : Structure → Type 0
-HasFewFields s = length s.fields ≤ 64
+HasFewFields s = length s.fields ≤ most_fields

@@ -3,6 +3,7 @@ ghost use Rattle.std.specs.Prelude.{◌≡◌, ◌≤◌, ◌+◌, ◌*◌, Some
 ghost use Rattle.dsr_ir.specs.Layouts.{field_place};
 ghost use Rattle.dsr_meaning.specs.Cells.{cell_of, record_start, IsFieldCell};
 ghost use Rattle.dsr_meaning.specs.Legal.{HasEntry, IsLegalLayout};
+ghost use Rattle.dsr_meaning.specs.Limits.{most_bytes};
 
 use crate::fixed_fields::is_bytewise;
 use crate::lookups::{field_place, pool_numbers};
@@ -11,7 +12,7 @@ use dsr_schema::width_bits;
 
 // The first byte of a record.
 fn record_start(layout: &Layout, elem: Element) -> u64
-    requires small { record_start layout.now elem ≤ 67108864 }
+    requires small { record_start layout.now elem ≤ most_bytes }
     ensures { result ≡ record_start layout.now elem }
 {
     match pool_numbers(layout, elem.pool) {

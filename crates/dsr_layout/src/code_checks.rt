@@ -6,6 +6,7 @@ ghost use Rattle.dsr_meaning.specs.Refusals as meaning;
 ghost use Rattle.dsr_meaning.specs.Refusals.{reference_refusals, code_refusals};
 ghost use Rattle.dsr_layout.specs.Pools.{IsComputable, HasFewFields};
 ghost use Rattle.dsr_layout.specs.Telling.{told_of};
+ghost use Rattle.dsr_meaning.specs.Limits.{most_fields, most_structures};
 
 use crate::faults::LayoutFault;
 use crate::lookups::pool_numbers;
@@ -46,7 +47,7 @@ fn reference(layout: &Layout, structure: u32, number: u32, field: &Field) -> Opt
 
 // The first such field of a structure.
 fn own_reference(layout: &Layout, structure: u32, fields: &[Field]) -> Option<LayoutFault>
-    requires few { length fields.now ≤ 64 }
+    requires few { length fields.now ≤ most_fields }
     requires computable { All IsComputable layout.now.pools }
     ensures { result ≡ told_of (each_at (reference_refusals layout.now structure) 0 fields.now) }
 {
@@ -61,7 +62,7 @@ fn own_reference(layout: &Layout, structure: u32, fields: &[Field]) -> Option<La
 
 /// The first such field of all structures.
 pub fn code_too_wide(layout: &Layout, structures: &[Structure]) -> Option<LayoutFault>
-    requires few { length structures.now ≤ 64 }
+    requires few { length structures.now ≤ most_structures }
     requires few_fields { All HasFewFields structures.now }
     requires computable { All IsComputable layout.now.pools }
     ensures { result ≡ told_of (code_refusals structures.now layout.now) }

@@ -6,6 +6,7 @@ ghost use Rattle.dsr_meaning.specs.Lists.{any_of};
 ghost use Rattle.dsr_meaning.specs.Refusals as meaning;
 ghost use Rattle.dsr_meaning.specs.Refusals.{count_refusals};
 ghost use Rattle.dsr_layout.specs.Telling.{told_of};
+ghost use Rattle.dsr_meaning.specs.Limits.{most_constraints};
 
 use crate::code_checks::fits;
 use crate::faults::LayoutFault;
@@ -129,7 +130,7 @@ fn constraint_outgrows(spec: &Spec, layout: &Layout, conjs: &[Conj]) -> bool
 
 /// The first constraint that compares values with a size which may not fit the field of one.
 pub fn count_too_wide(spec: &Spec, layout: &Layout) -> Option<LayoutFault>
-    requires few { length spec.now.constraints ≤ 128 }
+    requires few { length spec.now.constraints ≤ most_constraints }
     ensures { result ≡ told_of (count_refusals spec.now layout.now) }
 {
     for (i, constraint) in spec.constraints.items().iter().enumerate() {

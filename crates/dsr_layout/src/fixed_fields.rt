@@ -8,6 +8,7 @@ ghost use Rattle.dsr_meaning.specs.Placeable.{ArePlaceable};
 ghost use Rattle.dsr_layout.specs.FixedCells.{cell_from, clipped_cell, next_bit, IsReadable};
 ghost use Rattle.dsr_layout.specs.Tables.{known, clip_cell};
 ghost use Rattle.dsr_layout.specs.Telling.{told_of, Tells};
+ghost use Rattle.dsr_meaning.specs.Limits.{most_bytes};
 
 use crate::faults::LayoutFault;
 use crate::places::{bit_behind_fields, ends, start_in};
@@ -102,7 +103,7 @@ fn known_cell(cells: &[Option<Cell>], number: usize) -> Option<Cell>
 
 // Whether the image ends before a cell does.
 fn is_cut(cell: &Cell, length: u64) -> bool
-    requires image { length ≤ 67108864 }
+    requires image { length ≤ most_bytes }
     ensures { result ≡ ends_behind length cell.now.bit cell.now.width }
 {
     8 * length < cell.bit.saturating_add(u64::from(cell.width))
@@ -110,7 +111,7 @@ fn is_cut(cell: &Cell, length: u64) -> bool
 
 // Whether the image ends before the cell under a number does.
 fn is_cut_at(cells: &[Option<Cell>], number: usize, length: u64) -> bool
-    requires image { length ≤ 67108864 }
+    requires image { length ≤ most_bytes }
     ensures { result ≡ option_map_or (λ c. ends_behind length c.bit c.width) (known cells.now number) false }
 {
     match known_cell(cells, number) {
@@ -121,7 +122,7 @@ fn is_cut_at(cells: &[Option<Cell>], number: usize, length: u64) -> bool
 
 // `Short` where the image ends before a fixed field does.
 fn cut(cells: &[Option<Cell>], fields: &[Field], length: u64) -> Option<LayoutFault>
-    requires image { length ≤ 67108864 }
+    requires image { length ≤ most_bytes }
     ensures { result ≡ told_of (cut_refusals (known cells.now) fields.now length) }
 {
     for (number, _) in fields.iter().enumerate() {
@@ -133,7 +134,7 @@ fn cut(cells: &[Option<Cell>], fields: &[Field], length: u64) -> Option<LayoutFa
 }
 
 fn value_in(bytes: &[u8], cell: &Option<Cell>) -> Option<u64>
-    requires image { length bytes.now ≤ 67108864 }
+    requires image { length bytes.now ≤ most_bytes }
     requires readable { IfSome cell.now (IsReadable (length bytes.now)) }
     ensures { result ≡ option_map (cell_value bytes.now) cell.now }
 {
@@ -148,7 +149,7 @@ fn values_in(
     bytes: &[u8],
     cells: &[Option<Cell>],
 ) -> Result<Vec<Option<u64>>, NoMemory>
-    requires image { length bytes.now ≤ 67108864 }
+    requires image { length bytes.now ≤ most_bytes }
     requires readable { All (λ c. IfSome c (IsReadable (length bytes.now))) cells.now }
     ensures { IfOk result (λ values. values.items ≡ map (option_map (cell_value bytes.now)) cells.now) }
 {
@@ -167,7 +168,7 @@ pub fn fixed_values(
     bytes: &[u8],
 ) -> Result<Vec<Option<u64>>, LayoutFault>
     requires placeable { ArePlaceable base.now }
-    requires image { length bytes.now ≤ 67108864 }
+    requires image { length bytes.now ≤ most_bytes }
     ensures values { IfOk result (λ values. (k : ℕ) → known values.items k ≡ fixed_value base.now bytes.now k) }
     ensures uncut { IfOk result
         (λ _. cut_refusals (fixed_cell base.now) (head_fields base.now) (length bytes.now) ≡ []) }

@@ -9,6 +9,7 @@ ghost use Rattle.dsr_layout.specs.Pools.{IsComputable, HasStep};
 ghost use Rattle.dsr_layout.specs.Readings.{IsRead, IsMade};
 ghost use Rattle.dsr_layout.specs.Tables.{known, size_in, HoldsEnds};
 ghost use Rattle.dsr_layout.specs.Telling.{told_of, Tells};
+ghost use Rattle.dsr_meaning.specs.Limits.{most_bytes};
 
 use crate::code_checks::code_too_wide;
 use crate::count_checks::count_too_wide;
@@ -23,7 +24,7 @@ use std::alloc::Global;
 
 // `Short` where the image ends before the head does.
 fn short_head(ends: &[Option<u64>], head: u32, length: u64) -> Option<LayoutFault>
-    requires image { length ≤ 67108864 }
+    requires image { length ≤ most_bytes }
     ensures { result ≡ told_of (meaning.head_refusals (size_in ends.now) head length) }
 {
     if 8 * length < size_in(ends, head)? {
@@ -113,7 +114,7 @@ struct Readings {
 // The readings of an image that isn't short.
 fn read(alloc: Global, spec: &Spec, bytes: &[u8]) -> Result<Readings, LayoutFault>
     requires placeable { IsPlaceable spec.now }
-    requires image { length bytes.now ≤ 67108864 }
+    requires image { length bytes.now ≤ most_bytes }
     ensures read { IfOk result (λ r. IsRead spec.now.base bytes.now r.fixed.items r.ends.items) }
     ensures refused { IfErr result (Tells (refusals spec.now bytes.now)) }
 {
@@ -155,7 +156,7 @@ fn made(
 /// it is refused, the fault is the first of the least kind, by order of declaration.
 pub fn layout(alloc: Global, spec: &Spec, bytes: &[u8]) -> Result<Layout, LayoutFault>
     requires placeable { IsPlaceable spec.now }
-    requires image { length bytes.now ≤ 67108864 }
+    requires image { length bytes.now ≤ most_bytes }
     ensures layout { IfOk result (λ layout. IsLayoutOf spec.now bytes.now layout) }
     ensures legal { IfOk result IsLegalLayout }
     ensures refused { IfErr result (Tells (refusals spec.now bytes.now)) }

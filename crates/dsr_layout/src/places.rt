@@ -10,6 +10,7 @@ ghost use Rattle.dsr_layout.specs.Ends.{start_in, end_behind, own_places_in, Lac
 ghost use Rattle.dsr_layout.specs.Tables.{known, clip, clip_place, end_in, size_in, HoldsEnds};
 ghost use Rattle.dsr_layout.specs.Telling.{Tells};
 ghost use Rattle.dsr_layout.specs.declared.faults.LayoutFault.{LayoutFault};
+ghost use Rattle.dsr_meaning.specs.Limits.{most_structures};
 
 use crate::faults::LayoutFault;
 use crate::values::entries_of;
@@ -155,7 +156,7 @@ pub fn places(
     ends: &[Option<u64>],
     structures: &[Structure],
 ) -> Result<Vec<Seq<FieldPlace>>, LayoutFault>
-    requires few { length structures.now ≤ 64 }
+    requires few { length structures.now ≤ most_structures }
     requires ends { HoldsEnds (known fixed.now) structures.now ends.now }
     ensures placed { IfOk result (λ places. places_of (known fixed.now) structures.now ≡ Some places.items) }
     ensures sized { IfOk result (λ _. size_refusals (size_in ends.now) structures.now ≡ []) }

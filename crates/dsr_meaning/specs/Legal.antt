@@ -9,6 +9,7 @@ use Rattle.dsr_ir.specs.declared.tuples.Element.{Element}
 use Rattle.dsr_meaning.specs.Cells.{is_bytewise, width_bits}
 use Rattle.dsr_meaning.specs.Layouts.{pool_end}
 use Rattle.dsr_meaning.specs.Placeable.{IsLegalWidth}
+use Rattle.dsr_meaning.specs.Limits.{most_bytes}
 
 -- a pool in an image of so many bytes: its slots lie there, each
 -- has a code of its own, and none has the one of no slot
@@ -36,7 +37,7 @@ pub record IsLegalPlace (place : FieldPlace) : Type 0 where
   pub aligned : IsTrue (is_bytewise place.width) → place.bit % 8 ≡ 0
 
 pub record IsLegalLayout (layout : Layout) : Type 0 where
-  pub small : layout.length ≤ 67108864
+  pub small : layout.length ≤ most_bytes
   pub pools : All (IsLegalPool layout.length) layout.pools
   pub apart : AreApart layout
   pub fields : All (All IsLegalPlace) layout.fields

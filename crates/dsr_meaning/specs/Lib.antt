@@ -7,6 +7,7 @@ pub mod FixedFields
 pub mod Instances
 pub mod Layouts
 pub mod Legal
+pub mod Limits
 pub mod Lists
 pub mod Looking
 pub mod Models

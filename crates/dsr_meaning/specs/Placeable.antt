@@ -8,6 +8,7 @@ use Rattle.dsr_ir.specs.declared.declarations.Width.{Width}
 use Rattle.dsr_ir.specs.declared.declarations.Width.TheVariants.{Bits}
 use Rattle.dsr_meaning.specs.Cells.{width_bits, is_bytewise}
 use Rattle.dsr_meaning.specs.Extents.{Extent, bit_behind}
+use Rattle.dsr_meaning.specs.Limits.{most_constraints, most_fields, most_rules, most_structures, most_symbols}
 
 -- an entry of bits has 1 to 32 of them
 abbrev pub IsLegalWidth : Width → Type 0
@@ -33,19 +34,19 @@ AreAligned bit (f ∷ fs) =
     (IsTrue (begins_byte f) → bit % 8 ≡ 0) × AreAligned (bit_behind bit (plain_extent f)) fs
 
 pub record IsPlaceableStructure (s : Structure) : Type 0 where
-  pub few_fields : length s.fields ≤ 64
+  pub few_fields : length s.fields ≤ most_fields
   pub widths : All HasLegalWidth s.fields
   pub aligned : AreAligned 0 s.fields
 
 -- structures, pools, sets and relations
 pub record ArePlaceable (base : Structures) : Type 0 where
   pub structures : All IsPlaceableStructure base.structures
-  pub few_structures : length base.structures ≤ 64
+  pub few_structures : length base.structures ≤ most_structures
   pub few_pools : length base.pools ≤ 32
-  pub few_symbols : length base.sets + length base.rels ≤ 64
+  pub few_symbols : length base.sets + length base.rels ≤ most_symbols
 
 -- a specification
 pub record IsPlaceable (spec : Spec) : Type 0 where
   pub base : ArePlaceable spec.base
-  pub few_rules : length spec.rules ≤ 128
-  pub few_constraints : length spec.constraints ≤ 128
+  pub few_rules : length spec.rules ≤ most_rules
+  pub few_constraints : length spec.constraints ≤ most_constraints

@@ -45,6 +45,7 @@ use Rattle.dsr_meaning.specs.Counting.{IsIn, AreMany}
 use Rattle.dsr_meaning.specs.FixedFields.{head_fields, is_fixed}
 use Rattle.dsr_meaning.specs.Instances.{kind_pool, declared_field, pool_of_premise}
 use Rattle.dsr_meaning.specs.Placeable.{IsLegalWidth, AreAligned}
+use Rattle.dsr_meaning.specs.Limits.{most_constraints, most_fields, most_rules, most_structures, most_symbols}
 
 -- ---- numbers of tables
 
@@ -145,7 +146,7 @@ pub record IsTypedField (base : Structures) (i : ℕ) (s : Structure) (k : ℕ) 
 pub record IsTypedStructure (base : Structures) (i : ℕ) (s : Structure) : Type 0 where
   pub parent : IfSome s.parent (IsOtherStructure base)
   pub parent_before : IfSome s.parent (λ p. p < i)
-  pub few_fields : length s.fields ≤ 64
+  pub few_fields : length s.fields ≤ most_fields
   pub aligned : AreAligned 0 s.fields
   pub fields : (k : ℕ) (f : Field) → slice_get s.fields k ≡ Some f → IsTypedField base i s k f
 
@@ -198,9 +199,9 @@ pub record AreTyped (base : Structures) : Type 0 where
   pub structure_names : AreDifferent (map (λ s. s.name) base.structures)
   pub pool_names : AreDifferent (map (λ d. d.name) base.pools)
   pub symbol_names : AreDifferent (symbol_names base)
-  pub few_structures : length base.structures ≤ 64
+  pub few_structures : length base.structures ≤ most_structures
   pub few_pools : length base.pools ≤ 32
-  pub few_symbols : length base.sets + length base.rels ≤ 64
+  pub few_symbols : length base.sets + length base.rels ≤ most_symbols
 
 -- ---- rules
 
@@ -380,7 +381,7 @@ pub record IsTypedConstraint (spec : Spec) (c : Constraint) : Type 0 where
 
 -- how many constraints there may be
 abbrev pub constraint_limit : ℕ → ℕ
-constraint_limit version = if nat_eq version 2 then 128 else 64
+constraint_limit version = if nat_eq version 2 then most_constraints else 64
 
 -- ---- a whole specification
 
@@ -388,7 +389,7 @@ constraint_limit version = if nat_eq version 2 then 128 else 64
 -- complements stand in texts of version 2 alone. Both are the grammar's.
 pub record IsTyped (spec : Spec) : Type 0 where
   pub base : AreTyped spec.base
-  pub few_rules : length spec.rules ≤ 128
+  pub few_rules : length spec.rules ≤ most_rules
   pub rules : All (IsTypedRule spec.base) spec.rules
   pub few_constraints : length spec.constraints ≤ constraint_limit spec.base.version
   pub constraints : All (IsTypedConstraint spec) spec.constraints

@@ -8,6 +8,7 @@ ghost use Rattle.dsr_meaning.specs.Lists.{each_at};
 ghost use Rattle.dsr_meaning.specs.Typed.{ancestors, AreTyped};
 ghost use Rattle.dsr_language_theory.specs.Known.{has_field_name, known_in};
 ghost use Rattle.dsr_names.specs.Tables.{told_by};
+ghost use Rattle.dsr_meaning.specs.Limits.{most_fields};
 
 use crate::numbers::numbers_from;
 use dsr_ir::{Name, NoMemory, Structure, Structures};
@@ -42,7 +43,7 @@ impl Drop for TableNames {
 
 // For each structure the fields that it declares itself.
 fn own_fields(alloc: Global, structures: &[Structure]) -> Result<Vec<IndexMap<Name, u32>>, NoMemory>
-    requires { All (λ s. length s.fields ≤ 64) structures.now }
+    requires { All (λ s. length s.fields ≤ most_fields) structures.now }
     ensures { IfOk result (λ tables. map (get bytes_eq) tables.items
         ≡ map (λ s q. position_from (has_field_name q) 0 s.fields) structures.now) }
 {
@@ -96,7 +97,7 @@ struct StructureRows {
 }
 
 fn structure_rows(alloc: Global, structures: &[Structure]) -> Result<StructureRows, NoMemory>
-    requires { All (λ s. length s.fields ≤ 64) structures.now }
+    requires { All (λ s. length s.fields ≤ most_fields) structures.now }
     ensures fields { IfOk result
         (λ rows. map (get bytes_eq) rows.fields.items
         ≡ map (λ s q. position_from (has_field_name q) 0 s.fields) structures.now) }

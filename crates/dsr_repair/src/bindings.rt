@@ -4,6 +4,7 @@ ghost use Rattle.dsr_repair.specs.Violations.{IsBestBefore, IsNextViolation};
 ghost use Rattle.dsr_meaning.specs.Consistency.{AreSatisfied};
 ghost use Rattle.dsr_model.specs.Facts.{IsInModel};
 ghost use Rattle.dsr_plan_theory.specs.declared.choices.Choice.{Choice as ChoiceOf};
+ghost use Rattle.dsr_meaning.specs.Limits.{most_constraints};
 
 use dsr_ir::{Binding, Spec};
 use dsr_model::Model;
@@ -66,7 +67,7 @@ fn better(
 pub fn next_violation(model: &Model, spec: &Spec, choice: &Choice) -> Option<Violation>
     requires ordered { model.now.ordered ≡ true }
     requires as_many { length choice.now.rows ≡ length spec.now.constraints }
-    requires few { length spec.now.constraints ≤ 128 }
+    requires few { length spec.now.constraints ≤ most_constraints }
     ensures { MatchOption result (AreSatisfied (IsInModel model.now) spec.now)
         (IsNextViolation (IsInModel model.now) spec.now choice.now) }
 {

@@ -9,6 +9,7 @@ ghost use Rattle.dsr_meaning.specs.Consistency.{AreSatisfied, IsFirstViolated, N
 ghost use Rattle.dsr_model.specs.Facts.{IsInModel, pool_of};
 ghost use Rattle.dsr_relations.specs.Tuples.{MayBeTuple};
 ghost use Rattle.dsr_truth.specs.Walks.{MayBind};
+ghost use Rattle.dsr_meaning.specs.Limits.{most_constraints};
 
 use crate::bindings::Violation;
 use crate::orders::repair_order;
@@ -30,7 +31,7 @@ pub struct Cursor {
 impl Cursor {
     /// A cursor from which all bindings are looked at.
     pub fn new(alloc: Global, choice: &Choice) -> Result<Cursor, NoMemory>
-        requires few { length choice.now.rows ≤ 128 }
+        requires few { length choice.now.rows ≤ most_constraints }
         ensures ordered { IfOk result (λ cursor. IsRepairOrder choice.now cursor.order.items) }
         ensures begins { IfOk result (λ cursor. cursor.last ≡ None) }
     {

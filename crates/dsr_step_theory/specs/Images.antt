@@ -10,6 +10,7 @@ use Rattle.dsr_meaning.specs.Instances.{declared_field}
 use Rattle.dsr_meaning.specs.Refusals.{IsLayoutOf}
 use Rattle.dsr_meaning.specs.Typed.{Descends, IsTyped}
 use Rattle.dsr_meaning.specs.Writes.{AreBytes, HasSameBits}
+use Rattle.dsr_meaning.specs.Limits.{most_bytes}
 
 -- the specification is typed, and this is its layout on the bytes of the image, which is no longer
 -- than one may be
@@ -17,7 +18,7 @@ pub record IsImageOf (spec : Spec) (layout : Layout) (image : List ℕ) : Type 0
   pub typed : IsTyped spec
   pub bytes : AreBytes image
   pub layout_is : IsLayoutOf spec image layout
-  pub small : length image ≤ 67108864
+  pub small : length image ≤ most_bytes
 
 -- the write's field is no fixed one, on which the layout may rest
 abbrev pub IsFree : Spec → Write → Type 0

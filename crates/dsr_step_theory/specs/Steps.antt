@@ -20,6 +20,7 @@ use Rattle.dsr_meaning.specs.Typed.{IsTyped}
 use Rattle.dsr_step_theory.specs.Puts.{ArePut, IsPut}
 use Rattle.dsr_step_theory.specs.Resets.{reset_puts}
 use Rattle.dsr_step_theory.specs.declared.steps.Step.{Step}
+use Rattle.dsr_meaning.specs.Limits.{most_bytes}
 
 -- ---- one write
 
@@ -112,6 +113,6 @@ pub record CanStep (spec : Spec) (layout : Layout) (step : Step) (update : Updat
   pub image : List ℕ
   pub layout_is : IsLayoutOf spec image layout
   pub as_long : bytes ≡ length image
-  pub small : bytes ≤ 67108864
+  pub small : bytes ≤ most_bytes
   pub writes : All (CanWrite spec layout step) update.writes
   pub fresh : IfSome step.fresh (IsSlot layout)

@@ -3,6 +3,7 @@ ghost use Rattle.std.specs.Prelude.{◌≡◌, ◌<◌, ◌≤◌, ◌+◌, ◌�
 ghost use Rattle.dsr_meaning.specs.Consistency.{AreViolations, IsFirstViolated, NoneIsViolated, NoneIsViolatedBefore, bound_constraint};
 ghost use Rattle.dsr_model.specs.Facts.{IsInModel};
 ghost use Rattle.dsr_truth.specs.Walks.{AreFound, FindsLeastBinding, IsLaterViolated, IsViolatedAt, IsViolatedFrom, IsViolatedOf, MayBind};
+ghost use Rattle.dsr_meaning.specs.Limits.{most_constraints};
 
 use crate::literals::is_satisfied;
 use crate::walks::{is_binding, next_binding};
@@ -63,7 +64,7 @@ pub fn violations(
     spec: &Spec,
 ) -> Result<Vec<(u32, Binding)>, NoMemory>
     requires ordered { model.now.ordered ≡ true }
-    requires few { length spec.now.constraints ≤ 128 }
+    requires few { length spec.now.constraints ≤ most_constraints }
     ensures { IfOk result (λ vs. AreViolations (IsInModel model.now) spec.now (map bound_constraint vs.items)) }
 {
     let mut found = Vec::new(alloc);

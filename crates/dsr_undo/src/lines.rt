@@ -2,6 +2,7 @@
 ghost use Rattle.std.specs.Prelude.{◌≡◌, ◌≤◌, IfErr, IfOk, MatchBool, length};
 ghost use Rattle.dsr_image.specs.Images.{AreClaimed};
 ghost use Rattle.dsr_undo_laws.specs.TakingBack.{AreLinesBack, IsLineBack, IsLineRefused, IsRefusedIn, IsThere};
+ghost use Rattle.dsr_meaning.specs.Limits.{most_bytes};
 
 use crate::bytes::put_byte;
 use dsr_fixed_bits::{FixedBits, changes_fixed};
@@ -24,7 +25,7 @@ fn line_back<I: ImageBytes>(
     line: &ByteChange,
     image: &mut I,
 ) -> Result<(), UndoFault>
-    requires small { length (I.ImageBytes.bytes image.old) ≤ 67108864 }
+    requires small { length (I.ImageBytes.bytes image.old) ≤ most_bytes }
     requires claimed { AreClaimed (I.ImageBytes.claimed image.old) 0
         (length (I.ImageBytes.bytes image.old)) }
     ensures back { IfOk result (λ _. IsLineBack fixed.now line.now
@@ -54,7 +55,7 @@ pub fn lines_back<I: ImageBytes>(
     lines: &[ByteChange],
     image: &mut I,
 ) -> Result<(), UndoFault>
-    requires small { length (I.ImageBytes.bytes image.old) ≤ 67108864 }
+    requires small { length (I.ImageBytes.bytes image.old) ≤ most_bytes }
     requires claimed { AreClaimed (I.ImageBytes.claimed image.old) 0
         (length (I.ImageBytes.bytes image.old)) }
     ensures back { IfOk result (λ _. AreLinesBack fixed.now lines.now

@@ -1,6 +1,7 @@
 // All entries, taken back.
 ghost use Rattle.std.specs.Prelude.{◌≤◌, IfErr, IfOk, length};
 ghost use Rattle.dsr_undo_laws.specs.TakingBack.{AreTakenBack, IsRefused};
+ghost use Rattle.dsr_meaning.specs.Limits.{most_bytes};
 
 use crate::lines::lines_back;
 use dsr_fixed_bits::FixedBits;
@@ -12,7 +13,7 @@ use dsr_undo_laws::UndoFault;
 /// Takes the entries of a log back, the last first, and of each its lines, the last first. Takes no
 /// memory. After a refusal the lines that were walked before are taken back.
 pub fn undo(spec: &Spec, image: &mut Whole, log: &Log) -> Result<(), UndoFault>
-    requires small { length image.old ≤ 67108864 }
+    requires small { length image.old ≤ most_bytes }
     ensures back { IfOk result
         (λ _. AreTakenBack spec.now.base log.now.entries image.old image.new) }
     ensures refused { IfErr result

@@ -12,6 +12,7 @@ use Rattle.dsr_meaning.specs.Instances.{declared_field}
 use Rattle.dsr_meaning.specs.Refusals.{IsLayoutOf}
 use Rattle.dsr_meaning.specs.Typed.{Descends, IsTyped, pool_at}
 use Rattle.dsr_step_theory.specs.Steps.{IsSlot}
+use Rattle.dsr_meaning.specs.Limits.{most_bytes}
 
 -- the bytes of the record's slot are claimed
 abbrev pub IsSlotClaimed : (ℕ → Bool) → Layout → Element → Type 0
@@ -25,7 +26,7 @@ pub record CanReset (spec : Spec) (layout : Layout) (e : Element) (bytes : ℕ) 
   pub image : List ℕ
   pub layout_is : IsLayoutOf spec image layout
   pub as_long : bytes ≡ length image
-  pub small : bytes ≤ 67108864
+  pub small : bytes ≤ most_bytes
   pub slot : IsSlot layout e
 
 -- the structure is that of the record's pool or one of its ancestors

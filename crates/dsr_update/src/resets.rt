@@ -9,6 +9,7 @@ ghost use Rattle.dsr_step_theory.specs.Puts.{ArePut};
 ghost use Rattle.dsr_step_theory.specs.Resets as said;
 ghost use Rattle.dsr_step_theory.specs.Steps.{IsSlot};
 ghost use Rattle.dsr_update.specs.Claims.{CanReset, IsRecordField, IsRecordStructure, IsSlotClaimed};
+ghost use Rattle.dsr_meaning.specs.Limits.{most_bytes};
 
 use dsr_image::ImageBytes;
 use dsr_ir::{Cell, Element, Field, FieldRef, Kind, Layout, Order, Spec};
@@ -18,7 +19,7 @@ use dsr_schema::{parent, pool_at};
 // Makes so many claimed bytes from one on 0.
 fn zero_bytes<I: ImageBytes>(at: u64, count: u64, image: &mut I)
     requires within { at + count ≤ length (I.ImageBytes.bytes image.old) }
-    requires small { at + count ≤ 67108864 }
+    requires small { at + count ≤ most_bytes }
     requires claimed { AreClaimed (I.ImageBytes.claimed image.old) at count }
     ensures put { ArePut (said.zeros at count) (I.ImageBytes.bytes image.old)
         (I.ImageBytes.bytes image.new) }

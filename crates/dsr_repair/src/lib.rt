@@ -25,6 +25,7 @@ mod spans;
 mod steps;
 mod touched;
 
+pub use backing::Backing;
 pub use bindings::Violation;
 pub use cursors::Cursor;
 pub use drafts::Draft;

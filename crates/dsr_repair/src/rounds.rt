@@ -7,7 +7,7 @@ ghost use Rattle.dsr_step_theory.specs.Images.{IsImageOf};
 use crate::backing::Backing;
 use crate::cursors::Cursor;
 use crate::drafts::Draft;
-use crate::steps::step_backed;
+use crate::steps::step;
 use dsr_fixpoint::rebuild;
 use dsr_image::ImageBytes;
 use dsr_ir::{Layout, NoMemory};
@@ -89,7 +89,7 @@ impl Repair {
             (I.ImageBytes.bytes image.new) most log.old.entries log.new.entries) }
     {
         for _made in 0..most {
-            match step_backed(
+            match step(
                 plan,
                 layout,
                 &self.rules,

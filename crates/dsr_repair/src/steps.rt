@@ -37,8 +37,13 @@ fn update_of<'a>(plan: &'a Plan, step: &Step) -> Option<&'a Update>
     }
 }
 
-// The step that is due, with what supports the model.
-pub fn step_backed<I: ImageBytes>(
+/// Makes the step that is due, pushes its entry, makes the model that of the new bytes, and moves
+/// the cursor to the binding for which the step was made: nothing before that is violated now
+/// either. Where nothing is due, or a supply is empty, all stays as it is; so it does where memory
+/// is wanting, but that more bytes may be claimed. Nothing can fail once a byte is written. What
+/// the draft held is of no matter. What supports the model goes with it; where that wants memory,
+/// models are built anew.
+pub fn step<I: ImageBytes>(
     plan: &Plan,
     layout: &Layout,
     rules: &ResolvedRules,
@@ -96,52 +101,4 @@ pub fn step_backed<I: ImageBytes>(
         binding: step.binding,
     });
     Ok(turn)
-}
-
-/// Makes the step that is due, pushes its entry, makes the model that of the new bytes, and moves
-/// the cursor to the binding for which the step was made: nothing before that is violated now
-/// either. Where nothing is due, or a supply is empty, all stays as it is; so it does where memory
-/// is wanting, but that more bytes may be claimed. Nothing can fail once a byte is written. What
-/// the draft held is of no matter.
-pub fn step<I: ImageBytes>(
-    plan: &Plan,
-    layout: &Layout,
-    rules: &ResolvedRules,
-    image: &mut I,
-    model: &mut Model,
-    cursor: &mut Cursor,
-    draft: &mut Draft,
-    log: &mut Log,
-) -> Result<Turn, NoMemory>
-    requires modelled { IsModelled plan.now.0 layout.now (I.ImageBytes.bytes image.old) model.old }
-    requires rules { AreResolved plan.now.0 layout.now rules.now }
-    requires cursor { IsCursorOn plan.now.0 plan.now.1 layout.now (I.ImageBytes.bytes image.old) cursor.old }
-    ensures turn { IfOk result (IsTurn plan.now.0 plan.now.1 layout.now (I.ImageBytes.bytes image.old)) }
-    ensures taken { IfOk result (TakesTurn plan.now.0 plan.now.1 layout.now
-        (state (I.ImageBytes.bytes image.old) log.old.entries model.old)
-        (state (I.ImageBytes.bytes image.new) log.new.entries model.new)) }
-    ensures brings { IfOk result (Brings plan.now.0 plan.now.1 layout.now (I.ImageBytes.bytes image.old)
-        (I.ImageBytes.bytes image.new)) }
-    ensures stays { OnErr result (state (I.ImageBytes.bytes image.new) log.new.entries model.new
-        ≡ state (I.ImageBytes.bytes image.old) log.old.entries model.old) }
-    ensures fixed { FixedFieldsStay plan.now.0.base (I.ImageBytes.bytes image.old)
-        (I.ImageBytes.bytes image.new) }
-    ensures modelled { IsModelled plan.now.0 layout.now (I.ImageBytes.bytes image.new) model.new }
-    ensures cursor { IsCursorOn plan.now.0 plan.now.1 layout.now (I.ImageBytes.bytes image.new) cursor.new }
-    ensures moved { IfOk result (IsMoved cursor.old cursor.new) }
-    ensures rests { OnErr result (cursor.new ≡ cursor.old) }
-    ensures kept { StayClaimed (I.ImageBytes.claimed image.old) (I.ImageBytes.claimed image.new) }
-{
-    let mut backing = Backing::never();
-    step_backed(
-        plan,
-        layout,
-        rules,
-        image,
-        model,
-        &mut backing,
-        cursor,
-        draft,
-        log,
-    )
 }

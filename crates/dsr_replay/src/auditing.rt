@@ -17,7 +17,7 @@ use dsr_ir::{Layout, Spec};
 use dsr_log::{Entries, EntryRef, Log};
 use dsr_model::Model;
 use dsr_plan_theory::Plan;
-use dsr_repair::{Cursor, Draft, due_from};
+use dsr_repair::{Backing, Cursor, Draft, due_from};
 use dsr_repair_theory::Turn;
 use dsr_resolve::ResolvedRules;
 use std::alloc::Global;
@@ -62,6 +62,7 @@ fn replay_all<I: ImageBytes>(
     let mut model = Model::prepare(alloc, spec, layout)?;
     let rules = ResolvedRules::new(alloc, spec, layout)?;
     rebuild(&mut model, spec, layout, &rules, image);
+    let mut backing = Backing::new(alloc);
     let mut draft = Draft::new(alloc);
     let mut made = Log::new(alloc);
     let mut texts = Texts::new(alloc);
@@ -74,6 +75,7 @@ fn replay_all<I: ImageBytes>(
             &rules,
             image,
             &mut model,
+            &mut backing,
             &mut cursor,
             &mut draft,
             &mut made,

@@ -1,11 +1,12 @@
 // One step of a repair, held against an entry.
-ghost use Rattle.std.specs.Prelude.{◌≡◌, IfErr, IfOk, MatchOption, length};
+ghost use Rattle.std.specs.Prelude.{◌≡◌, IfErr, IfOk, IfSome, MatchOption, length};
 ghost use Rattle.dsr_image.specs.Images.{AreClaimed};
 ghost use Rattle.dsr_replay.specs.Audits.{HaveOneText};
 ghost use Rattle.dsr_replay.specs.Steps.{IsMatched, IsMismatch, IsTextFault};
 ghost use Rattle.dsr_repair.specs.Cursors.{IsCursorOn};
 ghost use Rattle.dsr_repair.specs.Stepping.{IsModelled};
 ghost use Rattle.dsr_resolve.specs.Rules.{AreResolved};
+ghost use Rattle.dsr_supported.specs.Supported.{IsSupportFor};
 
 use crate::faults::AuditFault;
 use crate::texts::{Texts, are_alike};
@@ -15,7 +16,7 @@ use dsr_ir::{Layout, Spec};
 use dsr_log::{EntryRef, Log};
 use dsr_model::Model;
 use dsr_plan_theory::Plan;
-use dsr_repair::{Cursor, Draft, step};
+use dsr_repair::{Backing, Cursor, Draft, step};
 use dsr_repair_theory::Turn;
 use dsr_resolve::ResolvedRules;
 use dsr_undo::lines_back;
@@ -47,6 +48,7 @@ pub fn replay<I: ImageBytes>(
     rules: &ResolvedRules,
     image: &mut I,
     model: &mut Model,
+    backing: &mut Backing,
     cursor: &mut Cursor,
     draft: &mut Draft,
     made: &mut Log,
@@ -58,12 +60,16 @@ pub fn replay<I: ImageBytes>(
     requires rules { AreResolved plan.now.0 layout.now rules.now }
     requires cursor { IsCursorOn plan.now.0 plan.now.1 layout.now (I.ImageBytes.bytes image.old)
         cursor.old }
+    requires backed { IfSome backing.old.support (IsSupportFor plan.now.0 layout.now
+        (I.ImageBytes.bytes image.old) rules.now model.old) }
     requires claimed { AreClaimed (I.ImageBytes.claimed image.old) 0
         (length (I.ImageBytes.bytes image.old)) }
     ensures matched { IfOk result (λ _. IsMatched plan.now.0 plan.now.1 layout.now number told.now
         (I.ImageBytes.bytes image.old) (I.ImageBytes.bytes image.new)) }
     ensures modelled { IfOk result (λ _. IsModelled plan.now.0 layout.now
         (I.ImageBytes.bytes image.new) model.new) }
+    ensures backed { IfOk result (λ _. IfSome backing.new.support (IsSupportFor plan.now.0
+        layout.now (I.ImageBytes.bytes image.new) rules.now model.new)) }
     ensures cursor { IfOk result (λ _. IsCursorOn plan.now.0 plan.now.1 layout.now
         (I.ImageBytes.bytes image.new) cursor.new) }
     ensures claimed { IfOk result (λ _. AreClaimed (I.ImageBytes.claimed image.new) 0
@@ -75,7 +81,7 @@ pub fn replay<I: ImageBytes>(
 {
     let spec = plan.spec();
     made.clear();
-    let Turn::Step(_) = step(plan, layout, rules, image, model, cursor, draft, made)? else {
+    let Turn::Step(_) = step(plan, layout, rules, image, model, backing, cursor, draft, made)? else {
         return Err(AuditFault::Entry(number));
     };
     let Some(due) = made.entries().next() else {

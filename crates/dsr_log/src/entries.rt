@@ -4,7 +4,7 @@ use dsr_repair_theory::{ByteChange, CellSet};
 use std::marker::Model;
 
 /// For which literal a step was made, and which record it reset.
-#[derive(Clone, Copy)]
+#[derive(Clone, Copy, PartialEq, Eq)]
 pub struct EntryHead {
     /// The number of the constraint.
     pub constraint: u32,

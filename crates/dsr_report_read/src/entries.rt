@@ -35,32 +35,32 @@ fn change_of(line: &Line) -> Option<ByteChange>
     }
 }
 
-// The sets at the front.
-fn sets_ahead(alloc: Global, lines: &[Line]) -> Result<Vec<CellSet>, NoMemory>
-    ensures { IfOk result (λ sets. sets.items ≡ said.sets_ahead lines.now) }
+// Puts the sets at the front in the place of others.
+fn put_sets(sets: &mut Vec<CellSet>, lines: &[Line]) -> Result<(), NoMemory>
+    ensures { OnOk result (sets.new.items ≡ said.sets_ahead lines.now) }
 {
-    let mut sets = Vec::new(alloc);
+    sets.clear();
     for line in lines {
         let Some(set) = set_of(line) else {
-            return Ok(sets);
+            return Ok(());
         };
         sets.push(set)?;
     }
-    Ok(sets)
+    Ok(())
 }
 
-// The bytes at the front.
-fn bytes_ahead(alloc: Global, lines: &[Line]) -> Result<Vec<ByteChange>, NoMemory>
-    ensures { IfOk result (λ bytes. bytes.items ≡ said.bytes_ahead lines.now) }
+// Puts the bytes at the front in the place of others.
+fn put_bytes(bytes: &mut Vec<ByteChange>, lines: &[Line]) -> Result<(), NoMemory>
+    ensures { OnOk result (bytes.new.items ≡ said.bytes_ahead lines.now) }
 {
-    let mut bytes = Vec::new(alloc);
+    bytes.clear();
     for line in lines {
         let Some(change) = change_of(line) else {
-            return Ok(bytes);
+            return Ok(());
         };
         bytes.push(change)?;
     }
-    Ok(bytes)
+    Ok(())
 }
 
 // What stands behind a reset at the front.
@@ -94,17 +94,24 @@ fn head_with(head: Head, reset: Option<Element>) -> EntryHead
     }
 }
 
-// Notes the entry of an update with what stands behind it.
-fn push_entry(alloc: Global, head: Head, rest: &[Line], log: &mut Log) -> Result<(), NoMemory>
+// Notes the entry of an update with what stands behind it. What the room for sets and bytes held is
+// of no matter.
+fn push_entry(
+    sets: &mut Vec<CellSet>,
+    bytes: &mut Vec<ByteChange>,
+    head: Head,
+    rest: &[Line],
+    log: &mut Log,
+) -> Result<(), NoMemory>
     ensures { OnOk result (log.new.entries
         ≡ log.old.entries ++ said.entry_of head rest.now ∷ []) }
 {
     let reset = reset_ahead(rest);
     let rest = behind_reset(rest);
-    let sets = sets_ahead(alloc, rest)?;
-    let bytes = bytes_ahead(alloc, skip(rest, sets.len()))?;
+    put_sets(sets, rest)?;
+    put_bytes(bytes, skip(rest, sets.len()))?;
     log.reserve(sets.len(), bytes.len())?;
-    log.push(&EntryRef::new(head_with(head, reset), &sets, &bytes));
+    log.push(&EntryRef::new(head_with(head, reset), sets, bytes));
     Ok(())
 }
 
@@ -122,9 +129,11 @@ pub fn entries_of(alloc: Global, lines: &[Line]) -> Result<Log, NoMemory>
     ensures { IfOk result (λ log. log.entries ≡ said.entries_of lines.now) }
 {
     let mut log = Log::new(alloc);
+    let mut sets = Vec::new(alloc);
+    let mut bytes = Vec::new(alloc);
     for (place, line) in lines.iter().enumerate() {
         if let Some(head) = head_of(line) {
-            push_entry(alloc, head, skip(lines, place + 1), &mut log)?;
+            push_entry(&mut sets, &mut bytes, head, skip(lines, place + 1), &mut log)?;
         }
     }
     Ok(log)

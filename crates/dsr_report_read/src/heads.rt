@@ -15,7 +15,6 @@ use crate::printed::is_update;
 use crate::records::is_record;
 use dsr_answers::constraint_name;
 use dsr_ir::{Binding, Constraint, NoMemory, Quant, Spec};
-use std::alloc::Global;
 
 // Whether the constraint has the literal.
 fn has_literal(constraint: &Constraint, conj: u32, literal: u32) -> bool
@@ -67,7 +66,7 @@ fn head_in(spec: &Spec, number: u32, constraint: &Constraint, text: &[u8]) -> He
 
 // What the line tells of an update for the constraint with this number.
 fn read_head_of(
-    alloc: Global,
+    printed: &mut Vec<u8>,
     spec: &Spec,
     count: u64,
     number: u32,
@@ -93,7 +92,7 @@ fn read_head_of(
     if spec.rules.items().len() <= head.rule as usize {
         return Ok(None);
     }
-    if !is_update(alloc, spec, count, head, text)? {
+    if !is_update(printed, spec, count, head, text)? {
         return Ok(None);
     }
     Ok(Some(head))
@@ -101,7 +100,7 @@ fn read_head_of(
 
 /// What the line tells, where it begins the entry with this number.
 pub fn read_head(
-    alloc: Global,
+    printed: &mut Vec<u8>,
     spec: &Spec,
     count: u64,
     text: &[u8],
@@ -111,7 +110,7 @@ pub fn read_head(
         (λ head. update_line spec.now count (bare head)) text.now) }
 {
     for (number, constraint) in spec.constraints.items().iter().enumerate() {
-        let found = read_head_of(alloc, spec, count, number as u32, constraint, text)?;
+        let found = read_head_of(printed, spec, count, number as u32, constraint, text)?;
         if found.is_some() {
             return Ok(found);
         }

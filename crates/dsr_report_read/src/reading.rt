@@ -31,10 +31,10 @@ fn split<'a>(alloc: Global, text: &'a [u8]) -> Result<Vec<&'a [u8]>, NoMemory>
     Ok(text.lines_with_terminator().collect(alloc)?)
 }
 
-fn read_end(alloc: Global, spec: &Spec, count: u64, text: &[u8]) -> Result<Option<Line>, NoMemory>
+fn read_end(printed: &mut Vec<u8>, spec: &Spec, count: u64, text: &[u8]) -> Result<Option<Line>, NoMemory>
     ensures { IfOk result (Reads (IsLineOf spec.now kinds.End) (line_text spec.now count) text.now) }
 {
-    if !is_end(alloc, count, text)? {
+    if !is_end(printed, count, text)? {
         return Ok(None);
     }
     Ok(Some(Line::End))
@@ -42,7 +42,7 @@ fn read_end(alloc: Global, spec: &Spec, count: u64, text: &[u8]) -> Result<Optio
 
 // The line of this kind.
 fn read_of(
-    alloc: Global,
+    printed: &mut Vec<u8>,
     spec: &Spec,
     kind: Kind,
     count: u64,
@@ -53,17 +53,17 @@ fn read_of(
     ensures { IfOk result (Reads (IsLineOf spec.now kind) (line_text spec.now count) text.now) }
 {
     match kind {
-        Kind::Update => Ok(read_head(alloc, spec, count + 1, text)?.map(Line::Update)),
-        Kind::Reset => Ok(read_reset(alloc, spec, text)?.map(Line::Reset)),
-        Kind::Set => Ok(read_set(alloc, spec, text)?.map(Line::Set)),
-        Kind::Byte => Ok(read_change(alloc, text)?.map(Line::Byte)),
-        Kind::End => read_end(alloc, spec, count, text),
+        Kind::Update => Ok(read_head(printed, spec, count + 1, text)?.map(Line::Update)),
+        Kind::Reset => Ok(read_reset(printed, spec, text)?.map(Line::Reset)),
+        Kind::Set => Ok(read_set(printed, spec, text)?.map(Line::Set)),
+        Kind::Byte => Ok(read_change(printed, text)?.map(Line::Byte)),
+        Kind::End => read_end(printed, spec, count, text),
     }
 }
 
 // The next line, where it may stand there.
 fn read_line(
-    alloc: Global,
+    printed: &mut Vec<u8>,
     spec: &Spec,
     state: State,
     text: &[u8],
@@ -78,7 +78,7 @@ fn read_line(
     if !may_follow(state.last, kind) {
         return Ok(None);
     }
-    read_of(alloc, spec, kind, state.count, text)
+    read_of(printed, spec, kind, state.count, text)
 }
 
 fn is_ended(state: State) -> bool
@@ -104,13 +104,14 @@ fn read_lines(alloc: Global, spec: &Spec, texts: &[&[u8]]) -> Result<Vec<Line>, 
     ensures { ReadsRow spec.now (texts_of texts.now) result }
 {
     let mut lines = Vec::new(alloc);
+    let mut printed = Vec::new(alloc);
     let mut state = State {
         count: 0,
         last: None,
     };
     for place in 0..texts.len() {
         let text = text_at(texts, place);
-        let Some(line) = read_line(alloc, spec, state, text)? else {
+        let Some(line) = read_line(&mut printed, spec, state, text)? else {
             return Err(ReadFault::Line(place as u64 + 1));
         };
         lines.push(line)?;

@@ -12,7 +12,6 @@ use crate::printed::{is_change, is_reset};
 use dsr_answers::pool_name;
 use dsr_ir::{Element, NoMemory, Spec};
 use dsr_repair_theory::ByteChange;
-use std::alloc::Global;
 
 /// Whether the element is the head, or a slot of a declared pool.
 pub fn is_record(spec: &Spec, elem: Element) -> bool
@@ -36,11 +35,11 @@ fn change_in(text: &[u8]) -> ByteChange
     }
 }
 
-pub fn read_change(alloc: Global, text: &[u8]) -> Result<Option<ByteChange>, NoMemory>
+pub fn read_change(printed: &mut Vec<u8>, text: &[u8]) -> Result<Option<ByteChange>, NoMemory>
     ensures { IfOk result (Reads IsChange byte_line text.now) }
 {
     let change = change_in(text);
-    if !is_change(alloc, &change, text)? {
+    if !is_change(printed, &change, text)? {
         return Ok(None);
     }
     Ok(Some(change))
@@ -48,7 +47,7 @@ pub fn read_change(alloc: Global, text: &[u8]) -> Result<Option<ByteChange>, NoM
 
 // The record of this pool that the line tells.
 fn read_reset_in(
-    alloc: Global,
+    printed: &mut Vec<u8>,
     spec: &Spec,
     pool: u32,
     text: &[u8],
@@ -65,19 +64,19 @@ fn read_reset_in(
     if !is_record(spec, elem) {
         return Ok(None);
     }
-    if !is_reset(alloc, spec, elem, text)? {
+    if !is_reset(printed, spec, elem, text)? {
         return Ok(None);
     }
     Ok(Some(elem))
 }
 
-pub fn read_reset(alloc: Global, spec: &Spec, text: &[u8]) -> Result<Option<Element>, NoMemory>
+pub fn read_reset(printed: &mut Vec<u8>, spec: &Spec, text: &[u8]) -> Result<Option<Element>, NoMemory>
     requires typed { AreTyped spec.now.base }
     ensures { IfOk result (Reads (IsPoolRecord spec.now) (reset_line spec.now) text.now) }
 {
     let count = spec.base.pools.items().len() as u32;
     for pool in 0..count + 1 {
-        let found = read_reset_in(alloc, spec, pool, text)?;
+        let found = read_reset_in(printed, spec, pool, text)?;
         if found.is_some() {
             return Ok(found);
         }

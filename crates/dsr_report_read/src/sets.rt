@@ -15,7 +15,6 @@ use crate::records::is_record;
 use dsr_answers::{field_name, pool_name};
 use dsr_ir::{Field, FieldRef, NoMemory, Path, Spec, Structure};
 use dsr_repair_theory::CellSet;
-use std::alloc::Global;
 
 // The index of an array's entry at the front, and what stands behind it.
 fn index(indexed: bool, text: &[u8]) -> (u64, &[u8])
@@ -58,7 +57,7 @@ fn set_in(spec: &Spec, pool: u32, path: Path, text: &[u8]) -> CellSet
 
 // What the line tells of this field.
 fn read_set_at(
-    alloc: Global,
+    printed: &mut Vec<u8>,
     spec: &Spec,
     pool: u32,
     place: FieldRef,
@@ -84,7 +83,7 @@ fn read_set_at(
     if !is_record(spec, set.elem) {
         return Ok(None);
     }
-    if !is_set(alloc, spec, &set, text)? {
+    if !is_set(printed, spec, &set, text)? {
         return Ok(None);
     }
     Ok(Some(set))
@@ -92,7 +91,7 @@ fn read_set_at(
 
 // What the line tells of a field of this structure.
 fn read_set_under(
-    alloc: Global,
+    printed: &mut Vec<u8>,
     spec: &Spec,
     pool: u32,
     number: u32,
@@ -109,7 +108,7 @@ fn read_set_under(
             structure: number,
             field: own as u32,
         };
-        let found = read_set_at(alloc, spec, pool, place, field, text)?;
+        let found = read_set_at(printed, spec, pool, place, field, text)?;
         if found.is_some() {
             return Ok(found);
         }
@@ -119,7 +118,7 @@ fn read_set_under(
 
 // What the line tells of a record of this pool: of the first field with the line's name.
 fn read_set_in(
-    alloc: Global,
+    printed: &mut Vec<u8>,
     spec: &Spec,
     pool: u32,
     text: &[u8],
@@ -135,7 +134,7 @@ fn read_set_in(
         if !is_of_pool(&spec.base, pool, number) {
             continue;
         }
-        let found = read_set_under(alloc, spec, pool, number, structure, text)?;
+        let found = read_set_under(printed, spec, pool, number, structure, text)?;
         if found.is_some() {
             return Ok(found);
         }
@@ -143,13 +142,13 @@ fn read_set_in(
     Ok(None)
 }
 
-pub fn read_set(alloc: Global, spec: &Spec, text: &[u8]) -> Result<Option<CellSet>, NoMemory>
+pub fn read_set(printed: &mut Vec<u8>, spec: &Spec, text: &[u8]) -> Result<Option<CellSet>, NoMemory>
     requires typed { AreTyped spec.now.base }
     ensures { IfOk result (Reads (IsFirstSet spec.now) (set_line spec.now) text.now) }
 {
     let count = spec.base.pools.items().len() as u32;
     for pool in 0..count + 1 {
-        let found = read_set_in(alloc, spec, pool, text)?;
+        let found = read_set_in(printed, spec, pool, text)?;
         if found.is_some() {
             return Ok(found);
         }

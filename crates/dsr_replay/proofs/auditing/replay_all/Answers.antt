@@ -1,5 +1,5 @@
 -- The entries, one after the other.
-use Rattle.std.proofs.Common.{◌≡◌, ◌≤◌, ◌+◌, ◌∙◌, suc, drop, length, refl, sym, subst, arith}
+use Rattle.std.proofs.Common.{◌≡◌, ◌≤◌, ◌+◌, ◌∙◌, IfSome, suc, drop, length, refl, sym, subst, arith}
 use Rattle.dsr_fixpoint.specs.Models.{IsLaidOut, IsModelOf, IsPreparedFor}
 use Rattle.dsr_plan_theory.specs.declared.choices.Choice.{Choice}
 use Rattle.dsr_repair.proofs.Moved.{cursor_begins, few_rows}
@@ -10,6 +10,7 @@ use Rattle.dsr_replay.proofs.Replayed.{handed_on, is_unlike, parts_none, parts_s
 use Rattle.dsr_replay.specs.Steps.{IsUnlike}
 use Rattle.dsr_replay.specs.Audits.{IsReplayed}
 use Rattle.dsr_resolve.proofs.AcceptedLayouts.{legal_of}
+use Rattle.dsr_supported.specs.Supported.{IsSupportFor}
 use Rattle.dsr_replay.proofs.auditing.replay_all.Goals as goal
 
 pub new-requires : goal.new-requires
@@ -52,6 +53,7 @@ loop-place-init g c =
       cursor = cursor_begins c.args.plan.now.0 c.args.plan.now.1 c.args.layout.now old c.in_ok-cursor.cursor
           (subst (λ choice. IsRepairOrder choice c.in_ok-cursor.cursor.order.items) c.choice.ensures.is c.in_ok-cursor.ensures.ordered)
           c.in_ok-cursor.ensures.begins;
+      backed = subst (λ o. IfSome o (IsSupportFor c.args.plan.now.0 c.args.layout.now old c.in_ok-rules.rules c.rebuild.new.model)) (sym c.new-backing.ensures) tt;
       claimed = c.requires.claimed;
     }
 
@@ -81,6 +83,7 @@ loop-place-preserved g c =
       left = sym rest;
       within = omega (arith, c.loop-place-test.true, c.len-place-end.ensures);
       modelled = c.in_ok-replay.ensures.modelled;
+      backed = c.in_ok-replay.ensures.backed;
       cursor = c.in_ok-replay.ensures.cursor;
       claimed = c.in_ok-replay.ensures.claimed;
     }

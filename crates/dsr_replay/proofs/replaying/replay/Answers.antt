@@ -18,6 +18,7 @@ returns-in_default g c =
     record {
       matched = tt;
       modelled = tt;
+      backed = tt;
       cursor = tt;
       claimed = tt;
       unlike = (refl, λ due after is one. none_due c.args.plan.now.0 c.args.plan.now.1 c.args.layout.now plan old c.requires.modelled.image c.in_ok-step.field-0 c.in_default.not-Step c.in_ok-step.ensures.turn due after is);

@@ -60,8 +60,8 @@ fn replay_all<I: ImageBytes>(
 {
     let mut cursor = Cursor::new(alloc, plan.choice())?;
     let mut model = Model::prepare(alloc, spec, layout)?;
-    let rules = ResolvedRules::new(alloc, spec, layout)?;
-    rebuild(&mut model, spec, layout, &rules, image);
+    let rules = &ResolvedRules::new(alloc, spec, layout)?;
+    rebuild(&mut model, spec, layout, rules, image);
     let mut backing = Backing::new(alloc);
     let mut draft = Draft::new(alloc);
     let mut made = Log::new(alloc);
@@ -72,7 +72,7 @@ fn replay_all<I: ImageBytes>(
         replay(
             plan,
             layout,
-            &rules,
+            rules,
             image,
             &mut model,
             &mut backing,

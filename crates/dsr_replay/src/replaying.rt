@@ -81,7 +81,10 @@ pub fn replay<I: ImageBytes>(
 {
     let spec = plan.spec();
     made.clear();
-    let Turn::Step(_) = step(plan, layout, rules, image, model, backing, cursor, draft, made)? else {
+    let Turn::Step(_) = step(
+        plan, layout, rules, image, model, backing, cursor, draft, made,
+    )?
+    else {
         return Err(AuditFault::Entry(number));
     };
     let Some(due) = made.entries().next() else {

@@ -37,7 +37,13 @@ fn put_text(text: &mut Vec<u8>, spec: &Spec, number: u64, entry: &EntryRef) -> R
 fn are_same(told: &EntryRef, made: &EntryRef) -> bool
     ensures { Decides result (told.now ≡ made.now) }
 {
-    told.head() == made.head() && told.sets() == made.sets() && told.bytes() == made.bytes()
+    if told.head() != made.head() {
+        return false;
+    }
+    if told.sets() != made.sets() {
+        return false;
+    }
+    told.bytes() == made.bytes()
 }
 
 /// Whether two entries have one text under a number. A text names fields, so entries may differ in

@@ -133,7 +133,13 @@ pub fn entries_of(alloc: Global, lines: &[Line]) -> Result<Log, NoMemory>
     let mut bytes = Vec::new(alloc);
     for (place, line) in lines.iter().enumerate() {
         if let Some(head) = head_of(line) {
-            push_entry(&mut sets, &mut bytes, head, skip(lines, place + 1), &mut log)?;
+            push_entry(
+                &mut sets,
+                &mut bytes,
+                head,
+                skip(lines, place + 1),
+                &mut log,
+            )?;
         }
     }
     Ok(log)

@@ -39,7 +39,12 @@ pub fn is_update(
     Ok(printed.as_slice() == text)
 }
 
-pub fn is_reset(printed: &mut Vec<u8>, spec: &Spec, elem: Element, text: &[u8]) -> Result<bool, NoMemory>
+pub fn is_reset(
+    printed: &mut Vec<u8>,
+    spec: &Spec,
+    elem: Element,
+    text: &[u8],
+) -> Result<bool, NoMemory>
     ensures { IfOk result (λ is. Decides is (text.now ≡ reset_line spec.now elem)) }
 {
     printed.clear();
@@ -47,7 +52,12 @@ pub fn is_reset(printed: &mut Vec<u8>, spec: &Spec, elem: Element, text: &[u8]) 
     Ok(printed.as_slice() == text)
 }
 
-pub fn is_set(printed: &mut Vec<u8>, spec: &Spec, set: &CellSet, text: &[u8]) -> Result<bool, NoMemory>
+pub fn is_set(
+    printed: &mut Vec<u8>,
+    spec: &Spec,
+    set: &CellSet,
+    text: &[u8],
+) -> Result<bool, NoMemory>
     ensures { IfOk result (λ is. Decides is (text.now ≡ set_line spec.now set.now)) }
 {
     printed.clear();

@@ -31,7 +31,12 @@ fn split<'a>(alloc: Global, text: &'a [u8]) -> Result<Vec<&'a [u8]>, NoMemory>
     Ok(text.lines_with_terminator().collect(alloc)?)
 }
 
-fn read_end(printed: &mut Vec<u8>, spec: &Spec, count: u64, text: &[u8]) -> Result<Option<Line>, NoMemory>
+fn read_end(
+    printed: &mut Vec<u8>,
+    spec: &Spec,
+    count: u64,
+    text: &[u8],
+) -> Result<Option<Line>, NoMemory>
     ensures { IfOk result (Reads (IsLineOf spec.now kinds.End) (line_text spec.now count) text.now) }
 {
     if !is_end(printed, count, text)? {

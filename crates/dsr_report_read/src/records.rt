@@ -70,7 +70,11 @@ fn read_reset_in(
     Ok(Some(elem))
 }
 
-pub fn read_reset(printed: &mut Vec<u8>, spec: &Spec, text: &[u8]) -> Result<Option<Element>, NoMemory>
+pub fn read_reset(
+    printed: &mut Vec<u8>,
+    spec: &Spec,
+    text: &[u8],
+) -> Result<Option<Element>, NoMemory>
     requires typed { AreTyped spec.now.base }
     ensures { IfOk result (Reads (IsPoolRecord spec.now) (reset_line spec.now) text.now) }
 {

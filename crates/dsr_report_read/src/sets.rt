@@ -142,7 +142,11 @@ fn read_set_in(
     Ok(None)
 }
 
-pub fn read_set(printed: &mut Vec<u8>, spec: &Spec, text: &[u8]) -> Result<Option<CellSet>, NoMemory>
+pub fn read_set(
+    printed: &mut Vec<u8>,
+    spec: &Spec,
+    text: &[u8],
+) -> Result<Option<CellSet>, NoMemory>
     requires typed { AreTyped spec.now.base }
     ensures { IfOk result (Reads (IsFirstSet spec.now) (set_line spec.now) text.now) }
 {

@@ -53,7 +53,7 @@ loop-place-init g c =
       cursor = cursor_begins c.args.plan.now.0 c.args.plan.now.1 c.args.layout.now old c.in_ok-cursor.cursor
           (subst (λ choice. IsRepairOrder choice c.in_ok-cursor.cursor.order.items) c.choice.ensures.is c.in_ok-cursor.ensures.ordered)
           c.in_ok-cursor.ensures.begins;
-      backed = subst (λ o. IfSome o (IsSupportFor c.args.plan.now.0 c.args.layout.now old c.in_ok-rules.rules c.rebuild.new.model)) (sym c.new-backing.ensures) tt;
+      backed = subst (λ o. IfSome o (IsSupportFor c.args.plan.now.0 c.args.layout.now old c.in_ok-rules.field-0 c.rebuild.new.model)) (sym c.new-backing.ensures) tt;
       claimed = c.requires.claimed;
     }
 

@@ -84,7 +84,7 @@ pub fn step<I: ImageBytes>(
     let Some(update) = update_of(plan, &step) else {
         unreachable!();
     };
-    backing.prepare(plan, layout, rules, update, &step);
+    backing.prepare(plan, layout, rules, update);
     make(plan.spec(), layout, &step, update, image, draft, log)?;
     renew(
         model,

@@ -1,0 +1,4 @@
+pub mod Sought
+pub mod Sole
+pub mod Judged
+pub mod Stepped

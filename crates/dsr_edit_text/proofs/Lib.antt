@@ -3,3 +3,4 @@ pub mod Put
 pub mod Back
 pub mod Rows
 pub mod Once
+pub mod Sole

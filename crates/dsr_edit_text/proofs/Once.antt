@@ -1,5 +1,5 @@
 -- A text has at most one first wrong line, and none where it is a script.
-use Rattle.std.proofs.Common.{◌≡◌, ◌≢◌, ◌<◌, ◌+◌, ◌++◌, ◌∙◌, ◌⊎◌, ℕ, zero, suc, Bool, true, false, All, List, [], ◌∷◌, Some, length, map, take, slice_get, get_or, inl, inr, refl, sym, ap, subst, arith}
+use Rattle.std.proofs.Common.{◌≡◌, ◌≢◌, ◌<◌, ◌+◌, ◌++◌, ◌∙◌, ◌⊎◌, ℕ, zero, suc, Bool, true, false, All, List, [], ◌∷◌, Some, map, take, slice_get, get_or, inl, inr, refl, sym, ap, subst, arith}
 use Rattle.std.specs.Prelude.{nat_eq, nat_lt}
 use Rattle.std.proofs.lemmas.Bool.Decides.{nat_tests}
 use Rattle.std.proofs.lemmas.List.Elements.{All-head, All-tail}
@@ -59,7 +59,7 @@ module _ (second : Bool) (texts : List (List ℕ)) (groups : List (List SetText)
       ap (λ ts. slice_get ts k) (sym begins.texts_are) ∙ (taken_at texts (lines_of_groups groups group) k less ∙ line.text_is) in
       no_line second texts k line
       (line_at second (script_texts groups ++ map set_text group) k line.text
-          (joined second (script_texts groups) (map set_text group) (groups_are second groups begins.formed) (sets_are second group begins.group_formed)) there)
+      (joined second (script_texts groups) (map set_text group) (groups_are second groups begins.formed) (sets_are second group begins.group_formed)) there)
 
 neither_less : (m n : ℕ) → (m < n → ⊥) → (n < m → ⊥) → m ≡ n
 neither_less m n less more =
@@ -84,7 +84,7 @@ module _ (second : Bool) (text : List ℕ) where
 
 -- ---- a group without its end
 
-set_is_no_commit : (set : SetText) → set_text set ≡ commit_text → ⊥
+pub set_is_no_commit : (set : SetText) → set_text set ≡ commit_text → ⊥
 set_is_no_commit set is = absurd (let first : 115 ≡ 99 = ap (λ t. get_or t 0 0) is in omega (arith, first))
 
 -- the last line, if any, ends a group
@@ -128,7 +128,7 @@ no_script second text n groups wrong script = elim wrong.wrong [
   | inl line ↦
       no_line second (lines_of text) (lines_of_groups wrong.groups wrong.group) line
       (line_at second (script_texts groups) (lines_of_groups wrong.groups wrong.group) line.text (groups_are second groups script.formed)
-          (ap (λ ts. slice_get ts (lines_of_groups wrong.groups wrong.group)) (sym script.texts_are) ∙ line.text_is))
+      (ap (λ ts. slice_get ts (lines_of_groups wrong.groups wrong.group)) (sym script.texts_are) ∙ line.text_is))
   | inr ended ↦
       let whole : script_texts groups ≡ script_texts wrong.groups ++ map set_text wrong.group =
       sym script.texts_are

@@ -2,12 +2,16 @@
 use Rattle.std.proofs.Common.{◌≡◌, ◌<◌, ◌≤◌, ◌+◌, ◌∙◌, ◌⊎◌, ℕ, Bool, true, false, List, Option, None, Some, slice_get, nat_eq, inl, inr, refl, sym, ap, subst, arith}
 use Rattle.std.specs.Prelude.{is_some, nat_lt, option_and_then}
 use Rattle.std.proofs.lemmas.Bool.Decides.{nat_tests}
-use Rattle.dsr_command_edit.specs.Named.{IsFieldNamed, IsRecordNamed, IsWriteOf}
+use Rattle.dsr_command_edit.proofs.Sought.{as_named, field_of_line}
+use Rattle.dsr_command_edit.specs.Found.{FindsField, IsNamedIn}
+use Rattle.dsr_command_edit.specs.Named.{CanBeMade, IsFieldNamed, IsRecordNamed, IsWriteOf}
+use Rattle.dsr_edit.specs.Edits.{MayWriteSome}
 use Rattle.dsr_edit.specs.declared.groups.CellWrite.{CellWrite}
 use Rattle.dsr_edit_text.specs.Scripts.{SetText}
 use Rattle.dsr_ir.specs.declared.declarations.Field.{Field}
 use Rattle.dsr_ir.specs.declared.declarations.FieldRef.{FieldRef}
 use Rattle.dsr_ir.specs.declared.declarations.Spec.{Spec}
+use Rattle.dsr_ir.specs.declared.layouts.Layout.{Layout}
 use Rattle.dsr_ir.specs.declared.tuples.Element.{Element}
 use Rattle.dsr_meaning.specs.Instances.{declared_field}
 use Rattle.dsr_meaning.specs.Typed.{HasName, IsTyped}
@@ -25,7 +29,7 @@ neither_less m n less more =
     ] refl
 
 module _ (spec : Spec) (typed : IsTyped spec) (line : SetText) where
-  one_record : (a b : Element) → IsRecordNamed spec line a → IsRecordNamed spec line b → a ≡ b
+  pub one_record : (a b : Element) → IsRecordNamed spec line a → IsRecordNamed spec line b → a ≡ b
   one_record a b one two = elim one.by [
     | inl head ↦ elim two.by [
       | inl other ↦ head.1 ∙ sym other.1
@@ -69,5 +73,26 @@ module _ (spec : Spec) (typed : IsTyped spec) (line : SetText) where
       let value : a.value ≡ b.value = one.value ∙ sym two.value in
       λ i. record { elem = elem i; field = field i; index = index i; value = value i }
 
-  pub one_elem : (a b : Element) → IsRecordNamed spec line a → IsRecordNamed spec line b → a ≡ b
-  one_elem a b one two = one_record a b one two
+  -- ---- the write that is found
+
+  pub no_record : ((elem : Element) → IsRecordNamed spec line elem → ⊥) → (write : CellWrite) → IsWriteOf spec line write → ⊥
+  no_record none write its = none write.elem its.elem
+
+  module _ (elem : Element) (named : IsRecordNamed spec line elem) where
+    pub no_field : FindsField spec.base elem.pool line.field (is_some line.index) None → (write : CellWrite) → IsWriteOf spec line write → ⊥
+    no_field none write its =
+        let same = one_record write.elem elem its.elem named in
+        none write.field (as_named spec elem.pool line write.field (subst (λ (e : Element). IsFieldNamed spec e.pool line write.field) same its.field))
+
+    pub write_named : (place : FieldRef) → FindsField spec.base elem.pool line.field (is_some line.index) (Some place)
+        → IsWriteOf spec line (record { elem = elem; field = place; index = line.index; value = line.value })
+    write_named place found = record { elem = named; field = field_of_line spec elem.pool line place found; index = refl; value = refl }
+
+  -- ---- whether it can be made
+
+  module _ (layout : Layout) where
+    pub none_to_make : ((write : CellWrite) → IsWriteOf spec line write → ⊥) → CanBeMade spec layout line → ⊥
+    none_to_make none can = none can.0 can.1.0
+
+    pub not_to_make : (write : CellWrite) → IsWriteOf spec line write → (MayWriteSome spec layout write → ⊥) → CanBeMade spec layout line → ⊥
+    not_to_make write its may_not can = may_not (subst (MayWriteSome spec layout) (one_write can.0 write can.1.0 its) can.1.1)

@@ -4,6 +4,7 @@ use Rattle.std.specs.Prelude.{option_and_then}
 use Rattle.std.proofs.lemmas.Bool.{cases_lt, false≢true}
 use Rattle.std.proofs.lemmas.Option.{slice_get_read, slice_get_within}
 use Rattle.dsr_command_edit.specs.Found.{FindsField, FindsIn, FindsUnder, IsNamedAs, IsNamedIn, IsPoolNamed}
+use Rattle.dsr_answers.specs.Texts.{pool_name}
 use Rattle.dsr_command_edit.specs.Named.{IsFieldNamed, IsRecordNamed}
 use Rattle.dsr_edit_text.specs.Scripts.{SetText}
 use Rattle.dsr_ir.specs.declared.declarations.Field.{Field}
@@ -12,8 +13,10 @@ use Rattle.dsr_ir.specs.declared.declarations.Spec.{Spec}
 use Rattle.dsr_ir.specs.declared.declarations.Structure.{Structure}
 use Rattle.dsr_ir.specs.declared.declarations.Structures.{Structures}
 use Rattle.dsr_ir.specs.declared.tuples.Element.{Element}
+use Rattle.dsr_meaning.proofs.Firing.{some_same}
 use Rattle.dsr_meaning.specs.Instances.{declared_field}
 use Rattle.dsr_meaning.specs.Truth.{head}
+use Rattle.dsr_meaning.specs.Typed.{HasName}
 use Rattle.dsr_report_read.specs.Forms.{IsOfPool, IsPoolField}
 
 -- what stands at a place of a list
@@ -59,7 +62,59 @@ module _ (spec : Spec) (line : SetText) where
   record_found slot pool is named None great = too_great slot is great
   record_found slot pool is named (Some elem) its = slot_found slot pool is named its.0 elem its.1
 
--- ---- fields
+-- ---- pools
+
+module _ (spec : Spec) (name : List ℕ) where
+  -- no pool so far has the name
+  abbrev pub NoPoolBefore : ℕ → Type 0
+  NoPoolBefore place = (pool : ℕ) → pool ≤ place → IsPoolNamed spec name pool → ⊥
+
+  pub no_pool_yet : NoPoolBefore 0
+  no_pool_yet pool low its = let some = its.some in omega (arith, low, some)
+
+  pub pool_next : (place : ℕ) → NoPoolBefore place → (pool_name spec (place + 1) ≡ name → ⊥) → NoPoolBefore (place + 1)
+  pool_next place before other pool low its = elim (cases_lt pool (place + 1)) [
+    | inl less ↦ before pool (omega (arith, less)) its
+    | inr more ↦ let here : pool ≡ place + 1 = omega (arith, low, more) in other (subst (λ p. pool_name spec p ≡ name) here its.name_is)
+  ]
+
+  pub pool_here : (place : ℕ) → place < length spec.base.pools → pool_name spec (place + 1) ≡ name → IsPoolNamed spec name (place + 1)
+  pool_here place low is = record { some = omega arith; declared = omega (arith, low); name_is = is }
+
+  pub no_pool_left : (place : ℕ) → length spec.base.pools ≤ place → NoPoolBefore place → (pool : ℕ) → IsPoolNamed spec name pool → ⊥
+  no_pool_left place all before pool its = let low = its.declared in before pool (omega (arith, low, all)) its
+
+-- ---- fields of a structure
+
+pub named_by : (name : List ℕ) (indexed : Bool) (field : Field) → HasName field → is_some field.len ≡ indexed → (b : Bool) → Decides b (field.name ≡ name) → Decides b (IsNamedAs name indexed field)
+named_by name indexed field named shape b is = (λ t. record { named = named; name_is = is.0 t; shape = shape }, λ its. is.1 its.name_is)
+
+module _ (structure : Structure) (name : List ℕ) (indexed : Bool) where
+  -- no field so far has the name
+  abbrev pub NoFieldBefore : ℕ → Type 0
+  NoFieldBefore place = (k : ℕ) (field : Field) → k < place → slice_get structure.fields k ≡ Some field → IsNamedAs name indexed field → ⊥
+
+  pub no_field_yet : NoFieldBefore 0
+  no_field_yet k field low at its = omega (arith, low)
+
+  module _ (place : ℕ) (before : NoFieldBefore place) where
+    pub field_next : (field : Field) → slice_get structure.fields place ≡ Some field → (IsNamedAs name indexed field → ⊥) → NoFieldBefore (place + 1)
+    field_next field at other k its low there named = elim (cases_lt k place) [
+      | inl less ↦ before k its less there named
+      | inr more ↦
+          let here : k ≡ place = omega (arith, low, more) in
+          let same : its ≡ field = some_same _ its field there (ap (slice_get structure.fields) here ∙ at) in
+          other (subst (IsNamedAs name indexed) same named)
+    ]
+
+    pub no_field_left : (number : ℕ) → length structure.fields ≤ place → FindsUnder number structure name indexed None
+    no_field_left number all k field at named = let low = slice_get_within structure.fields k field at in before k field (omega (arith, low, all)) at named
+
+  pub field_here : (number place : ℕ) (field : Field) → slice_get structure.fields place ≡ Some field → IsNamedAs name indexed field
+      → FindsUnder number structure name indexed (Some (record { structure = number; field = place }))
+  field_here number place field at named = (refl, (field, at, named))
+
+-- ---- fields of a pool's records
 
 abbrev own : ℕ → Structure → Option Field
 own k structure = slice_get structure.fields k

@@ -179,7 +179,6 @@ fn edit_groups(
 
 /// Edits an image as a script says: all of its groups are made, or nothing is saved.
 pub fn edit(alloc: Global, ready: Ready, script: &[u8]) -> Result<Edited, NoMemory>
-    requires small { length script.now ≤ 1048576 }
     ensures { IfOk result (λ edited. IsEditOf ready.0 ready.1 script.now (ending_of edited)) }
 {
     let Ready {

@@ -2,14 +2,15 @@
 ghost use Rattle.std.specs.Prelude.{◌≤◌, IfOk, length};
 ghost use Rattle.dsr_command_edit.specs.Ends.{HasReady, opening_of};
 ghost use Rattle.dsr_command_edit.specs.Opened.{IsOpening};
+ghost use Rattle.dsr_meaning.specs.Limits.{most_bytes};
 ghost use Rattle.dsr_meaning.specs.Typed.{IsTyped};
 
 use crate::ready::Ready;
 use dsr_answers::{layout_refused, verdict};
+use dsr_command_image::laid_out;
 use dsr_edit::{OpenFault, Session};
 use dsr_image::Whole;
 use dsr_ir::{NoMemory, Spec};
-use dsr_layout::layout;
 use dsr_script::Told;
 use std::alloc::Global;
 
@@ -25,11 +26,11 @@ pub enum Opened {
 /// Opens an image for edits: it has to have a layout, and to be consistent.
 pub fn open(alloc: Global, spec: Spec, image: Vec<u8>) -> Result<Opened, NoMemory>
     requires typed { IsTyped spec }
-    requires small { length image.items ≤ 67108864 }
+    requires small { length image.items ≤ most_bytes }
     ensures opened { IfOk result (λ opened. IsOpening spec image.items (opening_of opened)) }
     ensures ready { IfOk result (HasReady spec image.items) }
 {
-    let layout = match layout(alloc, &spec, &image) {
+    let layout = match laid_out(alloc, &spec, &image) {
         Ok(layout) => layout,
         Err(fault) => return Ok(Opened::Refused(layout_refused(alloc, &spec, fault)?)),
     };

@@ -1,5 +1,5 @@
 use Rattle.std.proofs.Common.{◌≡◌, refl, sym, subst}
-use Rattle.dsr_command_edit.proofs.Sole.{one_elem}
+use Rattle.dsr_command_edit.proofs.Sole.{no_field, no_record, write_named}
 use Rattle.dsr_command_edit.proofs.Sought.{as_named, field_of_line}
 use Rattle.dsr_command_edit.specs.Named.{IsFieldNamed}
 use Rattle.dsr_edit_text.specs.Shown.{shown}

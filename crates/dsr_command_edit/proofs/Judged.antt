@@ -1,13 +1,12 @@
 -- The lines of a group, judged one after the other.
 use Rattle.std.proofs.Common.{◌≡◌, ◌<◌, ◌≤◌, ◌+◌, ◌++◌, ◌∙◌, ◌⊎◌, ℕ, zero, suc, List, [], ◌∷◌, Option, None, Some, length, map, take, slice_get, inl, inr, refl, sym, ap, subst, arith}
 use Rattle.std.proofs.lemmas.Bool.{cases_lt}
+use Rattle.std.proofs.lemmas.List.{take_all}
 use Rattle.dsr_command_edit.specs.Named.{AreWritesOf, CanBeMade, IsFirstUnwritableLine, IsWriteOf}
 use Rattle.dsr_command_edit.specs.Named.AreWritesOf.{none, more}
 use Rattle.dsr_edit.specs.Edits.{MayWriteSome}
 use Rattle.dsr_edit.specs.declared.groups.CellWrite.{CellWrite}
 use Rattle.dsr_edit_text.specs.Scripts.{SetText}
-use Rattle.dsr_edit_text.specs.Shown.{shown}
-use Rattle.dsr_edit_text.specs.declared.lines.SetLine.{SetLine}
 use Rattle.dsr_ir.specs.declared.declarations.Spec.{Spec}
 use Rattle.dsr_ir.specs.declared.layouts.Layout.{Layout}
 use Rattle.dsr_meaning.proofs.Firing.{some_same}
@@ -20,21 +19,6 @@ take_one (y ∷ xs) zero x is = let same : y ≡ x = cc in ap (λ z. z ∷ []) s
 take_one (y ∷ xs) (suc k) x is =
     let next : suc k + 1 ≡ suc (k + 1) = omega arith in
     ap (λ n. take n (y ∷ xs)) next ∙ ap (λ zs. y ∷ zs) (take_one xs k x is)
-
-pub take_whole : {A : Type 0} (xs : List A) (k : ℕ) → length xs ≤ k → take k xs ≡ xs
-take_whole [] zero all = refl
-take_whole [] (suc k) all = refl
-take_whole (x ∷ xs) zero all = absurd (omega (arith, all))
-take_whole (x ∷ xs) (suc k) all = ap (λ ys. x ∷ ys) (take_whole xs k (omega (arith, all)))
-
-pub shown_at : (group : List SetLine) (k : ℕ) (set : SetLine) → slice_get group k ≡ Some set → slice_get (map shown group) k ≡ Some (shown set)
-shown_at [] k set is = absurd cc
-shown_at (x ∷ group) zero set is = let same : x ≡ set = cc in ap (λ (s : SetLine). Some (shown s)) same
-shown_at (x ∷ group) (suc k) set is = shown_at group k set is
-
-pub shown_long : (group : List SetLine) → length (map shown group) ≡ length group
-shown_long [] = refl
-shown_long (x ∷ group) = ap suc (shown_long group)
 
 writes_more : (spec : Spec) (lines : List SetText) (writes : List CellWrite) (line : SetText) (write : CellWrite) → AreWritesOf spec lines writes → IsWriteOf spec line write → AreWritesOf spec (lines ++ line ∷ []) (writes ++ write ∷ [])
 writes_more spec _ _ line write none is = more line write is none
@@ -70,7 +54,7 @@ module _ (spec : Spec) (layout : Layout) (lines : List SetText) where
         | inr great ↦
             let here : k ≡ place = omega (arith, low, great) in
             let same : line ≡ other = some_same _ line other at (ap (slice_get lines) (sym here) ∙ there) in
-            subst (CanBeMade spec layout) same (write, is, may)
+            subst (CanBeMade spec layout) same (record { write = write; is_write = is; may = may })
       ];
     }
 
@@ -78,4 +62,4 @@ module _ (spec : Spec) (layout : Layout) (lines : List SetText) where
     wrong_line line at wrong = record { line = line; line_is = at; unwritable = wrong; before = judged.before }
 
     pub all_judged : length lines ≤ place → AreWritesOf spec lines writes
-    all_judged all = subst (λ ls. AreWritesOf spec ls writes) (take_whole lines place all) judged.named
+    all_judged all = subst (λ ls. AreWritesOf spec ls writes) (take_all place lines all) judged.named

@@ -40,7 +40,7 @@ module _ (spec : Spec) (typed : IsTyped spec) (line : SetText) where
       | inr other ↦
           let both : Some a.slot ≡ Some b.slot = sym named.0 ∙ other.0 in
           let slot : a.slot ≡ b.slot = cc in
-          let pool = same_pool spec typed.base a.pool b.pool named.1.0 other.1.0 one.record_is.declared two.record_is.declared (named.1.1 ∙ sym other.1.1) in
+          let pool = same_pool spec typed.base a.pool b.pool named.1 other.1 one.record_is.declared two.record_is.declared (named.2 ∙ sym other.2) in
           λ i. record { pool = pool i; slot = slot i }
     ]
   ]
@@ -92,7 +92,7 @@ module _ (spec : Spec) (typed : IsTyped spec) (line : SetText) where
 
   module _ (layout : Layout) where
     pub none_to_make : ((write : CellWrite) → IsWriteOf spec line write → ⊥) → CanBeMade spec layout line → ⊥
-    none_to_make none can = none can.0 can.1.0
+    none_to_make none can = none can.write can.is_write
 
     pub not_to_make : (write : CellWrite) → IsWriteOf spec line write → (MayWriteSome spec layout write → ⊥) → CanBeMade spec layout line → ⊥
-    not_to_make write its may_not can = may_not (subst (MayWriteSome spec layout) (one_write can.0 write can.1.0 its) can.1.1)
+    not_to_make write its may_not can = may_not (subst (MayWriteSome spec layout) (one_write can.write write can.is_write its) can.may)

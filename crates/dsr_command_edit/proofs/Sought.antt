@@ -1,7 +1,8 @@
 -- What is found by a name.
 use Rattle.std.proofs.Common.{◌≡◌, ◌<◌, ◌≤◌, ◌+◌, ◌^◌, ◌∙◌, ◌⊎◌, ℕ, Bool, true, false, List, Option, None, Some, MatchOption, Decides, length, slice_get, get_or, is_some, inl, inr, refl, sym, ap, subst, arith}
 use Rattle.std.specs.Prelude.{option_and_then}
-use Rattle.std.proofs.lemmas.Bool.{cases_lt, false≢true}
+use Rattle.std.proofs.Math.Bool.{beq, not}
+use Rattle.std.proofs.lemmas.Bool.{cases_lt}
 use Rattle.std.proofs.lemmas.Option.{slice_get_read, slice_get_within}
 use Rattle.dsr_command_edit.specs.Found.{FindsField, FindsIn, FindsUnder, IsNamedAs, IsNamedIn, IsPoolNamed}
 use Rattle.dsr_answers.specs.Texts.{pool_name}
@@ -35,7 +36,7 @@ module _ (spec : Spec) (line : SetText) where
   pub no_pool : (slot : ℕ) → line.slot ≡ Some slot → ((pool : ℕ) → IsPoolNamed spec line.pool pool → ⊥) → (elem : Element) → IsRecordNamed spec line elem → ⊥
   no_pool slot is none elem its = elim its.by [
     | inl at_head ↦ let both : Some slot ≡ None = sym is ∙ at_head.0 in absurd cc
-    | inr named ↦ none elem.pool (record { some = named.1.0; declared = its.record_is.declared; name_is = named.1.1 })
+    | inr named ↦ none elem.pool (record { some = named.1; declared = its.record_is.declared; name_is = named.2 })
   ]
 
   pub slot_found :
@@ -86,8 +87,19 @@ module _ (spec : Spec) (name : List ℕ) where
 
 -- ---- fields of a structure
 
-pub named_by : (name : List ℕ) (indexed : Bool) (field : Field) → HasName field → is_some field.len ≡ indexed → (b : Bool) → Decides b (field.name ≡ name) → Decides b (IsNamedAs name indexed field)
-named_by name indexed field named shape b is = (λ t. record { named = named; name_is = is.0 t; shape = shape }, λ its. is.1 its.name_is)
+pub same_test : (a b : Bool) → not (beq a b) ≡ false → a ≡ b
+same_test true true is = refl
+same_test true false is = absurd cc
+same_test false true is = absurd cc
+same_test false false is = refl
+
+pub named_by :
+    (name : List ℕ) (indexed : Bool) (field : Field) → HasName field → is_some field.len ≡ indexed
+    → (bytes : List ℕ) (b : Bool) → bytes ≡ field.name → Decides b (bytes ≡ name) → Decides b (IsNamedAs name indexed field)
+named_by name indexed field named shape bytes b told is = (
+  λ t. record { named = named; name_is = sym told ∙ is.0 t; shape = shape },
+  λ its. is.1 (told ∙ its.name_is),
+)
 
 module _ (structure : Structure) (name : List ℕ) (indexed : Bool) where
   -- no field so far has the name
@@ -134,14 +146,14 @@ module _ (base : Structures) (pool : ℕ) (name : List ℕ) (indexed : Bool) whe
   found_in number structure declared of (Some place) its = (
     its.0,
     record {
-      field = its.1.0;
+      field = its.1;
       is_field = record {
-        declared = field_at base number structure place declared its.0 ∙ its.1.1.0;
-        named = its.1.1.1.named;
+        declared = field_at base number structure place declared its.0 ∙ its.2;
+        named = its.3.named;
         of_pool = subst (IsOfPool base pool) (sym its.0) of;
       };
-      name_is = its.1.1.1.name_is;
-      shape = its.1.1.1.shape;
+      name_is = its.3.name_is;
+      shape = its.3.shape;
     },
   )
 

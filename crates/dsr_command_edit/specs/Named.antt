@@ -36,9 +36,10 @@ pub record IsWriteOf (spec : Spec) (line : SetText) (write : CellWrite) : Type 0
   pub value : write.value ≡ line.value
 
 -- the line names a write that can be made
-abbrev pub CanBeMade : Spec → Layout → SetText → Type 0
-CanBeMade spec layout line =
-    (write : CellWrite) × IsWriteOf spec line write × MayWriteSome spec layout write
+pub record CanBeMade (spec : Spec) (layout : Layout) (line : SetText) : Type 0 where
+  pub write : CellWrite
+  pub is_write : IsWriteOf spec line write
+  pub may : MayWriteSome spec layout write
 
 -- the writes that the lines of a group name, in order
 pub data AreWritesOf (spec : Spec) : List SetText → List CellWrite → Type 0 where

@@ -5,6 +5,7 @@ ghost use Rattle.dsr_command_edit.specs.Named.{IsRecordNamed, IsWriteOf};
 ghost use Rattle.dsr_edit.specs.declared.groups.CellWrite as writes;
 ghost use Rattle.dsr_edit_text.specs.Shown.{shown};
 ghost use Rattle.dsr_ir.specs.declared.tuples.Element as tuples;
+ghost use Rattle.dsr_meaning.specs.Limits.{most_fields};
 ghost use Rattle.dsr_meaning.specs.Typed.{AreTyped, IsTyped};
 
 use dsr_answers::pool_name;
@@ -78,7 +79,7 @@ fn field_under(
     name: &[u8],
     indexed: bool,
 ) -> Option<FieldRef>
-    requires few { length structure.now.fields ≤ 64 }
+    requires few { length structure.now.fields ≤ most_fields }
     ensures { FindsUnder number structure.now name.now indexed result }
 {
     for (place, field) in structure.fields.items().iter().enumerate() {

@@ -2,8 +2,8 @@ use Rattle.std.proofs.Common.{◌≤◌, ◌∙◌, length, sym, subst}
 use Rattle.dsr_command_edit.proofs.Sought.{found_first, listed_at, none_at_all, none_next}
 use Rattle.dsr_command_edit.proofs.named.field_named.Goals as goal
 
-pub field_in-requires-clause-declared : goal.field_in-requires-clause-declared
-field_in-requires-clause-declared c =
+pub field_in-found-requires-clause-declared : goal.field_in-found-requires-clause-declared
+field_in-found-requires-clause-declared c =
     listed_at c.args.base.now.structures c.items-structure-items.result.now c.items-structure-items.ensures c.loop-number.number c.structure-item.result c.loop-number-test.true c.structure-item.is
 
 pub returns-then-is_some : goal.returns-then-is_some

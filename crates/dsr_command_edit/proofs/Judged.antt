@@ -1,12 +1,16 @@
 -- The lines of a group, judged one after the other.
 use Rattle.std.proofs.Common.{◌≡◌, ◌<◌, ◌≤◌, ◌+◌, ◌++◌, ◌∙◌, ◌⊎◌, ℕ, zero, suc, List, [], ◌∷◌, Option, None, Some, length, map, take, slice_get, inl, inr, refl, sym, ap, subst, arith}
 use Rattle.std.proofs.lemmas.Bool.{cases_lt}
-use Rattle.std.proofs.lemmas.List.{take_all}
+use Rattle.std.proofs.lemmas.List.{take_all, take_more}
+use Rattle.std.proofs.lemmas.Option.{get_or_from_slice_get, slice_get-map, slice_get_within}
+use Rattle.std.specs.Prelude.{option_map}
 use Rattle.dsr_command_edit.specs.Named.{AreWritesOf, CanBeMade, IsFirstUnwritableLine, IsWriteOf}
 use Rattle.dsr_command_edit.specs.Named.AreWritesOf.{none, more}
 use Rattle.dsr_edit.specs.Edits.{MayWriteSome}
 use Rattle.dsr_edit.specs.declared.groups.CellWrite.{CellWrite}
 use Rattle.dsr_edit_text.specs.Scripts.{SetText}
+use Rattle.dsr_edit_text.specs.Shown.{shown}
+use Rattle.dsr_edit_text.specs.declared.lines.SetLine.{SetLine}
 use Rattle.dsr_ir.specs.declared.declarations.Spec.{Spec}
 use Rattle.dsr_ir.specs.declared.layouts.Layout.{Layout}
 use Rattle.dsr_meaning.proofs.Firing.{some_same}
@@ -14,11 +18,10 @@ use Rattle.dsr_meaning.proofs.Items.{in_either}
 use Rattle.dsr_meaning.specs.Counting.{IsIn}
 
 pub take_one : {A : Type 0} (xs : List A) (k : ℕ) (x : A) → slice_get xs k ≡ Some x → take (k + 1) xs ≡ take k xs ++ x ∷ []
-take_one [] k x is = absurd cc
-take_one (y ∷ xs) zero x is = let same : y ≡ x = cc in ap (λ z. z ∷ []) same
-take_one (y ∷ xs) (suc k) x is =
-    let next : suc k + 1 ≡ suc (k + 1) = omega arith in
-    ap (λ n. take n (y ∷ xs)) next ∙ ap (λ zs. y ∷ zs) (take_one xs k x is)
+take_one xs k x is = take_more xs k x (slice_get_within xs k x is) ∙ ap (λ y. take k xs ++ y ∷ []) (get_or_from_slice_get xs k x x is)
+
+pub shown_at : (group : List SetLine) (k : ℕ) (set : SetLine) → slice_get group k ≡ Some set → slice_get (map shown group) k ≡ Some (shown set)
+shown_at group k set is = slice_get-map shown group k ∙ ap (option_map shown) is
 
 writes_more : (spec : Spec) (lines : List SetText) (writes : List CellWrite) (line : SetText) (write : CellWrite) → AreWritesOf spec lines writes → IsWriteOf spec line write → AreWritesOf spec (lines ++ line ∷ []) (writes ++ write ∷ [])
 writes_more spec _ _ line write none is = more line write is none

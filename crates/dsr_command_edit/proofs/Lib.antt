@@ -2,5 +2,6 @@ pub mod Sought
 pub mod Sole
 pub mod Judged
 pub mod Stepped
-pub mod Opening
+pub mod Unopened
+pub mod Ended
 pub mod Once

@@ -146,14 +146,14 @@ module _ (base : Structures) (pool : ℕ) (name : List ℕ) (indexed : Bool) whe
   found_in number structure declared of (Some place) its = (
     its.0,
     record {
-      field = its.1;
+      field = its.1.0;
       is_field = record {
-        declared = field_at base number structure place declared its.0 ∙ its.2;
-        named = its.3.named;
+        declared = field_at base number structure place declared its.0 ∙ its.1.1;
+        named = its.1.2.named;
         of_pool = subst (IsOfPool base pool) (sym its.0) of;
       };
-      name_is = its.3.name_is;
-      shape = its.3.shape;
+      name_is = its.1.2.name_is;
+      shape = its.1.2.shape;
     },
   )
 

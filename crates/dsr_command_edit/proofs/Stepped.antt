@@ -59,8 +59,8 @@ group_at groups k group lines below is lines_are =
     ∙ (ap (option_map (λ (g : Vec SetLine Global). map shown g.items)) (listed_at groups groups refl k group below is)
     ∙ ap (λ ls. Some (map shown ls)) (sym lines_are))
 
-pub group_long : (lines : List SetLine) (group : Vec SetLine Global) (n : ℕ) → n ≡ length group.items → lines ≡ group.items → n ≡ length (map shown lines)
-group_long lines group n long lines_are = long ∙ (ap length (sym lines_are) ∙ sym (length-map lines shown))
+pub group_long : (lines : List SetLine) (n : ℕ) → n ≡ length lines → n ≡ length (map shown lines)
+group_long lines n long = long ∙ sym (length-map lines shown)
 
 -- ---- groups in a row
 

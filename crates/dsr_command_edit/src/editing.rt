@@ -1,5 +1,5 @@
 // An image is edited as a script says.
-ghost use Rattle.std.specs.Prelude.{◌≡◌, ◌≤◌, ◌<◌, ◌^◌, IfOk, MatchOption, length, map};
+ghost use Rattle.std.specs.Prelude.{◌≡◌, ◌≤◌, ◌<◌, ◌^◌, IfOk, MatchOption, Some, length, map, slice_get};
 ghost use Rattle.dsr_command_edit.specs.Edited.{IsEditOf};
 ghost use Rattle.dsr_command_edit.specs.Ends.{IsJudgement, IsOutcome, IsStep, TellsFault, ending_of};
 ghost use Rattle.dsr_command_edit.specs.Named.{AreWritesOf, CanBeMade, IsWriteOf};
@@ -75,6 +75,14 @@ fn writable(session: &Session, spec: &Spec, set: &SetLine) -> Option<CellWrite>
     Some(write)
 }
 
+// The line at this place.
+fn line_at<'a>(group: &[SetLine<'a>], place: usize) -> SetLine<'a>
+    requires inside { place < length group.now }
+    ensures { slice_get group.now place ≡ Some result }
+{
+    group[place]
+}
+
 // Judges the lines of a group.
 fn judge(
     alloc: Global,
@@ -88,7 +96,8 @@ fn judge(
 {
     let mut writes = Vec::with_capacity(alloc, group.len())?;
     for place in 0..group.len() {
-        let Some(write) = writable(session, spec, &group[place]) else {
+        let set = line_at(group, place);
+        let Some(write) = writable(session, spec, &set) else {
             return Ok(Judgement::Unwritable(place as u64));
         };
         writes.push(write)?;

@@ -16,7 +16,7 @@ overflow_add-line-in-Made c =
     let few = c.requires.few in
     let lines = c.deref.result.now in
     let at = group_at c.args.groups.now c.loop-number.number c.index-groups-number.result lines c.loop-number-test.true c.index-groups-number.is c.deref.ensures.value in
-    let long = group_long lines c.index-groups-number.result c.len.result c.len.ensures c.deref.ensures.value in
+    let long = group_long lines c.len.result (let count = c.len.ensures in let whole = c.deref.ensures.len in omega (arith, count, whole)) in
     let within = line_within c.args.spec.now c.args.session.now.1 (shown_groups c.args.groups.now) c.args.session.now.2 c.loop-number.number c.loop-number.line c.loop-number.session.2 c.loop-number.invariant.made (map shown lines) at in
     omega (arith, few, long, within)
 
@@ -60,7 +60,7 @@ loop-number-preserved c =
     let now = c.loop-number.session.2 in
     let new = c.edit_group.new.session.2 in
     let at = group_at c.args.groups.now number c.index-groups-number.result lines c.loop-number-test.true c.index-groups-number.is c.deref.ensures.value in
-    let long = group_long lines c.index-groups-number.result c.len.result c.len.ensures c.deref.ensures.value in
+    let long = group_long lines c.len.result (let count = c.len.ensures in let whole = c.deref.ensures.len in omega (arith, count, whole)) in
     let step = stepped spec layout c.loop-number.session.1 (map shown lines) now new c.in_ok-edit_group.field-0 steps.Made c.loop-number.invariant.layout_is c.in-Made.is c.in_ok-edit_group.ensures.step in
     record {
       spec_is = c.edit_group.ensures.spec ∙ c.loop-number.invariant.spec_is;

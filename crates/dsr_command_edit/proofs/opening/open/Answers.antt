@@ -1,5 +1,9 @@
-use Rattle.std.proofs.Common.{subst, sym}
-use Rattle.dsr_command_edit.proofs.Opening.{unlaid_told, violated_told}
+use Rattle.std.proofs.Common.{◌∙◌, ap, map, subst}
+use Rattle.dsr_answers.specs.Texts.{verdict_answer}
+use Rattle.dsr_command_edit.proofs.Unopened.{unlaid_told, violated_told}
+use Rattle.dsr_edit.specs.Opened.{IsOpenFault}
+use Rattle.dsr_meaning.specs.Consistency.{bound_constraint}
+use Rattle.dsr_meaning.specs.Refusals.{IsLayoutOf}
 use Rattle.dsr_command_edit.proofs.opening.open.Goals as goal
 
 pub returns-in-Err-clause-opened : goal.returns-in-Err-clause-opened
@@ -8,4 +12,8 @@ returns-in-Err-clause-opened c =
     c.deref.ensures.value c.in-Err.ensures.refused c.in_ok-layout_refused-in-Err.ensures.told c.in_ok-layout_refused-in-Err.ensures.known
 
 pub returns-in-Err-Violated-clause-opened : goal.returns-in-Err-Violated-clause-opened
-returns-in-Err-Violated-clause-opened c = let h = c.in-Err-Violated.ensures.refused in let i = c.in-Err-Violated.field-0-is in let j = c.in-Err-Violated.found-is in let k = c.in_ok-verdict-in-Err-Violated.ensures in let l = c.deref-in-Err-Violated.ensures.value in let m = c.in-Ok.ensures.image in ?
+returns-in-Err-Violated-clause-opened c =
+    let its = subst (IsOpenFault c.args.spec c.in-Ok.layout c.new.result) c.in-Err-Violated.field-0-is c.in-Err-Violated.ensures.refused in
+    violated_told c.args.spec c.args.image.items c.in-Ok.layout c.new.result c.in-Err-Violated.found.items c.in_ok-verdict-in-Err-Violated.field-0
+    c.new.ensures (subst (λ b. IsLayoutOf c.args.spec b c.in-Ok.layout) c.deref.ensures.value c.in-Ok.ensures.image.layout_is) its.0 its.1
+    (c.in_ok-verdict-in-Err-Violated.ensures ∙ ap (λ vs. verdict_answer c.args.spec (map bound_constraint vs)) c.deref-in-Err-Violated.ensures.value)

@@ -212,11 +212,7 @@ pub fn edit(alloc: Global, ready: Ready, script: &[u8]) -> Result<Edited, NoMemo
         }
         Outcome::Unwritable(line) => Ok(Edited::Unsaved(unwritable_told(alloc, line)?)),
         Outcome::Broken(group, constraint, binding) => Ok(Edited::Unsaved(broken_told(
-            alloc,
-            &spec,
-            group,
-            constraint,
-            &binding,
+            alloc, &spec, group, constraint, &binding,
         )?)),
     }
 }

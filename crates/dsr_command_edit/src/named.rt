@@ -73,12 +73,7 @@ fn is_named(field: &Field, name: &[u8], indexed: bool) -> bool
 }
 
 // The structure's own field with this name.
-fn field_under(
-    number: u32,
-    structure: &Structure,
-    name: &[u8],
-    indexed: bool,
-) -> Option<FieldRef>
+fn field_under(number: u32, structure: &Structure, name: &[u8], indexed: bool) -> Option<FieldRef>
     requires few { length structure.now.fields ≤ most_fields }
     ensures { FindsUnder number structure.now name.now indexed result }
 {

@@ -3,14 +3,15 @@ use Rattle.std.proofs.Common.{◌≡◌, ◌≢◌, ◌≤◌, ◌⊎◌, ◌∙
 use Rattle.std.proofs.lemmas.Option.{same_Some}
 use Rattle.std.specs.FinMap.{get}
 use Rattle.dsr_answers.specs.Texts.{verdict_answer}
-use Rattle.dsr_command_edit.specs.Edited.{IsEditOf}
+use Rattle.dsr_command_edit.specs.Edited.{IsEditOf, broken_answer, edited_answer, unread_answer, unwritable_answer}
 use Rattle.dsr_command_edit.specs.Edited.IsEditOf.{broken as edit_broken, edited as edit_edited, unread as edit_unread, unwritable as edit_unwritable}
 use Rattle.dsr_command_edit.specs.Opened.{IsOpen, IsOpening, Opening, Opens, Refuses}
 use Rattle.dsr_command_edit.specs.Opened.IsOpening.{inconsistent, open_to, unlaid}
-use Rattle.dsr_command_image.specs.Repaired.{Ending}
+use Rattle.dsr_command_edit.proofs.Once.{edit_once}
+use Rattle.dsr_command_image.specs.Repaired.{Ending, Saves, Tells}
 use Rattle.dsr_command_laws.proofs.ImagesRepaired.{IsEnded, ended_at}
 use Rattle.dsr_command_laws.proofs.Tellings.{ReadText, RefusedRun, Speaks, load_told, means_same, meant, never_refused, refused_verdict, spoken, text_loaded}
-use Rattle.dsr_command_laws.specs.EditHeadlines.{EditsImages, EditsNothingElse, IsEditVerdict, IsInconsistent, IsToEdit, WasUnedited}
+use Rattle.dsr_command_laws.specs.EditHeadlines.{EditsImages, EditsNothingElse, HasEnded, IsEditVerdict, IsInconsistent, IsToEdit, WasUnedited}
 use Rattle.dsr_command_laws.specs.EditHeadlines.WasUnedited.{broken, unread, unwritable}
 use Rattle.dsr_command_laws.specs.Repairs.{HasLayout}
 use Rattle.dsr_command_theory.specs.Commands.{asked, edits, image_limit, loads_edited, loads_script, loads_spec, opens, reads, script_limit, script_of}
@@ -113,6 +114,15 @@ violated_some [] some = absurd (some refl)
 violated_some (v ∷ rest) some = (v, rest, refl)
 
 module _ (spec : Spec) (image script name : List ℕ) (before after : Outside) (verdict : Verdict) where
+  -- there is no other ending
+  has_ended : (ending : Ending) → IsEnded name before after verdict ending → HasEnded name before after verdict ending
+  has_ended (Saves bytes answer) ended = (ended.0, ended.1.says, ended.1.put)
+  has_ended (Tells answer) ended = (ended.0, ended.1.says, ended.1.put)
+
+  ended_so : (ending : Ending) → IsEditOf spec image script ending → IsEnded name before after verdict ending
+      → (other : Ending) → IsEditOf spec image script other → HasEnded name before after verdict other
+  ended_so ending is ended other its = subst (HasEnded name before after verdict) (edit_once spec image script ending other is its) (has_ended ending ended)
+
   refused_verdict_of : (answer : Answer) → IsOpening spec image (Refuses answer) → Stands before after → Speaks before after verdict answer
       → IsEditVerdict spec image script name before after verdict
   refused_verdict_of _ (unlaid refusal first) stands speaks =
@@ -126,6 +136,7 @@ module _ (spec : Spec) (image script name : List ℕ) (before after : Outside) (
         unopened = differs verdict says (λ e. cc);
         edited = differs verdict says (λ e. cc);
         unedited = differs verdict says (λ e. cc);
+        exactly = λ layout is. absurd (none (layout, is.image_of.layout_is));
       }
   refused_verdict_of _ (inconsistent layout vs laid exactly some) stands speaks =
       let first = violated_some vs some in
@@ -140,6 +151,8 @@ module _ (spec : Spec) (image script name : List ℕ) (before after : Outside) (
         unopened = λ _. record { layout = layout; laid_out = laid; violations = vs; exactly = exactly; stands = stands; told = speaks.put };
         edited = differs verdict says (λ e. cc);
         unedited = differs verdict says (λ e. cc);
+        exactly = λ other is.
+            absurd (unsound (subst (λ l. IsConsistent spec l image) (one_layout spec image other layout is.image_of.layout_is laid) is.consistent));
       }
 
   module _ (layout : Layout) (opened : IsOpen spec layout image) where
@@ -148,8 +161,9 @@ module _ (spec : Spec) (image script name : List ℕ) (before after : Outside) (
         is.2 (subst (λ l. IsConsistent spec l image) (one_layout spec image layout is.0 opened.image_of.layout_is is.1) opened.consistent)
 
     unedited_verdict : verdict ≡ verdicts.EditRefused → WasUnedited spec image script before after
+        → ((ending : Ending) → IsEditOf spec image script ending → HasEnded name before after verdict ending)
         → IsEditVerdict spec image script name before after verdict
-    unedited_verdict says was = record {
+    unedited_verdict says was exactly = record {
       no_layout = (differs verdict says (λ e. cc), λ none. absurd (none (layout, opened.image_of.layout_is)));
       inconsistent = (differs verdict says (λ e. cc), λ is. absurd (never_inconsistent is));
       otherwise = λ other is. inr says;
@@ -157,16 +171,20 @@ module _ (spec : Spec) (image script name : List ℕ) (before after : Outside) (
       unopened = differs verdict says (λ e. cc);
       edited = differs verdict says (λ e. cc);
       unedited = λ _. was;
+      exactly = λ _ _. exactly;
     }
 
     ended_verdict : (ending : Ending) → IsEditOf spec image script ending → IsEnded name before after verdict ending
         → IsEditVerdict spec image script name before after verdict
     ended_verdict _ (edit_unread line first) ended =
         unedited_verdict ended.1.says (unread line first ended.0 ended.1.put)
+        (ended_so (Tells (unread_answer line)) (edit_unread line first) ended)
     ended_verdict _ (edit_unwritable its groups line is_open is_script is) ended =
         unedited_verdict ended.1.says (unwritable its groups line is_open is_script is ended.0 ended.1.put)
+        (ended_so (Tells (unwritable_answer line)) (edit_unwritable its groups line is_open is_script is) ended)
     ended_verdict _ (edit_broken its groups number v is_open is_script is) ended =
         unedited_verdict ended.1.says (broken its groups number v is_open is_script is ended.0 ended.1.put)
+        (ended_so (Tells (broken_answer spec number v)) (edit_broken its groups number v is_open is_script is) ended)
     ended_verdict _ (edit_edited its groups new is_open is_script accepted) ended =
         let says : verdict ≡ verdicts.Ok = ended.1.says in
         record {
@@ -186,6 +204,7 @@ module _ (spec : Spec) (image script name : List ℕ) (before after : Outside) (
             told = ended.1.put;
           };
           unedited = differs verdict says (λ e. cc);
+          exactly = λ _ _. ended_so (Saves new (edited_answer (length groups))) (edit_edited its groups new is_open is_script accepted) ended;
         }
 
   open_verdict : IsOpening spec image Opens → (ending : Ending) → IsEditOf spec image script ending → IsEnded name before after verdict ending

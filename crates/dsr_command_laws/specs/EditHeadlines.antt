@@ -2,8 +2,9 @@
 use Rattle.std.specs.Prelude.{◌≡◌, ◌≤◌, ◌↔◌, ◌⊎◌, ℕ, List, length, Some}
 use Rattle.std.specs.FinMap.{get}
 use Rattle.dsr_answers.specs.Texts.{verdict_answer}
-use Rattle.dsr_command_edit.specs.Edited.{AreAccepted, IsBrokenGroup, IsUnwritableLine, broken_answer, edited_answer, is_second, unread_answer, unwritable_answer}
+use Rattle.dsr_command_edit.specs.Edited.{AreAccepted, IsBrokenGroup, IsEditOf, IsUnwritableLine, broken_answer, edited_answer, is_second, unread_answer, unwritable_answer}
 use Rattle.dsr_command_edit.specs.Opened.{IsOpen}
+use Rattle.dsr_command_image.specs.Repaired.{Ending, Saves, Tells}
 use Rattle.dsr_command_laws.specs.Repairs.{HasLayout, IsTold, WasUnlaid}
 use Rattle.dsr_command_theory.specs.Commands.{image_limit, script_limit, spec_limit}
 use Rattle.dsr_command_theory.specs.Words.{Edit, command_of}
@@ -82,8 +83,17 @@ pub data WasUnedited (spec : Spec) (image script : List ℕ) (before after : Out
       → IsTold before after (broken_answer spec number v)
       → WasUnedited spec image script before after
 
+-- what is saved and told is what an edit ends with
+abbrev pub HasEnded : List ℕ → Outside → Outside → Verdict → Ending → Type 0
+HasEnded name before after verdict (Saves bytes answer) =
+    IsSaved before after name bytes × (verdict ≡ answer.verdict) × IsTold before after answer
+HasEnded name before after verdict (Tells answer) =
+    Stands before after × (verdict ≡ answer.verdict) × IsTold before after answer
+
 -- A verdict on an edit. It says exactly whether the image has a layout, and where it has one,
--- whether it is consistent; where it is, whether all groups of the script were made.
+-- whether it is consistent; where it is, whether all groups of the script were made. Where the image
+-- is consistent, the run ended so as the edit ends: by all groups, or by the first reason against
+-- them.
 pub record IsEditVerdict (spec : Spec) (image script name : List ℕ) (before after : Outside)
     (verdict : Verdict) : Type 0 where
   pub no_layout : (verdict ≡ verdicts.LayoutRefused) ↔ (HasLayout spec image → ⊥)
@@ -95,6 +105,9 @@ pub record IsEditVerdict (spec : Spec) (image script name : List ℕ) (before af
   pub unopened : verdict ≡ verdicts.Inconsistent → WasUnopened spec image before after
   pub edited : verdict ≡ verdicts.Ok → WasEdited spec image script name before after
   pub unedited : verdict ≡ verdicts.EditRefused → WasUnedited spec image script before after
+  pub exactly :
+      (layout : Layout) → IsOpen spec layout image → (ending : Ending)
+      → IsEditOf spec image script ending → HasEnded name before after verdict ending
 
 -- where the shelf tells its files and the words ask for an edit, a command that speaks gives the
 -- verdict

@@ -70,7 +70,7 @@ violation_once : (spec : Spec) (layout : Layout) (bytes : List ℕ) (v w : Bound
 violation_once spec layout bytes v w one two = elim (cases_lt v.constraint w.constraint) [
   | inl less ↦ absurd (two.none_before v one.violated (inl less))
   | inr from ↦ elim (cases_lt w.constraint v.constraint) [
-    | inl more ↦ absurd (one.none_before w two.violated (inl more))
+    | inl great ↦ absurd (one.none_before w two.violated (inl more))
     | inr to ↦
         let same : v.constraint ≡ w.constraint = omega (arith, from, to) in
         elim (bindings_apart v.binding w.binding) [
@@ -109,7 +109,7 @@ module _ (spec : Spec) (layout : Layout) where
   place_once group m n one two = elim (cases_lt m n) [
     | inl less ↦ absurd (one.unwritable (two.before m one.line less one.line_is))
     | inr from ↦ elim (cases_lt n m) [
-      | inl more ↦ absurd (two.unwritable (one.before n two.line more two.line_is))
+      | inl great ↦ absurd (two.unwritable (one.before n two.line more two.line_is))
       | inr to ↦ omega (arith, from, to)
     ]
   ]
@@ -180,32 +180,39 @@ module _ (spec : Spec) (image script : List ℕ) where
   tried : (ending : Ending) → IsEditOf spec image script ending
       → ((line : ℕ) × IsFirstWrong (is_second spec) script line × (ending ≡ Tells (unread_answer line))) ⊎ IsTried spec image script ending
   tried _ (unread line first) = inl (line, first, refl)
-  tried _ (unwritable layout groups line opened is_script is) = inr (record {
-    layout = layout;
-    opened = opened;
-    groups = groups;
-    is_script = is_script;
-    ends = subst (λ n. EndsSo spec layout 0 0 groups image (Tells (unwritable_answer n))) (sym is.number_is)
-        (subst (λ gs. EndsSo spec layout 0 0 gs image (Tells (unwritable_answer (length (script_texts is.before) + is.place + 1)))) (sym is.accepted.groups_are)
-        (behind spec layout is.before (is.group ∷ is.accepted.after) 0 0 image is.now _ is.accepted.accepted (unwritten is.group is.place is.first)));
-  })
-  tried _ (broken layout groups number v opened is_script is) = inr (record {
-    layout = layout;
-    opened = opened;
-    groups = groups;
-    is_script = is_script;
-    ends = subst (λ n. EndsSo spec layout 0 0 groups image (Tells (broken_answer spec n v))) (sym is.number_is)
-        (subst (λ gs. EndsSo spec layout 0 0 gs image (Tells (broken_answer spec (length is.before + 1) v))) (sym is.accepted.groups_are)
-        (behind spec layout is.before (is.group ∷ is.accepted.after) 0 0 image is.now _ is.accepted.accepted (breaks is.group is.writes v is.are_writes is.broken)));
-  })
-  tried _ (edited layout groups new opened is_script accepted) = inr (record {
-    layout = layout;
-    opened = opened;
-    groups = groups;
-    is_script = is_script;
-    ends = subst (λ gs. EndsSo spec layout 0 0 gs image (Saves new (edited_answer (length groups)))) (append-nil groups)
-        (behind spec layout groups [] 0 0 image new _ accepted all);
-  })
+  tried _ (unwritable layout groups line opened is_script is) =
+      let numbered : 0 + length (script_texts is.before) + is.place + 1 ≡ line = let told = is.number_is in omega (arith, told) in
+      inr (record {
+        layout = layout;
+        opened = opened;
+        groups = groups;
+        is_script = is_script;
+        ends = subst (λ n. EndsSo spec layout 0 0 groups image (Tells (unwritable_answer n))) numbered
+            (subst (λ gs. EndsSo spec layout 0 0 gs image (Tells (unwritable_answer (0 + length (script_texts is.before) + is.place + 1)))) (sym is.accepted.groups_are)
+            (behind spec layout is.before (is.group ∷ is.accepted.after) 0 0 image is.now _ is.accepted.accepted (unwritten is.group is.place is.first)));
+      })
+  tried _ (broken layout groups number v opened is_script is) =
+      let numbered : 0 + length is.before + 1 ≡ number = let told = is.number_is in omega (arith, told) in
+      inr (record {
+        layout = layout;
+        opened = opened;
+        groups = groups;
+        is_script = is_script;
+        ends = subst (λ n. EndsSo spec layout 0 0 groups image (Tells (broken_answer spec n v))) numbered
+            (subst (λ gs. EndsSo spec layout 0 0 gs image (Tells (broken_answer spec (0 + length is.before + 1) v))) (sym is.accepted.groups_are)
+            (behind spec layout is.before (is.group ∷ is.accepted.after) 0 0 image is.now _ is.accepted.accepted (breaks is.group is.writes v is.are_writes is.broken)));
+      })
+  tried _ (edited layout groups new opened is_script accepted) =
+      let counted : 0 + length groups ≡ length groups = omega arith in
+      inr (record {
+        layout = layout;
+        opened = opened;
+        groups = groups;
+        is_script = is_script;
+        ends = subst (λ n. EndsSo spec layout 0 0 groups image (Saves new (edited_answer n))) counted
+            (subst (λ gs. EndsSo spec layout 0 0 gs image (Saves new (edited_answer (0 + length groups)))) (append-nil groups)
+            (behind spec layout groups [] 0 0 image new _ accepted all));
+      })
 
   same_ending : (e f : Ending) → IsTried spec image script e → IsTried spec image script f → e ≡ f
   same_ending e f one two =

@@ -9,7 +9,8 @@ use Rattle.dsr_command_edit.specs.Opened.{IsOpen, IsOpening, Opening, Opens, Ref
 use Rattle.dsr_command_edit.specs.Opened.IsOpening.{inconsistent, open_to, unlaid}
 use Rattle.dsr_command_edit.proofs.Once.{edit_once}
 use Rattle.dsr_command_image.specs.Repaired.{Ending, Saves, Tells}
-use Rattle.dsr_command_laws.proofs.ImagesRepaired.{IsEnded, ended_at}
+use Rattle.dsr_command_laws.proofs.FactsExplained.{one_layout}
+use Rattle.dsr_command_laws.proofs.ImagesRepaired.{IsEnded, differs, ended_at, none_first}
 use Rattle.dsr_command_laws.proofs.Tellings.{ReadText, RefusedRun, Speaks, load_told, means_same, meant, never_refused, refused_verdict, spoken, text_loaded}
 use Rattle.dsr_command_laws.specs.EditHeadlines.{EditsImages, EditsNothingElse, HasEnded, IsEditVerdict, IsInconsistent, IsToEdit, WasUnedited}
 use Rattle.dsr_command_laws.specs.EditHeadlines.WasUnedited.{broken, unread, unwritable}
@@ -39,15 +40,6 @@ too_long_image = codes "too long image\n"
 
 abbrev too_long_script : List ℕ
 too_long_script = codes "too long script\n"
-
-none_first : (rs : List Refusal) (refusal : Refusal) → rs ≡ [] → first_of rs ≡ Some refusal → ⊥
-none_first rs refusal none first = let e : None ≡ Some refusal = sym (ap first_of none) ∙ first in cc
-
-one_layout : (spec : Spec) (image : List ℕ) (a b : Layout) → IsLayoutOf spec image a → IsLayoutOf spec image b → a ≡ b
-one_layout spec image a b one two = same_Some a b (sym one.numbers ∙ two.numbers)
-
-differs : {X : Type 0} (verdict : Verdict) {a b : Verdict} → verdict ≡ a → a ≢ b → verdict ≡ b → X
-differs verdict says apart other = absurd (apart (sym says ∙ other))
 
 -- ---- what came of an edit
 

@@ -70,7 +70,7 @@ violation_once : (spec : Spec) (layout : Layout) (bytes : List ℕ) (v w : Bound
 violation_once spec layout bytes v w one two = elim (cases_lt v.constraint w.constraint) [
   | inl less ↦ absurd (two.none_before v one.violated (inl less))
   | inr from ↦ elim (cases_lt w.constraint v.constraint) [
-    | inl great ↦ absurd (one.none_before w two.violated (inl more))
+    | inl great ↦ absurd (one.none_before w two.violated (inl great))
     | inr to ↦
         let same : v.constraint ≡ w.constraint = omega (arith, from, to) in
         elim (bindings_apart v.binding w.binding) [
@@ -109,7 +109,7 @@ module _ (spec : Spec) (layout : Layout) where
   place_once group m n one two = elim (cases_lt m n) [
     | inl less ↦ absurd (one.unwritable (two.before m one.line less one.line_is))
     | inr from ↦ elim (cases_lt n m) [
-      | inl great ↦ absurd (two.unwritable (one.before n two.line more two.line_is))
+      | inl great ↦ absurd (two.unwritable (one.before n two.line great two.line_is))
       | inr to ↦ omega (arith, from, to)
     ]
   ]

@@ -2,9 +2,10 @@
 use Rattle.std.proofs.Common.{◌≡◌, ◌≢◌, ◌<◌, ◌+◌, ◌++◌, ◌∙◌, ◌⊎◌, ℕ, zero, suc, Bool, true, false, All, List, [], ◌∷◌, Some, map, take, slice_get, get_or, inl, inr, refl, sym, ap, subst, arith}
 use Rattle.std.specs.Prelude.{nat_eq, nat_lt}
 use Rattle.std.proofs.lemmas.Bool.Decides.{nat_tests}
+use Rattle.std.proofs.lemmas.List.{take_all}
 use Rattle.std.proofs.lemmas.List.Elements.{All-head, All-tail}
 use Rattle.bstr.specs.Text.{lines_of}
-use Rattle.dsr_edit_text.proofs.Rows.{lines_of_groups, take_whole}
+use Rattle.dsr_edit_text.proofs.Rows.{lines_of_groups}
 use Rattle.dsr_edit_text.specs.Scripts.{BeginsWith, IsFirstWrong, IsNoLine, IsScript, IsSetText, SetText, commit_text, group_texts, script_texts, set_text}
 
 -- ---- lines of the form
@@ -132,6 +133,6 @@ no_script second text n groups wrong script = elim wrong.wrong [
   | inr ended ↦
       let whole : script_texts groups ≡ script_texts wrong.groups ++ map set_text wrong.group =
       sym script.texts_are
-      ∙ (sym (take_whole (lines_of text) (lines_of_groups wrong.groups wrong.group) (let long = ended.0 in omega (arith, long))) ∙ wrong.begins.texts_are) in
+      ∙ (sym (take_all (lines_of_groups wrong.groups wrong.group) (lines_of text) (let long = ended.0 in omega (arith, long))) ∙ wrong.begins.texts_are) in
       ends_empty (script_texts wrong.groups) wrong.group (subst Ends whole (ends_script groups)) ended.1
 ]

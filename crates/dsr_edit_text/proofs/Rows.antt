@@ -20,7 +20,7 @@ take_one (y ∷ xs) (suc k) x is =
     let next : suc k + 1 ≡ suc (k + 1) = omega arith in
     ap (λ n. take n (y ∷ xs)) next ∙ ap (λ zs. y ∷ zs) (take_one xs k x is)
 
-pub take_whole : {A : Type 0} (xs : List A) (k : ℕ) → length xs ≤ k → take k xs ≡ xs
+take_whole : {A : Type 0} (xs : List A) (k : ℕ) → length xs ≤ k → take k xs ≡ xs
 take_whole [] zero all = refl
 take_whole [] (suc k) all = refl
 take_whole (x ∷ xs) zero all = absurd (omega (arith, all))

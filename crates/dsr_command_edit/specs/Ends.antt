@@ -70,4 +70,5 @@ IsOutcome spec layout groups old new outcomes.Made = AreAccepted spec layout gro
 IsOutcome spec layout groups old new (outcomes.Unwritable line) =
     IsUnwritableLine spec layout groups old line
 IsOutcome spec layout groups old new (outcomes.Broken number constraint binding) =
-    IsBrokenGroup spec layout groups old number (record { constraint = constraint; binding = binding })
+    IsBrokenGroup spec layout groups old number
+    (record { constraint = constraint; binding = binding })

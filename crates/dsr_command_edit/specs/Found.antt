@@ -22,7 +22,8 @@ pub record IsNamedAs (name : List ℕ) (indexed : Bool) (field : Field) : Type 0
   pub shape : is_some field.len ≡ indexed
 
 -- such a field of the pool's records
-pub record IsNamedIn (base : Structures) (pool : ℕ) (name : List ℕ) (indexed : Bool) (place : FieldRef) : Type 0 where
+pub record IsNamedIn (base : Structures) (pool : ℕ) (name : List ℕ) (indexed : Bool)
+    (place : FieldRef) : Type 0 where
   pub field : Field
   pub is_field : IsPoolField base pool place field
   pub name_is : field.name ≡ name

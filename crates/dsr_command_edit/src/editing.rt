@@ -64,7 +64,8 @@ fn writable(session: &Session, spec: &Spec, set: &SetLine) -> Option<CellWrite>
     requires spec { session.now.0 ≡ spec.now }
     requires typed { IsTyped spec.now }
     ensures { MatchOption result (CanBeMade spec.now session.now.1 (shown set.now) → ⊥)
-        (λ write. IsWriteOf spec.now (shown set.now) write × MayWriteSome spec.now session.now.1 write) }
+        (λ write. IsWriteOf spec.now (shown set.now) write
+        × MayWriteSome spec.now session.now.1 write) }
 {
     let Some(write) = write_of(spec, set) else {
         return None;

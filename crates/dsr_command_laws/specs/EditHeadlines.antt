@@ -91,9 +91,9 @@ HasEnded name before after verdict (Tells answer) =
     Stands before after × (verdict ≡ answer.verdict) × IsTold before after answer
 
 -- A verdict on an edit. It says exactly whether the image has a layout, and where it has one,
--- whether it is consistent; where it is, whether all groups of the script were made. Where the image
--- is consistent, the run ended so as the edit ends: by all groups, or by the first reason against
--- them.
+-- whether it is consistent; where it is, whether all groups of the script were made. Where the
+-- image is consistent, the run ended so as the edit ends: by all groups, or by the first reason
+-- against them.
 pub record IsEditVerdict (spec : Spec) (image script name : List ℕ) (before after : Outside)
     (verdict : Verdict) : Type 0 where
   pub no_layout : (verdict ≡ verdicts.LayoutRefused) ↔ (HasLayout spec image → ⊥)

@@ -1,10 +1,11 @@
 //! Reads cases from the standard input and prints which symbols writes affect, and what is told of
 //! edits.
 //!
-//! A line `=== NAME HEX` begins a case, with the bytes of its image; the next line is the text of its
-//! specification, and the lines behind that, up to the next `===`, are a script of edits. Of each case
-//! it prints `affected FIELD` with the symbols that a write of the field affects, for each field,
-//! then the answer to the edits with the number of its status, and `saved HEX` where bytes are saved.
+//! A line `=== NAME HEX` begins a case, with the bytes of its image; the next line is the text of
+//! its specification, and the lines behind that, up to the next `===`, are a script of edits. Of
+//! each case it prints `affected FIELD` with the symbols that a write of the field affects, for each
+//! field, then the answer to the edits with the number of its status, and `saved HEX` where bytes
+//! are saved.
 #![tactic(auto)]
 
 mod edits;

@@ -1,9 +1,9 @@
 -- A line names one write.
-use Rattle.std.proofs.Common.{◌≡◌, ◌<◌, ◌≤◌, ◌+◌, ◌∙◌, ◌⊎◌, ℕ, Bool, true, false, List, Option, None, Some, slice_get, nat_eq, inl, inr, refl, sym, ap, subst, arith}
+use Rattle.std.proofs.Common.{◌≡◌, ◌<◌, ◌∙◌, ℕ, true, false, None, Some, slice_get, nat_eq, inl, inr, refl, sym, ap, subst, arith}
 use Rattle.std.specs.Prelude.{is_some, nat_lt, option_and_then}
 use Rattle.std.proofs.lemmas.Bool.Decides.{nat_tests}
 use Rattle.dsr_command_edit.proofs.Sought.{as_named, field_of_line}
-use Rattle.dsr_command_edit.specs.Found.{FindsField, IsNamedIn}
+use Rattle.dsr_command_edit.specs.Found.{FindsField}
 use Rattle.dsr_command_edit.specs.Named.{CanBeMade, IsFieldNamed, IsRecordNamed, IsWriteOf}
 use Rattle.dsr_edit.specs.Edits.{MayWriteSome}
 use Rattle.dsr_edit.specs.declared.groups.CellWrite.{CellWrite}
@@ -16,7 +16,6 @@ use Rattle.dsr_ir.specs.declared.tuples.Element.{Element}
 use Rattle.dsr_meaning.specs.Instances.{declared_field}
 use Rattle.dsr_meaning.specs.Typed.{HasName, IsTyped}
 use Rattle.dsr_report_read.proofs.Spelled.{same_pool}
-use Rattle.dsr_report_read.specs.Forms.{IsPoolField}
 
 neither_less : (m n : ℕ) → (m < n → ⊥) → (n < m → ⊥) → m ≡ n
 neither_less m n less more =

@@ -1,5 +1,5 @@
 -- What is found by a name.
-use Rattle.std.proofs.Common.{◌≡◌, ◌<◌, ◌≤◌, ◌+◌, ◌^◌, ◌∙◌, ◌⊎◌, ℕ, Bool, true, false, List, Option, None, Some, MatchOption, Decides, length, slice_get, get_or, is_some, inl, inr, refl, sym, ap, subst, arith}
+use Rattle.std.proofs.Common.{◌≡◌, ◌<◌, ◌≤◌, ◌+◌, ◌^◌, ◌∙◌, ℕ, Bool, true, false, List, Option, None, Some, MatchOption, Decides, length, slice_get, get_or, is_some, inl, inr, refl, sym, ap, subst, arith}
 use Rattle.std.specs.Prelude.{option_and_then}
 use Rattle.std.proofs.Math.Bool.{beq, not}
 use Rattle.std.proofs.lemmas.Bool.{cases_lt}
@@ -18,7 +18,7 @@ use Rattle.dsr_meaning.proofs.Firing.{some_same}
 use Rattle.dsr_meaning.specs.Instances.{declared_field}
 use Rattle.dsr_meaning.specs.Truth.{head}
 use Rattle.dsr_meaning.specs.Typed.{HasName}
-use Rattle.dsr_report_read.specs.Forms.{IsOfPool, IsPoolField}
+use Rattle.dsr_report_read.specs.Forms.{IsOfPool}
 
 -- what stands at a place of a list
 pub listed_at : {A : Type 0} (xs ys : List A) → ys ≡ xs → (k : ℕ) (x : A) → k < length ys → x ≡ get_or ys k x → slice_get xs k ≡ Some x

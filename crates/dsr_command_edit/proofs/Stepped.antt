@@ -1,5 +1,5 @@
 -- Groups that are made one after the other.
-use Rattle.std.proofs.Common.{◌≡◌, ◌<◌, ◌≤◌, ◌+◌, ◌++◌, ◌∙◌, ◌⊎◌, ℕ, zero, suc, List, [], ◌∷◌, Option, None, Some, Result, Ok, Err, IfOk, length, map, take, drop, slice_get, inl, inr, refl, sym, ap, subst, arith, length-append, get_or}
+use Rattle.std.proofs.Common.{◌≡◌, ◌<◌, ◌≤◌, ◌+◌, ◌++◌, ◌∙◌, ℕ, zero, suc, List, [], ◌∷◌, Some, Result, Ok, Err, IfOk, length, map, take, drop, slice_get, refl, sym, ap, subst, arith, length-append, get_or}
 use Rattle.std.specs.Prelude.{Vec, option_map}
 use Rattle.std.specs.declared.alloc.Global.{Global}
 use Rattle.std.proofs.lemmas.List.{flat_map_more, length-map, length-take-le, take_all}
@@ -8,8 +8,8 @@ use Rattle.dsr_command_edit.proofs.Judged.{take_one}
 use Rattle.dsr_command_edit.proofs.Sought.{listed_at}
 use Rattle.dsr_command_edit.specs.Edited.{AreAccepted, HasAccepted, IsBrokenGroup, IsUnwritableLine}
 use Rattle.dsr_command_edit.specs.Edited.AreAccepted.{none, more}
-use Rattle.dsr_command_edit.specs.Ends.{IsOutcome, IsStep, TellsFault}
-use Rattle.dsr_command_edit.specs.Named.{AreWritesOf, IsFirstUnwritableLine}
+use Rattle.dsr_command_edit.specs.Ends.{IsStep, TellsFault}
+use Rattle.dsr_command_edit.specs.Named.{AreWritesOf}
 use Rattle.dsr_command_edit.specs.declared.editing.Step.{Step}
 use Rattle.dsr_command_edit.specs.declared.editing.Step.TheVariants as steps
 use Rattle.dsr_edit.specs.Edits.{IsBroken, IsEditFault, IsEdited, MayWriteSome}

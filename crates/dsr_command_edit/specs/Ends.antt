@@ -1,5 +1,5 @@
 -- What the program's values say.
-use Rattle.std.specs.Prelude.{◌≡◌, ◌≤◌, ◌<◌, ◌+◌, ℕ, List, length}
+use Rattle.std.specs.Prelude.{◌≡◌, ℕ, List}
 use Rattle.dsr_command_edit.specs.Edited.{AreAccepted, IsBrokenGroup, IsUnwritableLine}
 use Rattle.dsr_command_edit.specs.Named.{AreWritesOf, IsFirstUnwritableLine}
 use Rattle.dsr_command_edit.specs.Opened.{Opening, Opens, Refuses}

@@ -1,5 +1,5 @@
 // An image is edited as a script says.
-ghost use Rattle.std.specs.Prelude.{◌≡◌, ◌≤◌, ◌<◌, ◌^◌, IfOk, MatchOption, Some, length, map, slice_get};
+ghost use Rattle.std.specs.Prelude.{◌≡◌, ◌<◌, ◌^◌, IfOk, MatchOption, Some, length, map, slice_get};
 ghost use Rattle.dsr_command_edit.specs.Edited.{IsEditOf};
 ghost use Rattle.dsr_command_edit.specs.Ends.{IsJudgement, IsOutcome, IsStep, TellsFault, ending_of};
 ghost use Rattle.dsr_command_edit.specs.Named.{AreWritesOf, CanBeMade, IsWriteOf};

@@ -1,5 +1,5 @@
 // The writes that lines name.
-ghost use Rattle.std.specs.Prelude.{◌≡◌, ◌<◌, ◌≤◌, ◌^◌, ℕ, Decides, MatchOption, Some, is_some, length, slice_get};
+ghost use Rattle.std.specs.Prelude.{◌≡◌, ◌<◌, ◌≤◌, ◌^◌, ℕ, Decides, MatchOption, Some, length, slice_get};
 ghost use Rattle.dsr_command_edit.specs.Found.{FindsField, FindsIn, FindsUnder, IsNamedAs, IsPoolNamed};
 ghost use Rattle.dsr_command_edit.specs.Named.{IsRecordNamed, IsWriteOf};
 ghost use Rattle.dsr_edit.specs.declared.groups.CellWrite as writes;

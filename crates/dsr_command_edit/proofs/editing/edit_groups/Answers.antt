@@ -1,4 +1,4 @@
-use Rattle.std.proofs.Common.{◌∙◌, ◌+◌, length, map, refl, subst, sym, arith}
+use Rattle.std.proofs.Common.{◌∙◌, ◌+◌, map, refl, subst, sym, arith}
 use Rattle.dsr_command_edit.proofs.Stepped.{AreMadeTo, broken_here, group_at, group_long, line_within, none_made, one_made, place_within, stepped, unwritable_here}
 use Rattle.dsr_command_edit.specs.declared.editing.Step.TheVariants as steps
 use Rattle.dsr_edit_text.specs.Shown.{shown, shown_groups}

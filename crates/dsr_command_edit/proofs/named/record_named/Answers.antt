@@ -1,4 +1,4 @@
-use Rattle.std.proofs.Common.{◌≡◌, MatchOption, Option, ℕ, sym, subst}
+use Rattle.std.proofs.Common.{MatchOption, Option, ℕ, subst}
 use Rattle.dsr_command_edit.proofs.Sought.{head_named, no_pool, record_found}
 use Rattle.dsr_command_edit.specs.Found.{IsPoolNamed}
 use Rattle.dsr_edit_text.specs.Shown.{shown}

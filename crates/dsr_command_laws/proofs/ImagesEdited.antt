@@ -1,5 +1,5 @@
 -- A run that speaks has edited the image that it was asked to edit, or tells why not.
-use Rattle.std.proofs.Common.{◌≡◌, ◌≢◌, ◌≤◌, ◌⊎◌, ◌∙◌, ℕ, List, [], ◌∷◌, length, codes, None, Some, refl, sym, ap, subst, inl, inr}
+use Rattle.std.proofs.Common.{◌≡◌, ◌≢◌, ◌≤◌, ◌⊎◌, ◌∙◌, ℕ, List, [], ◌∷◌, length, codes, Some, refl, sym, ap, subst, inl, inr}
 use Rattle.std.proofs.lemmas.Option.{same_Some}
 use Rattle.std.specs.FinMap.{get}
 use Rattle.dsr_answers.specs.Texts.{verdict_answer}
@@ -16,15 +16,13 @@ use Rattle.dsr_command_laws.specs.EditHeadlines.{EditsImages, EditsNothingElse, 
 use Rattle.dsr_command_laws.specs.EditHeadlines.WasUnedited.{broken, unread, unwritable}
 use Rattle.dsr_command_laws.specs.Repairs.{HasLayout}
 use Rattle.dsr_command_theory.specs.Commands.{asked, edits, image_limit, loads_edited, loads_script, loads_spec, opens, reads, script_limit, script_of}
-use Rattle.dsr_command_theory.specs.Words.{Edit, command_of}
 use Rattle.dsr_compile_laws.specs.Meanings.{HaveOneMeaning}
 use Rattle.dsr_ir.specs.declared.declarations.Spec.{Spec}
 use Rattle.dsr_ir.specs.declared.layouts.Layout.{Layout}
 use Rattle.dsr_language_theory.specs.Specifications.{specification}
-use Rattle.dsr_meaning.specs.Consistency.{AreViolations, BoundConstraint, IsConsistent}
-use Rattle.dsr_meaning.specs.Models.{IsFact}
+use Rattle.dsr_meaning.specs.Consistency.{BoundConstraint, IsConsistent}
 use Rattle.dsr_meaning.specs.Counting.{IsIn}
-use Rattle.dsr_meaning.specs.Refusals.{IsLayoutOf, Refusal, first_of, refusals}
+use Rattle.dsr_meaning.specs.Refusals.{refusals}
 use Rattle.dsr_script.proofs.Laws.{said_at_tell}
 use Rattle.dsr_script.specs.Outside.{Outside, Stands}
 use Rattle.dsr_script.specs.Runs.{AllLoaded, Ends, Runs}

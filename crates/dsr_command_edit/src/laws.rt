@@ -9,5 +9,4 @@ ghost use Rattle.dsr_ir.specs.declared.declarations.Spec.{Spec as SpecOf};
 pub fn edits_end_in_one_way()
     ensures { (spec : SpecOf) (image script : List ℕ) (one other : Ending)
         → IsEditOf spec image script one → IsEditOf spec image script other → one ≡ other }
-{
-}
+{}

@@ -32,12 +32,7 @@ fn spec_of(alloc: Global, text: &[u8]) -> anyhow::Result<Spec> {
     }
 }
 
-fn add_edited(
-    text: &mut String,
-    alloc: Global,
-    ready: Ready,
-    script: &[u8],
-) -> anyhow::Result<()> {
+fn add_edited(text: &mut String, alloc: Global, ready: Ready, script: &[u8]) -> anyhow::Result<()> {
     match edit(alloc, ready, script) {
         Ok(Edited::Unsaved(told)) => add_told(text, &told),
         Ok(Edited::Saved(bytes, told)) => {

@@ -1,6 +1,6 @@
 -- A command, as its words ask for it.
 use Rattle.std.specs.Prelude.{ℕ, List}
-use Rattle.dsr_command_theory.specs.Words.{Asked, Audit, Certify, Check, Lost, Plan, Repair, Text, Trial, Undo, Verify, Why}
+use Rattle.dsr_command_theory.specs.Words.{Asked, Audit, Certify, Check, Edit, Lost, Plan, Repair, Text, Trial, Undo, Verify, Why}
 use Rattle.dsr_cli.specs.declared.words.Command.{Command}
 use Rattle.dsr_cli.specs.declared.words.Command.TheVariants as commands
 use Rattle.dsr_cli.specs.declared.words.Task.{Task}
@@ -11,6 +11,7 @@ abbrev pub asked_for : List ℕ → Task → Asked
 asked_for spec (tasks.Audit image report fixed) = Audit spec image.now report.now fixed.now
 asked_for spec (tasks.Certify certificate) = Certify spec certificate.now
 asked_for spec (tasks.Check image) = Check spec image.now
+asked_for spec (tasks.Edit image script out) = Edit spec image.now script.now out.now
 asked_for spec (tasks.Lost image) = Lost spec image.now
 asked_for spec tasks.Plan = Plan spec
 asked_for spec (tasks.Repair image out) = Repair spec image.now out.now

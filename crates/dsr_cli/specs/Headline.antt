@@ -2,6 +2,7 @@
 use Rattle.std.specs.Prelude.{ℕ, List}
 use Rattle.dsr_command_theory.specs.Commands.{asked}
 use Rattle.dsr_command_laws.specs.AuditHeadlines.{AuditsNothingElse, AuditsReports, UndoesAudited}
+use Rattle.dsr_command_laws.specs.EditHeadlines.{EditsImages, EditsNothingElse}
 use Rattle.dsr_command_laws.specs.FactHeadlines.{ExplainsFacts, ExplainsNothingElse, ListsNothingElse, ListsRecords}
 use Rattle.dsr_command_laws.specs.ImageHeadlines.{ChecksImages, ChecksNothingElse, PrintsTexts, TellsUsage}
 use Rattle.dsr_command_laws.specs.PlanHeadlines.{CertifiesNothingElse, CertifiesPlans, FindsNothingElse, FindsPlans, VerifiesCertificates, VerifiesNothingElse}
@@ -63,3 +64,7 @@ pub record Headline (words : List (List ℕ)) (before after : Outside) (status :
   pub undone : UndoesRepairs words before after status
   pub no_others_undone : UndoesNothingElse words before after status
   pub taken_back : UndoesAudited words before after status
+  -- `edit` saves what all groups of a script leave, each of which leaves the image consistent, or
+  -- tells the first reason why not all can be made
+  pub edits : EditsImages words before after status
+  pub no_other_edits : EditsNothingElse words before after status

@@ -1,6 +1,6 @@
 -- What a command that waits for a file does next, as a script.
 use Rattle.std.specs.Prelude.{◌≤◌, ℕ, List, length, ⊤}
-use Rattle.dsr_command_theory.specs.Commands.{audits, checks, explains, lays_out, lists_lost, loads_certificate, loads_explained, loads_for, loads_image, loads_listed, loads_repaired, loads_undone, plans_audit, plans_repair, reads, repairs, saves_plan, tells_plan, tells_text, undoes, verifies}
+use Rattle.dsr_command_theory.specs.Commands.{audits, checks, edits, explains, lays_out, lists_lost, loads_certificate, loads_edited, loads_explained, loads_for, loads_image, loads_listed, loads_repaired, loads_undone, opens, plans_audit, plans_repair, reads, repairs, saves_plan, tells_plan, tells_text, undoes, verifies}
 use Rattle.dsr_meaning.specs.Typed.{IsTyped}
 use Rattle.dsr_plan_theory.specs.Taken.{IsTaken}
 use Rattle.dsr_script.specs.Scripts.{Script}
@@ -19,6 +19,8 @@ comes_to (tasks.Audit image report fixed) tree =
     plans_audit image.now report.now fixed.now (specification tree)
 comes_to (tasks.Certify certificate) tree = saves_plan certificate.now (specification tree)
 comes_to (tasks.Check image) tree = loads_image image.now (specification tree)
+comes_to (tasks.Edit image script out) tree =
+    loads_edited image.now script.now out.now (specification tree)
 comes_to (tasks.Lost image) tree = loads_listed image.now (specification tree)
 comes_to tasks.Plan tree = tells_plan tree
 comes_to (tasks.Repair image out) tree = plans_repair image.now out.now (specification tree)
@@ -44,12 +46,15 @@ due (stages.Repaired spec report out) bytes = loads_undone report.now out.now sp
 due (stages.UndoneReport spec fixed out) bytes = undoes out.now spec fixed.items bytes
 due (stages.Explained spec fact) bytes = explains fact.now spec bytes
 due (stages.Listed spec) bytes = lists_lost spec bytes
+due (stages.Edited spec script out) bytes = opens script.now out.now spec bytes
+due (stages.EditScript ready out) bytes = edits out.now ready.0 ready.1 bytes
 
 -- how many files a task loads behind the specification
 abbrev pub loaded_for : Task → ℕ
 loaded_for (tasks.Audit image report fixed) = 3
 loaded_for (tasks.Certify certificate) = 0
 loaded_for (tasks.Check image) = 1
+loaded_for (tasks.Edit image script out) = 2
 loaded_for (tasks.Lost image) = 1
 loaded_for tasks.Plan = 0
 loaded_for (tasks.Repair image out) = 1
@@ -71,6 +76,8 @@ left (stages.Repaired spec report out) = 1
 left (stages.UndoneReport spec fixed out) = 0
 left (stages.Explained spec fact) = 0
 left (stages.Listed spec) = 0
+left (stages.Edited spec script out) = 1
+left (stages.EditScript ready out) = 0
 
 -- an image and a certificate are waited for with a typed specification, an image that is to be
 -- repaired or audited with the plan that is taken, and a report with the layout of the image that
@@ -92,3 +99,5 @@ is_ready (stages.UndoneReport spec fixed out) bytes =
     IsTyped spec × (length fixed.items ≤ most_bytes)
 is_ready (stages.Explained spec fact) bytes = IsTyped spec × (length bytes ≤ most_bytes)
 is_ready (stages.Listed spec) bytes = IsTyped spec × (length bytes ≤ most_bytes)
+is_ready (stages.Edited spec script out) bytes = IsTyped spec × (length bytes ≤ most_bytes)
+is_ready (stages.EditScript ready out) bytes = ⊤

@@ -5,10 +5,10 @@ ghost use Rattle.dsr_script.specs.Outside.{told_by};
 
 use crate::waiting::Waiting;
 use dsr_command_laws::{
-    certificates_are_verified, facts_are_explained, images_are_checked, images_are_repaired,
-    lost_records_are_listed, plans_are_certified, plans_are_found, repairs_are_undone,
-    reports_are_audited, sound_repairs_are_taken_back, texts_are_printed, trials_are_told,
-    usage_is_told,
+    certificates_are_verified, facts_are_explained, images_are_checked, images_are_edited,
+    images_are_repaired, lost_records_are_listed, plans_are_certified, plans_are_found,
+    repairs_are_undone, reports_are_audited, sound_repairs_are_taken_back, texts_are_printed,
+    trials_are_told, usage_is_told,
 };
 use dsr_script::Status;
 use dsr_store::{Shelf, Sink};
@@ -38,5 +38,6 @@ pub fn run<F: Shelf, O: Sink>(
     reports_are_audited();
     repairs_are_undone();
     sound_repairs_are_taken_back();
+    images_are_edited();
     dsr_script::run::<Waiting, F, O>(alloc, words, shelf, out)
 }

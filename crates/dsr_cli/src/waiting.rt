@@ -1,7 +1,7 @@
 // Commands that wait for a file.
 ghost use Rattle.std.specs.Prelude.{◌≡◌, ◌≤◌, ◌+◌, IfOk, Some, length};
 ghost use Rattle.dsr_command_theory.specs.Commands as commands;
-ghost use Rattle.dsr_command_theory.specs.Commands.{audits, lays_out, loads_certificate, loads_explained, loads_for, loads_image, loads_listed, loads_repaired, loads_undone, plans_audit, plans_repair, reads, repairs, saves_plan, script_of, tells_text, undoes};
+ghost use Rattle.dsr_command_theory.specs.Commands.{audits, edits, lays_out, loads_certificate, loads_edited, loads_explained, loads_for, loads_image, loads_listed, loads_repaired, loads_undone, opens, plans_audit, plans_repair, reads, repairs, saves_plan, script_of, tells_text, undoes};
 ghost use Rattle.dsr_cli.specs.Asking.{asked_of};
 ghost use Rattle.dsr_cli.specs.Stages.{comes_to, due, is_ready, left, loaded_for};
 ghost use Rattle.dsr_meaning.specs.Typed.{IsTyped};
@@ -16,6 +16,7 @@ use crate::words::{Command, Task, command_of};
 use dsr_answers::told;
 use dsr_command_audit::{Laid, Undone, audit, lay_out, undo};
 use dsr_command_certify::{Certified, certify, verify};
+use dsr_command_edit::{Edited, Opened, Ready, edit, open};
 use dsr_command_image::{Repaired, check, repair};
 use dsr_command_plan::{Found, find, plan, refused};
 use dsr_command_trial::trial;
@@ -36,6 +37,9 @@ const CERTIFICATE_LIMIT: u32 = 1_048_576;
 
 /// The most bytes of a report.
 const REPORT_LIMIT: u32 = 67_108_864;
+
+/// The most bytes of a script of edits.
+const SCRIPT_LIMIT: u32 = 1_048_576;
 
 /// A command that waits for a file.
 #[derive(Drop)]
@@ -96,6 +100,17 @@ pub enum Waiting<'a> {
     },
     /// `lost`, for the image, with the specification that the text means.
     Listed(Spec),
+    /// `edit`, for the image, with the specification that the text means.
+    Edited {
+        spec: Spec,
+        script: &'a str,
+        out: &'a str,
+    },
+    /// `edit`, for the script, with the image that may be edited.
+    EditScript {
+        ready: Ready,
+        out: &'a str,
+    },
 }
 
 // The most bytes of an image.
@@ -276,6 +291,26 @@ fn load_listed<'a>(spec: Spec, image: &'a str) -> Move<'a, Waiting<'a>>
     }
 }
 
+// `edit` goes on with the specification.
+fn load_edited<'a>(
+    spec: Spec,
+    image: &'a str,
+    script: &'a str,
+    out: &'a str,
+) -> Move<'a, Waiting<'a>>
+    requires typed { IsTyped spec }
+    ensures ready { IsReady is_ready result }
+    ensures follows { Follows due (loads_edited image.now script.now out.now spec) result }
+    ensures fewer { loads_of left result ≤ 2 }
+{
+    Move::Load {
+        name: image,
+        limit: image_limit(&spec),
+        long: b"too long image\n",
+        stage: Waiting::Edited { spec, script, out },
+    }
+}
+
 // What a task comes to for the specification of a tree.
 fn go_on_with<'a>(
     alloc: Global,
@@ -296,6 +331,7 @@ fn go_on_with<'a>(
         } => load_audited(alloc, spec, image, report, fixed),
         Task::Certify { certificate } => save_certificate(alloc, &spec, certificate),
         Task::Check { image } => Ok(load_image(spec, image)),
+        Task::Edit { image, script, out } => Ok(load_edited(spec, image, script, out)),
         Task::Lost { image } => Ok(load_listed(spec, image)),
         Task::Plan => Ok(Move::Tell(plan(alloc, &spec)?)),
         Task::Repair { image, out } => load_damaged(alloc, spec, image, out),
@@ -479,6 +515,54 @@ fn save_undone<'a>(
     }
 }
 
+// `edit` goes on with the image.
+fn load_script<'a>(
+    alloc: Global,
+    spec: Spec,
+    image: Vec<u8>,
+    script: &'a str,
+    out: &'a str,
+) -> Result<Move<'a, Waiting<'a>>, NoMemory>
+    requires typed { IsTyped spec }
+    requires small { length image.items ≤ most_bytes }
+    ensures ready { IfOk result (λ move. IsReady is_ready move) }
+    ensures follows { IfOk result (λ move. Follows due
+        (opens script.now out.now spec image.items) move) }
+    ensures fewer { IfOk result (λ move. loads_of left move ≤ 1) }
+{
+    match open(alloc, spec, image)? {
+        Opened::Ready(ready) => Ok(Move::Load {
+            name: script,
+            limit: SCRIPT_LIMIT,
+            long: b"too long script\n",
+            stage: Waiting::EditScript { ready, out },
+        }),
+        Opened::Refused(told) => Ok(Move::Tell(told)),
+    }
+}
+
+// `edit` goes on with the script.
+fn save_edited<'a>(
+    alloc: Global,
+    ready: Ready,
+    script: &[u8],
+    out: &'a str,
+) -> Result<Move<'a, Waiting<'a>>, NoMemory>
+    ensures ready { IfOk result (λ move. IsReady is_ready move) }
+    ensures follows { IfOk result (λ move. Follows due
+        (edits out.now ready.0 ready.1 script.now) move) }
+    ensures fewer { IfOk result (λ move. loads_of left move ≤ 0) }
+{
+    match edit(alloc, ready, script)? {
+        Edited::Saved(bytes, told) => Ok(Move::Save {
+            name: out,
+            bytes,
+            told,
+        }),
+        Edited::Unsaved(told) => Ok(Move::Tell(told)),
+    }
+}
+
 // What a command that waits does next, once the bytes of its file came.
 fn next_move<'a>(
     alloc: Global,
@@ -521,6 +605,8 @@ fn next_move<'a>(
             Ok(Move::Tell(why(alloc, &spec, bytes, fact.as_bytes())?))
         }
         Waiting::Listed(spec) => Ok(Move::Tell(lost(alloc, &spec, bytes)?)),
+        Waiting::Edited { spec, script, out } => load_script(alloc, spec, bytes, script, out),
+        Waiting::EditScript { ready, out } => save_edited(alloc, ready, &bytes, out),
     }
 }
 

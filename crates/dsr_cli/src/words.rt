@@ -22,6 +22,13 @@ pub enum Task<'a> {
     Check {
         image: &'a str,
     },
+    /// The groups of writes of a script are made on the image, and what comes of it is saved under
+    /// the last name.
+    Edit {
+        image: &'a str,
+        script: &'a str,
+        out: &'a str,
+    },
     /// The records of the image that no set has are told.
     Lost {
         image: &'a str,
@@ -198,6 +205,15 @@ fn undo<'a>(spec: &'a str, fixed: &'a str, report: &'a str, out: &'a str) -> Opt
     of(spec, Task::Undo { fixed, report, out })
 }
 
+fn edit<'a>(spec: &'a str, image: &'a str, script: &'a str, out: &'a str) -> Option<Command<'a>>
+    ensures { option_map asked_of result ≡ said.to_edit spec.now image.now script.now out.now }
+{
+    if out == spec {
+        return None;
+    }
+    of(spec, Task::Edit { image, script, out })
+}
+
 // Those with four.
 fn with_four<'a>(
     command: &str,
@@ -221,6 +237,9 @@ fn with_four<'a>(
     }
     if command == "undo" {
         return undo(spec, image, file, word);
+    }
+    if command == "edit" {
+        return edit(spec, image, file, word);
     }
     None
 }

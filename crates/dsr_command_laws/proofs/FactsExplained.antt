@@ -30,7 +30,7 @@ none_first : (rs : List Refusal) (refusal : Refusal) → rs ≡ [] → first_of 
 none_first rs refusal none first = let e : None ≡ Some refusal = sym (ap first_of none) ∙ first in cc
 
 -- an image has one layout
-one_layout : (spec : Spec) (image : List ℕ) (a b : Layout) → IsLayoutOf spec image a → IsLayoutOf spec image b → a ≡ b
+pub one_layout : (spec : Spec) (image : List ℕ) (a b : Layout) → IsLayoutOf spec image a → IsLayoutOf spec image b → a ≡ b
 one_layout spec image a b one two = same_Some a b (sym one.numbers ∙ two.numbers)
 
 -- ---- why a fact is there

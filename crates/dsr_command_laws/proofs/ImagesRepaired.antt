@@ -129,11 +129,11 @@ module _ (before after : Outside) (files : Files) (held : before.held ≡ Some f
 
 -- ---- the verdict
 
-none_first : (rs : List Refusal) (refusal : Refusal) → rs ≡ [] → first_of rs ≡ Some refusal → ⊥
+pub none_first : (rs : List Refusal) (refusal : Refusal) → rs ≡ [] → first_of rs ≡ Some refusal → ⊥
 none_first rs refusal none first = let e : None ≡ Some refusal = sym (ap first_of none) ∙ first in cc
 
 -- a verdict is only one
-differs : {X : Type 0} (verdict : Verdict) {a b : Verdict} → verdict ≡ a → a ≢ b → verdict ≡ b → X
+pub differs : {X : Type 0} (verdict : Verdict) {a b : Verdict} → verdict ≡ a → a ≢ b → verdict ≡ b → X
 differs verdict says apart other = absurd (apart (sym says ∙ other))
 
 -- the run of the plan that is taken has one end

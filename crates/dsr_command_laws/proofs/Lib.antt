@@ -13,3 +13,4 @@ pub mod FactsExplained
 pub mod RepairsUndone
 pub mod ReportsAudited
 pub mod RepairsTakenBack
+pub mod ImagesEdited

@@ -3,9 +3,9 @@ use Rattle.std.proofs.Common.{◌≡◌, ◌↔◌, ℕ, List, length, [], ◌�
 use Rattle.dsr_answers.specs.Refused.{IsRefused, no_meaning, no_token, past_limit, unexpected}
 use Rattle.dsr_answers.specs.Texts.{layout_answer, verdict_answer}
 use Rattle.dsr_command_laws.proofs.Tellings.{Spoken, spoken}
-use Rattle.dsr_command_theory.specs.Commands.{asked, audits, certifies, checks, ends, explains, goes_on, lays_out, lists_lost, loads_audited, loads_certificate, loads_damaged, loads_explained, loads_for, loads_image, loads_listed, loads_repaired, loads_spec, loads_told, loads_undone, plans_audit, plans_repair, reads, repairs, saves_plan, script_of, tells_plan, tells_text, undoes, usage, verifies}
+use Rattle.dsr_command_theory.specs.Commands.{asked, audits, certifies, checks, edits, ends, explains, goes_on, lays_out, lists_lost, loads_audited, loads_certificate, loads_damaged, loads_edited, loads_explained, loads_for, loads_image, loads_listed, loads_repaired, loads_script, loads_spec, loads_told, loads_undone, opens, plans_audit, plans_repair, reads, repairs, saves_plan, script_of, tells_plan, tells_text, undoes, usage, verifies}
 use Rattle.dsr_command_theory.specs.Usage.{AskForNothing}
-use Rattle.dsr_command_theory.specs.Words.{Asked, Audit, Certify, Check, Lost, Plan, Repair, Text, Trial, Undo, Verify, Why, command_of}
+use Rattle.dsr_command_theory.specs.Words.{Asked, Audit, Certify, Check, Edit, Lost, Plan, Repair, Text, Trial, Undo, Verify, Why, command_of}
 use Rattle.dsr_cert.specs.Certificates.{certificate_text}
 use Rattle.dsr_command_image.specs.Checked.{IsCheckAnswer, checked, refused}
 use Rattle.dsr_command_certify.specs.Certified.{certified_answer}
@@ -18,6 +18,10 @@ use Rattle.dsr_command_audit.specs.ReportTexts.{undone_answer}
 use Rattle.dsr_command_audit.specs.ReportTexts as reports
 use Rattle.dsr_command_audit.specs.Undone.{IsUndoOf}
 use Rattle.dsr_command_audit.specs.Undone.IsUndoOf.{back, misread, stopped as undo_stopped}
+use Rattle.dsr_command_edit.specs.Edited.{IsEditOf, broken_answer, edited_answer, unread_answer, unwritable_answer}
+use Rattle.dsr_command_edit.specs.Edited.IsEditOf.{broken, edited, unread, unwritable}
+use Rattle.dsr_command_edit.specs.Opened.{IsOpening, Opening}
+use Rattle.dsr_command_edit.specs.Opened.IsOpening.{inconsistent, open_to, unlaid as edit_unlaid}
 use Rattle.dsr_command_why.specs.Losts.{IsLostAnswer}
 use Rattle.dsr_command_why.specs.Losts.IsLostAnswer.{listed, unlaid as lost_unlaid}
 use Rattle.dsr_command_why.specs.Whys.{IsWhyAnswer}
@@ -109,6 +113,9 @@ no_certificate is = cc
 no_report : verdicts.ReportRefused ≡ verdicts.Usage → ⊥
 no_report is = cc
 
+no_edit : verdicts.EditRefused ≡ verdicts.Usage → ⊥
+no_edit is = cc
+
 refused_otherwise : (text : List ℕ) (answer : Answer) → IsRefused text answer → NotUsage answer
 refused_otherwise text _ (no_token place is) = no_spec
 refused_otherwise text _ (unexpected place is) = no_spec
@@ -194,6 +201,21 @@ never_undone out spec fixed report _ (misread number first) = never_tells_this (
 never_undone out spec fixed report _ (undo_stopped log reached fault is_log kept) =
     never_tells_this (reports.refused_answer (reports.undo_words fault)) no_report
 
+never_edited : (out : List ℕ) (spec : Spec) (image script : List ℕ) (ending : Ending) → IsEditOf spec image script ending → Never (ends out ending)
+never_edited out spec image script _ (unread line first) = never_tells_this (unread_answer line) no_edit
+never_edited out spec image script _ (unwritable layout groups line is_open is_script is) = never_tells_this (unwritable_answer line) no_edit
+never_edited out spec image script _ (broken layout groups number v is_open is_script is) = never_tells_this (broken_answer spec number v) no_edit
+never_edited out spec image script _ (edited layout groups new is_open is_script accepted) =
+    never_saves out (λ saved told. (saved ≡ new) × (told ≡ edited_answer (length groups)))
+    (λ saved told is. same_answer told (edited_answer (length groups)) is.1 no_ok)
+
+never_opened : (script out : List ℕ) (spec : Spec) (image : List ℕ) (opening : Opening) → IsOpening spec image opening → Never (loads_script script out spec image opening)
+never_opened script out spec image _ (edit_unlaid refusal first) = never_tells_this (layout_answer spec refusal) no_layout
+never_opened script out spec image _ (inconsistent layout vs laid_out exactly some) =
+    never_tells_this (verdict_answer spec vs) (verdict_otherwise spec vs)
+never_opened script out spec image _ (open_to layout is_open) =
+    never_loads script _ _ (edits out spec image) (λ bytes. never_picks (IsEditOf spec image bytes) (ends out) (never_edited out spec image bytes))
+
 never_held : (report fixed : List ℕ) (spec : Spec) (choice : Choice) (image : List ℕ) (found : laid.Found) → laid.IsFound spec image found
     → Never (loads_told report fixed spec choice image found)
 never_held report fixed spec choice image _ (lies layout is) =
@@ -229,6 +251,10 @@ never_asked (Verify spec certificate) =
 never_asked (Audit spec image report fixed) =
     never_behind spec (λ tree. plans_audit image report fixed (specification tree)) (λ tree.
     never_picks _ (loads_audited image report fixed (specification tree)) (λ found is. never_audited image report fixed (specification tree) found))
+never_asked (Edit spec image script out) =
+    never_behind spec (λ tree. loads_edited image script out (specification tree)) (λ tree.
+    never_loads image _ _ (opens script out (specification tree)) (λ bytes.
+    never_picks (IsOpening (specification tree) bytes) (loads_script script out (specification tree) bytes) (never_opened script out (specification tree) bytes)))
 never_asked (Lost spec image) =
     never_behind spec (λ tree. loads_listed image (specification tree)) (λ tree.
     never_loads image _ _ (lists_lost (specification tree)) (λ bytes. never_tells (IsLostAnswer (specification tree) bytes) (lost_otherwise (specification tree) bytes)))

@@ -5,3 +5,4 @@ pub mod RepairHeadlines
 pub mod FactHeadlines
 pub mod UndoHeadlines
 pub mod AuditHeadlines
+pub mod EditHeadlines

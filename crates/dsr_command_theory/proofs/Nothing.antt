@@ -8,8 +8,8 @@ use Rattle.std.specs.Char.{is_ascii_digit}
 use Rattle.std.specs.Str.{all_ascii_digits, bytes_eq}
 use Rattle.std.specs.Str.Parse.{digits_value}
 use Rattle.dsr_meaning.specs.Counting.{IsIn}
-use Rattle.dsr_command_theory.specs.Usage.{AskForNothing, word_lacks, dash, otherwise, count, over_spec, trial_lacks, no_command, HasNoTrial, no_trial, other_count, IsTrialNumber, SavesOverSpec, certificate, repaired, undone, Says, says_audit, says_certify, says_check, says_lost, says_plan, says_repair, says_text, says_trial, says_undo, says_verify, says_why, Takes, audit, certify, check, lost, plan, repair, text, trial, undo, verify, why}
-use Rattle.dsr_command_theory.specs.Words.{Asked, Audit, Certify, Check, Lost, Plan, Repair, Text, Trial, Undo, Verify, Why, command_of, is_odd, to_certify, to_repair, to_try, to_undo, with_four, with_one, with_three, with_two}
+use Rattle.dsr_command_theory.specs.Usage.{AskForNothing, word_lacks, dash, otherwise, count, over_spec, trial_lacks, no_command, HasNoTrial, no_trial, other_count, IsTrialNumber, SavesOverSpec, certificate, repaired, undone, edited, Says, says_audit, says_certify, says_check, says_edit, says_lost, says_plan, says_repair, says_text, says_trial, says_undo, says_verify, says_why, Takes, audit, certify, check, edit, lost, plan, repair, text, trial, undo, verify, why}
+use Rattle.dsr_command_theory.specs.Words.{Asked, Audit, Certify, Check, Edit, Lost, Plan, Repair, Text, Trial, Undo, Verify, Why, command_of, is_odd, to_certify, to_edit, to_repair, to_try, to_undo, with_four, with_one, with_three, with_two}
 
 -- ---- tests
 
@@ -48,21 +48,22 @@ abbrev IsNot : (name this : List ℕ) → Type 0
 IsNot name this = bytes_eq name this ≡ false
 
 none_of_all : (name : List ℕ)
-    → IsNot name (codes "audit") → IsNot name (codes "certify") → IsNot name (codes "check") → IsNot name (codes "lost")
-    → IsNot name (codes "plan") → IsNot name (codes "repair") → IsNot name (codes "text") → IsNot name (codes "trial")
-    → IsNot name (codes "undo") → IsNot name (codes "verify") → IsNot name (codes "why")
+    → IsNot name (codes "audit") → IsNot name (codes "certify") → IsNot name (codes "check") → IsNot name (codes "edit")
+    → IsNot name (codes "lost") → IsNot name (codes "plan") → IsNot name (codes "repair") → IsNot name (codes "text")
+    → IsNot name (codes "trial") → IsNot name (codes "undo") → IsNot name (codes "verify") → IsNot name (codes "why")
     → IsUnknown name
-none_of_all _ a b c d e f g h i j k _ audit = let h : true ≡ false = a in cc
-none_of_all _ a b c d e f g h i j k _ certify = let h : true ≡ false = b in cc
-none_of_all _ a b c d e f g h i j k _ check = let h : true ≡ false = c in cc
-none_of_all _ a b c d e f g h i j k _ lost = let h : true ≡ false = d in cc
-none_of_all _ a b c d e f g h i j k _ plan = let h : true ≡ false = e in cc
-none_of_all _ a b c d e f g h i j k _ repair = let h : true ≡ false = f in cc
-none_of_all _ a b c d e f g h i j k _ text = let h : true ≡ false = g in cc
-none_of_all _ a b c d e f g h i j k _ trial = let h : true ≡ false = h in cc
-none_of_all _ a b c d e f g h i j k _ undo = let h : true ≡ false = i in cc
-none_of_all _ a b c d e f g h i j k _ verify = let h : true ≡ false = j in cc
-none_of_all _ a b c d e f g h i j k _ why = let h : true ≡ false = k in cc
+none_of_all _ a b c d e f g h i j k l _ audit = let h : true ≡ false = a in cc
+none_of_all _ a b c d e f g h i j k l _ certify = let h : true ≡ false = b in cc
+none_of_all _ a b c d e f g h i j k l _ check = let h : true ≡ false = c in cc
+none_of_all _ a b c d e f g h i j k l _ edit = let h : true ≡ false = d in cc
+none_of_all _ a b c d e f g h i j k l _ lost = let h : true ≡ false = e in cc
+none_of_all _ a b c d e f g h i j k l _ plan = let h : true ≡ false = f in cc
+none_of_all _ a b c d e f g h i j k l _ repair = let h : true ≡ false = g in cc
+none_of_all _ a b c d e f g h i j k l _ text = let h : true ≡ false = h in cc
+none_of_all _ a b c d e f g h i j k l _ trial = let h : true ≡ false = i in cc
+none_of_all _ a b c d e f g h i j k l _ undo = let h : true ≡ false = j in cc
+none_of_all _ a b c d e f g h i j k l _ verify = let h : true ≡ false = k in cc
+none_of_all _ a b c d e f g h i j k l _ why = let h : true ≡ false = l in cc
 
 -- a name is that of a command, or one goes on
 named : (name this : List ℕ) (n : ℕ) → Takes this n → (bytes_eq name this ≡ false → IsKnown name ⊎ IsUnknown name) → IsKnown name ⊎ IsUnknown name
@@ -76,14 +77,15 @@ known name =
     named name (codes "audit") 4 audit (λ a.
     named name (codes "certify") 2 certify (λ b.
     named name (codes "check") 2 check (λ c.
-    named name (codes "lost") 2 lost (λ d.
-    named name (codes "plan") 1 plan (λ e.
-    named name (codes "repair") 3 repair (λ f.
-    named name (codes "text") 1 text (λ g.
-    named name (codes "trial") 1 trial (λ h.
-    named name (codes "undo") 4 undo (λ i.
-    named name (codes "verify") 2 verify (λ j.
-    named name (codes "why") 3 why (λ k. inr (none_of_all name a b c d e f g h i j k))))))))))))
+    named name (codes "edit") 4 edit (λ d.
+    named name (codes "lost") 2 lost (λ e.
+    named name (codes "plan") 1 plan (λ f.
+    named name (codes "repair") 3 repair (λ g.
+    named name (codes "text") 1 text (λ h.
+    named name (codes "trial") 1 trial (λ i.
+    named name (codes "undo") 4 undo (λ j.
+    named name (codes "verify") 2 verify (λ k.
+    named name (codes "why") 3 why (λ l. inr (none_of_all name a b c d e f g h i j k l)))))))))))))
 
 -- another name is unlike each command's
 unlike : (name this : List ℕ) (n : ℕ) → Takes this n → IsUnknown name → bytes_eq name this ≡ false
@@ -107,7 +109,7 @@ three_unknown name spec image word unknown = rw (unlike name (codes "repair") 3 
 
 four_unknown : (name spec image file word : List ℕ) → IsUnknown name → with_four name spec image file word ≡ None
 four_unknown name spec image file word unknown =
-    rw (unlike name (codes "audit") 4 audit unknown, unlike name (codes "undo") 4 undo unknown) refl
+    rw (unlike name (codes "audit") 4 audit unknown, unlike name (codes "undo") 4 undo unknown, unlike name (codes "edit") 4 edit unknown) refl
 
 unknown_none : (name : List ℕ) (more : List (List ℕ)) → IsUnknown name → command_of (name ∷ more) ≡ None
 unknown_none name [] unknown = refl
@@ -125,6 +127,7 @@ odd_unknown : (name : List ℕ) → is_odd name ≡ true → IsUnknown name
 odd_unknown _ odd _ audit = let h : false ≡ true = odd in cc
 odd_unknown _ odd _ certify = let h : false ≡ true = odd in cc
 odd_unknown _ odd _ check = let h : false ≡ true = odd in cc
+odd_unknown _ odd _ edit = let h : false ≡ true = odd in cc
 odd_unknown _ odd _ lost = let h : false ≡ true = odd in cc
 odd_unknown _ odd _ plan = let h : false ≡ true = odd in cc
 odd_unknown _ odd _ repair = let h : false ≡ true = odd in cc
@@ -172,6 +175,7 @@ one_other : (name : List ℕ) (n : ℕ) (a : List ℕ) → Takes name n → 1 �
 one_other _ _ a audit other = refl
 one_other _ _ a certify other = refl
 one_other _ _ a check other = refl
+one_other _ _ a edit other = refl
 one_other _ _ a lost other = refl
 one_other _ _ a plan other = absurd (other refl)
 one_other _ _ a repair other = refl
@@ -185,6 +189,7 @@ two_other : (name : List ℕ) (n : ℕ) (a b : List ℕ) → Takes name n → 2 
 two_other _ _ a b audit other = refl
 two_other _ _ a b certify other = absurd (other refl)
 two_other _ _ a b check other = absurd (other refl)
+two_other _ _ a b edit other = refl
 two_other _ _ a b lost other = absurd (other refl)
 two_other _ _ a b plan other = refl
 two_other _ _ a b repair other = refl
@@ -198,6 +203,7 @@ three_other : (name : List ℕ) (n : ℕ) (a b c : List ℕ) → Takes name n �
 three_other _ _ a b c audit other = refl
 three_other _ _ a b c certify other = refl
 three_other _ _ a b c check other = refl
+three_other _ _ a b c edit other = refl
 three_other _ _ a b c lost other = refl
 three_other _ _ a b c plan other = refl
 three_other _ _ a b c repair other = absurd (other refl)
@@ -211,6 +217,7 @@ four_other : (name : List ℕ) (n : ℕ) (a b c d : List ℕ) → Takes name n �
 four_other _ _ a b c d audit other = absurd (other refl)
 four_other _ _ a b c d certify other = refl
 four_other _ _ a b c d check other = refl
+four_other _ _ a b c d edit other = absurd (other refl)
 four_other _ _ a b c d lost other = refl
 four_other _ _ a b c d plan other = refl
 four_other _ _ a b c d repair other = refl
@@ -242,6 +249,9 @@ over_spec_none _ (repaired spec image) =
 over_spec_none _ (undone spec fixed report) =
     if_none (is_odd spec || is_odd fixed || is_odd report || is_odd spec) (to_undo spec fixed report spec)
     (if_true (bytes_eq spec spec) (Some (Undo spec fixed report spec)) (same_name spec))
+over_spec_none _ (edited spec image script) =
+    if_none (is_odd spec || is_odd image || is_odd script || is_odd spec) (to_edit spec image script spec)
+    (if_true (bytes_eq spec spec) (Some (Edit spec image script spec)) (same_name spec))
 
 -- ---- numbers of trials
 
@@ -399,6 +409,15 @@ undo_reason a b c d none = elim (none_by (is_odd a || is_odd b || is_odd c || is
   ]
 ]
 
+edit_reason : (a b c d : List ℕ) → command_of (codes "edit" ∷ a ∷ b ∷ c ∷ d ∷ []) ≡ None → AskForNothing (codes "edit" ∷ a ∷ b ∷ c ∷ d ∷ [])
+edit_reason a b c d none = elim (none_by (is_odd a || is_odd b || is_odd c || is_odd d) (to_edit a b c d) none) [
+  | inl odd ↦ odd_of_four (codes "edit") a b c d odd
+  | inr none ↦ elim (none_by (bytes_eq d a) (Some (Edit a b c d)) none) [
+    | inl same ↦ over_spec (subst (λ w. SavesOverSpec (codes "edit" ∷ a ∷ b ∷ c ∷ w ∷ [])) (sym ((bytes_eq-Decides d a).0 same)) (edited a b c))
+    | inr never ↦ absurd (some_not_none (Some (Edit a b c d)) (Edit a b c d) refl never)
+  ]
+]
+
 trial_reason : (a : List ℕ) → command_of (codes "trial" ∷ a ∷ []) ≡ None → AskForNothing (codes "trial" ∷ a ∷ [])
 trial_reason a none = elim (none_by (is_odd a) (to_try a) none) [
   | inl odd ↦ odd_reason (codes "trial" ∷ a ∷ []) a odd (inr (inl refl))
@@ -452,6 +471,7 @@ module _ (P : List (List ℕ) → Type 0) where
     audit : (a b c d : List ℕ) → P (codes "audit" ∷ a ∷ b ∷ c ∷ d ∷ [])
     certify : (a b : List ℕ) → P (codes "certify" ∷ a ∷ b ∷ [])
     check : (a b : List ℕ) → P (codes "check" ∷ a ∷ b ∷ [])
+    edit : (a b c d : List ℕ) → P (codes "edit" ∷ a ∷ b ∷ c ∷ d ∷ [])
     lost : (a b : List ℕ) → P (codes "lost" ∷ a ∷ b ∷ [])
     plan : (a : List ℕ) → P (codes "plan" ∷ a ∷ [])
     repair : (a b c : List ℕ) → P (codes "repair" ∷ a ∷ b ∷ c ∷ [])
@@ -465,6 +485,7 @@ module _ (P : List (List ℕ) → Type 0) where
   same_count _ more _ audit same each = by_quadruple (codes "audit") more same each.audit
   same_count _ more _ certify same each = by_pair (codes "certify") more same each.certify
   same_count _ more _ check same each = by_pair (codes "check") more same each.check
+  same_count _ more _ edit same each = by_quadruple (codes "edit") more same each.edit
   same_count _ more _ lost same each = by_pair (codes "lost") more same each.lost
   same_count _ more _ plan same each = by_single (codes "plan") more same each.plan
   same_count _ more _ repair same each = by_triple (codes "repair") more same each.repair
@@ -496,6 +517,7 @@ reason = by_words (λ words. command_of words ≡ None → AskForNothing words)
       audit = λ a b c d none. four_reason (codes "audit") a b c d (Audit a b c d) none;
       certify = certify_reason;
       check = λ a b none. two_reason (codes "check") a b (Check a b) none;
+      edit = edit_reason;
       lost = λ a b none. two_reason (codes "lost") a b (Lost a b) none;
       plan = λ a none. one_reason (codes "plan") a (Plan a) none;
       repair = repair_reason;
@@ -550,6 +572,13 @@ undo_asked a b c d asked some =
     subst (Says (codes "undo" ∷ a ∷ b ∷ c ∷ d ∷ [])) (same_Some (Undo a b c d) asked (some_by (bytes_eq d a) (Some (Undo a b c d)) asked tested))
     (says_undo a b c d)
 
+edit_asked : (a b c d : List ℕ) (asked : Asked) → command_of (codes "edit" ∷ a ∷ b ∷ c ∷ d ∷ []) ≡ Some asked
+    → Says (codes "edit" ∷ a ∷ b ∷ c ∷ d ∷ []) asked
+edit_asked a b c d asked some =
+    let tested : to_edit a b c d ≡ Some asked = some_by (is_odd a || is_odd b || is_odd c || is_odd d) (to_edit a b c d) asked some in
+    subst (Says (codes "edit" ∷ a ∷ b ∷ c ∷ d ∷ [])) (same_Some (Edit a b c d) asked (some_by (bytes_eq d a) (Some (Edit a b c d)) asked tested))
+    (says_edit a b c d)
+
 trial_asked : (a : List ℕ) (asked : Asked) → command_of (codes "trial" ∷ a ∷ []) ≡ Some asked → Says (codes "trial" ∷ a ∷ []) asked
 trial_asked a asked some = by (cases_Bool (is_number a))
   where
@@ -570,6 +599,7 @@ asks = by_words (λ words. (asked : Asked) → command_of words ≡ Some asked �
       audit = λ a b c d asked. four_asked (codes "audit") a b c d (Audit a b c d) asked (says_audit a b c d);
       certify = certify_asked;
       check = λ a b asked. two_asked (codes "check") a b (Check a b) asked (says_check a b);
+      edit = edit_asked;
       lost = λ a b asked. two_asked (codes "lost") a b (Lost a b) asked (says_lost a b);
       plan = λ a asked. one_asked (codes "plan") a (Plan a) asked (says_plan a);
       repair = repair_asked;
@@ -617,6 +647,9 @@ said _ _ (says_certify a b) reasonless =
     (apart b a (Certify a b) (λ same. reasonless (over_spec (subst (λ w. SavesOverSpec (codes "certify" ∷ a ∷ w ∷ [])) (sym same) (certificate a)))))
 said _ _ (says_audit a b c d) reasonless =
     four_said (codes "audit") a b c d (Some (Audit a b c d)) (Audit a b c d) reasonless refl
+said _ _ (says_edit a b c d) reasonless =
+    four_said (codes "edit") a b c d (to_edit a b c d) (Edit a b c d) reasonless
+    (apart d a (Edit a b c d) (λ same. reasonless (over_spec (subst (λ w. SavesOverSpec (codes "edit" ∷ a ∷ b ∷ c ∷ w ∷ [])) (sym same) (edited a b c)))))
 said _ _ (says_lost a b) reasonless = two_said (codes "lost") a b (Some (Lost a b)) (Lost a b) reasonless refl
 said _ _ (says_undo a b c d) reasonless =
     four_said (codes "undo") a b c d (to_undo a b c d) (Undo a b c d) reasonless

@@ -7,6 +7,8 @@ use Rattle.dsr_command_audit.specs.Laid.{Lies, Refused as Unlaid}
 use Rattle.dsr_command_audit.specs.Undone.{IsUndoOf}
 use Rattle.dsr_command_certify.specs.Certified.{certified_answer}
 use Rattle.dsr_command_certify.specs.Verified.{IsVerifyAnswer}
+use Rattle.dsr_command_edit.specs.Edited.{IsEditOf}
+use Rattle.dsr_command_edit.specs.Opened.{IsOpening, Opening, Opens, Refuses}
 use Rattle.dsr_command_image.specs.Checked.{IsCheckAnswer}
 use Rattle.dsr_ir.specs.declared.declarations.Spec.{Spec}
 use Rattle.dsr_command_plan.specs.Planned as planned
@@ -25,7 +27,7 @@ use Rattle.dsr_syntax_theory.specs.Canonical.{canonical}
 use Rattle.dsr_tree.specs.Trees.{TreeShape}
 use Rattle.dsr_language_theory.specs.Specifications.{specification}
 use Rattle.dsr_compile.specs.Readings.{Interpretation, IsInterpretation, Means, Refused}
-use Rattle.dsr_command_theory.specs.Words.{Asked, Audit, Certify, Check, Lost, Plan, Repair, Text, Trial, Undo, Verify, Why, command_of}
+use Rattle.dsr_command_theory.specs.Words.{Asked, Audit, Certify, Check, Edit, Lost, Plan, Repair, Text, Trial, Undo, Verify, Why, command_of}
 use Rattle.dsr_meaning.specs.Limits.{most_bytes}
 
 -- the most bytes of a specification's text
@@ -43,6 +45,10 @@ certificate_limit = 1048576
 -- the most bytes of a report
 abbrev pub report_limit : ℕ
 report_limit = 67108864
+
+-- the most bytes of a script of edits
+abbrev pub script_limit : ℕ
+script_limit = 1048576
 
 abbrev pub usage : Answer
 usage = record { verdict = verdicts.Usage; text = codes "usage\n" }
@@ -158,6 +164,28 @@ loads_listed image spec = loads_for image spec (lists_lost spec)
 abbrev pub lost_after : List ℕ → List ℕ → Script
 lost_after image text = reads text (λ tree. loads_listed image (specification tree))
 
+-- ---- edits
+
+-- an image is edited as a script says
+abbrev pub edits : List ℕ → Spec → (image script : List ℕ) → Script
+edits out spec image script = picks (IsEditOf spec image script) (ends out)
+
+-- the script is loaded where the image may be edited; where it may not, that is told
+abbrev pub loads_script : (script out : List ℕ) → Spec → List ℕ → Opening → Script
+loads_script script out spec image Opens =
+    loads script script_limit (codes "too long script\n") (edits out spec image)
+loads_script script out spec image (Refuses answer) = tells (λ told. told ≡ answer)
+
+abbrev pub opens : (script out : List ℕ) → Spec → List ℕ → Script
+opens script out spec image = picks (IsOpening spec image) (loads_script script out spec image)
+
+abbrev pub loads_edited : (image script out : List ℕ) → Spec → Script
+loads_edited image script out spec = loads_for image spec (opens script out spec)
+
+abbrev pub edit_after : (image script out : List ℕ) → List ℕ → Script
+edit_after image script out text =
+    reads text (λ tree. loads_edited image script out (specification tree))
+
 -- ---- reports
 
 abbrev pub loads_report : List ℕ → (List ℕ → Script) → Script
@@ -215,6 +243,7 @@ script_of (Some (Audit spec image report fixed)) =
     loads_spec spec (audit_after image report fixed)
 script_of (Some (Certify spec certificate)) = loads_spec spec (certify_after certificate)
 script_of (Some (Check spec image)) = loads_spec spec (check_after image)
+script_of (Some (Edit spec image script out)) = loads_spec spec (edit_after image script out)
 script_of (Some (Lost spec image)) = loads_spec spec (lost_after image)
 script_of (Some (Plan spec)) = loads_spec spec plan_after
 script_of (Some (Repair spec image out)) = loads_spec spec (repair_after image out)

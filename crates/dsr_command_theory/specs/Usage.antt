@@ -2,13 +2,14 @@
 use Rattle.std.specs.Prelude.{◌≡◌, ◌≢◌, ◌≤◌, ◌⊎◌, ℕ, List, [], ◌∷◌, ◌++◌, length, codes}
 use Rattle.std.specs.Str.Parse.{digits_value}
 use Rattle.dsr_meaning.specs.Counting.{IsIn}
-use Rattle.dsr_command_theory.specs.Words.{Asked, Audit, Certify, Check, Lost, Plan, Repair, Text, Trial, Undo, Verify, Why}
+use Rattle.dsr_command_theory.specs.Words.{Asked, Audit, Certify, Check, Edit, Lost, Plan, Repair, Text, Trial, Undo, Verify, Why}
 
 -- the commands, and how many words each takes behind it
 pub data Takes : List ℕ → ℕ → Type 0 where
   audit : Takes (codes "audit") 4
   certify : Takes (codes "certify") 2
   check : Takes (codes "check") 2
+  edit : Takes (codes "edit") 4
   lost : Takes (codes "lost") 2
   plan : Takes (codes "plan") 1
   repair : Takes (codes "repair") 3
@@ -40,13 +41,17 @@ pub data HasOtherCount : List (List ℕ) → Type 0 where
       (name : List ℕ) (more : List (List ℕ)) (count : ℕ) → Takes name count → length more ≢ count
       → HasOtherCount (name ∷ more)
 
--- a certificate, or an image that is repaired or taken back, has the name of its specification
+-- a certificate, or an image that is repaired, edited or taken back, has the name of its
+-- specification
 pub data SavesOverSpec : List (List ℕ) → Type 0 where
   certificate : (spec : List ℕ) → SavesOverSpec (codes "certify" ∷ spec ∷ spec ∷ [])
   repaired : (spec image : List ℕ) → SavesOverSpec (codes "repair" ∷ spec ∷ image ∷ spec ∷ [])
   undone :
       (spec fixed report : List ℕ)
       → SavesOverSpec (codes "undo" ∷ spec ∷ fixed ∷ report ∷ spec ∷ [])
+  edited :
+      (spec image script : List ℕ)
+      → SavesOverSpec (codes "edit" ∷ spec ∷ image ∷ script ∷ spec ∷ [])
 
 -- the word is the number of a trial: one to five decimal digits, zeros in front included, up to
 -- 65,535
@@ -82,6 +87,9 @@ pub data Says : List (List ℕ) → Asked → Type 0 where
       → Says (codes "certify" ∷ spec ∷ certificate ∷ []) (Certify spec certificate)
   says_check :
       (spec image : List ℕ) → Says (codes "check" ∷ spec ∷ image ∷ []) (Check spec image)
+  says_edit :
+      (spec image script out : List ℕ)
+      → Says (codes "edit" ∷ spec ∷ image ∷ script ∷ out ∷ []) (Edit spec image script out)
   says_lost :
       (spec image : List ℕ) → Says (codes "lost" ∷ spec ∷ image ∷ []) (Lost spec image)
   says_plan : (spec : List ℕ) → Says (codes "plan" ∷ spec ∷ []) (Plan spec)

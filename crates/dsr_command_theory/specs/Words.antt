@@ -11,6 +11,8 @@ pub data Asked : Type 0 where
   Certify : (spec certificate : List ℕ) → Asked
   -- whether an image is consistent under a specification
   Check : (spec image : List ℕ) → Asked
+  -- groups of writes, by a script, to an image under a specification, saved under the last name
+  Edit : (spec image script out : List ℕ) → Asked
   -- the records of an image that no set has
   Lost : (spec image : List ℕ) → Asked
   -- the plan of a specification
@@ -79,11 +81,16 @@ abbrev pub to_undo : (spec fixed report out : List ℕ) → Option Asked
 to_undo spec fixed report out =
     if bytes_eq out spec then None else Some (Undo spec fixed report out)
 
+abbrev pub to_edit : (spec image script out : List ℕ) → Option Asked
+to_edit spec image script out =
+    if bytes_eq out spec then None else Some (Edit spec image script out)
+
 -- those with four
 abbrev pub with_four : (command spec image file word : List ℕ) → Option Asked
 with_four command spec image file word =
     if bytes_eq command (codes "audit") then Some (Audit spec image file word)
     else if bytes_eq command (codes "undo") then to_undo spec image file word
+    else if bytes_eq command (codes "edit") then to_edit spec image file word
     else None
 
 -- What the words ask for. None where they are no command: there is no word, the first one is none

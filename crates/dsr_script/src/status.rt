@@ -2,8 +2,7 @@
 ghost use Rattle.std.specs.Prelude.{◌≡◌};
 ghost use Rattle.dsr_script.specs.Statuses.{status_number};
 
-/// What a command says itself. Its text goes with it. No command says `EditRefused` yet; its number
-/// is kept for the one that will.
+/// What a command says itself. Its text goes with it.
 #[derive(Clone, Copy, PartialEq)]
 pub enum Verdict {
     /// The command did what it was asked for, or what it was asked about holds.

@@ -39,4 +39,6 @@ returns g c =
       undone = c.repairs_are_undone.ensures.repairs words before after status runs;
       no_others_undone = c.repairs_are_undone.ensures.nothing_else words before after status runs;
       taken_back = c.sound_repairs_are_taken_back.ensures words before after status runs;
+      edits = c.images_are_edited.ensures.edits words before after status runs;
+      no_other_edits = c.images_are_edited.ensures.nothing_else words before after status runs;
     }

@@ -1,4 +1,7 @@
 // Edits of an image by a script.
+ghost use Rattle.std.specs.Prelude.{IfOk};
+ghost use Rattle.dsr_meaning.specs.Typed.{IsTyped};
+
 use crate::fields::add_fields;
 use anyhow::bail;
 use dsr_command_edit::{Edited, Opened, Ready, edit, open};
@@ -24,7 +27,9 @@ fn add_saved(text: &mut String, alloc: Global, bytes: &[u8]) -> anyhow::Result<(
     Ok(())
 }
 
-fn spec_of(alloc: Global, text: &[u8]) -> anyhow::Result<Spec> {
+fn spec_of(alloc: Global, text: &[u8]) -> anyhow::Result<Spec>
+    ensures typed { IfOk result IsTyped }
+{
     match specification(alloc, text) {
         Ok(Some(spec)) => Ok(spec),
         Ok(None) => bail!("no specification"),
@@ -55,6 +60,9 @@ pub fn add_edits(
     let Ok(image) = hex::decode(alloc, digits) else {
         bail!("no bytes: {digits}");
     };
+    if image.len() > 67_108_864 {
+        bail!("too many bytes");
+    }
     add_fields(text, alloc, &spec)?;
     match open(alloc, spec, image) {
         Ok(Opened::Refused(told)) => add_told(text, &told),

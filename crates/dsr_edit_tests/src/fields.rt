@@ -1,4 +1,6 @@
 // Which symbols a write of each field affects.
+ghost use Rattle.dsr_meaning.specs.Typed.{IsTyped};
+
 use anyhow::bail;
 use dsr_affected::affected;
 use dsr_answers::symbol_name;
@@ -12,7 +14,9 @@ fn add_field(
     spec: &Spec,
     place: FieldRef,
     name: &[u8],
-) -> anyhow::Result<()> {
+) -> anyhow::Result<()>
+    requires typed { IsTyped spec.now }
+{
     text.push_str("affected ")?;
     text.push_str(str::from_utf8(name)?)?;
     let Ok(symbols) = affected(alloc, spec, &[place]) else {
@@ -32,7 +36,9 @@ fn add_own(
     spec: &Spec,
     number: u32,
     structure: &Structure,
-) -> anyhow::Result<()> {
+) -> anyhow::Result<()>
+    requires typed { IsTyped spec.now }
+{
     for (field, its) in structure.fields.items().iter().enumerate() {
         let place = FieldRef {
             structure: number,
@@ -44,7 +50,9 @@ fn add_own(
 }
 
 /// Appends the symbols that each field affects.
-pub fn add_fields(text: &mut String, alloc: Global, spec: &Spec) -> anyhow::Result<()> {
+pub fn add_fields(text: &mut String, alloc: Global, spec: &Spec) -> anyhow::Result<()>
+    requires typed { IsTyped spec.now }
+{
     for (number, structure) in spec.base.structures.items().iter().enumerate() {
         add_own(text, alloc, spec, number as u32, structure)?;
     }

@@ -78,10 +78,7 @@ no_items (x ∷ xs) e = let none : length (x ∷ xs) ≡ 0 = eqb-true (length (x
 pub some_items : {A : Type 0} (xs : List A) → nat_eq (length xs) 0 ≡ false → xs ≡ [] → ⊥
 some_items xs e none = let same : nat_eq (length xs) 0 ≡ true = ap (λ ys. nat_eq (length ys) 0) none in false≢true (sym e ∙ same)
 
--- ---- a group that was put
-
-pub group_made : (spec : Spec) (layout : Layout) (group : List CellWrite) (puts slice : List (Cell × ℕ)) (old new : List ℕ) → slice ≡ puts → ArePutsOf spec layout group puts → ArePut slice old new → AreMade spec layout group old new
-group_made spec layout group puts slice old new same are one = made_by spec layout group puts old new are (subst (λ p. ArePut p old new) same one)
+-- ---- a group that is refused
 
 -- why a group wasn't prepared is why it isn't made
 pub refused_as : (spec : Spec) (layout : Layout) (group : List CellWrite) (old : List ℕ) (fault : EditFault) → IsUnwritable spec layout group fault → IsEditFault spec layout group old fault

@@ -64,13 +64,6 @@ pub record IsEdited (spec : Spec) (layout : Layout) (group : List CellWrite) (ol
   pub made : AreMade spec layout group old new
   pub consistent : IsConsistent spec layout new
 
--- the cells of the writes with their values, where each can be made
-abbrev pub ArePutsOf : Spec → Layout → List CellWrite → List (Cell × ℕ) → Type 0
-ArePutsOf spec layout [] [] = Unit {0}
-ArePutsOf spec layout (write ∷ rest) (put ∷ puts) =
-    MayWrite spec layout write put.0 × (put.1 ≡ write.value) × ArePutsOf spec layout rest puts
-ArePutsOf spec layout _ _ = ⊥
-
 -- ---- why a group isn't made
 
 -- the write at the place is the first one that can't be made

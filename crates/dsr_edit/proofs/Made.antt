@@ -1,29 +1,22 @@
 -- A group of writes that is made leaves an image on the same layout, which differs only in the cells
 -- of the fields that it writes.
-use Rattle.std.proofs.Common.{◌≡◌, ◌≤◌, ◌<◌, ◌+◌, ◌*◌, ◌^◌, ◌∙◌, ℕ, true, false, List, [], ◌∷◌, All, length, map, IsSomeAnd, Some, inl, inr, refl, sym, ap, subst, arith}
-use Rattle.std.proofs.lemmas.List.Elements.{All-cons, All-nil}
+use Rattle.std.proofs.Common.{◌≡◌, ◌∙◌, ℕ, false, List, [], ◌∷◌, length, map, IsSomeAnd, Some, inl, inr, refl, sym, ap, subst}
 use Rattle.dsr_affected_laws.proofs.Keeping.{layout_stays}
 use Rattle.dsr_affected_laws.proofs.Writing.{more_differ, none_differ, one_differs}
 use Rattle.dsr_affected_laws.specs.Differing.{AreAlikeBut, AreFree, DifferOnlyIn}
-use Rattle.dsr_edit.proofs.Entries.{cell_at, cell_in}
-use Rattle.dsr_edit.specs.Edits.{AreMade, ArePutsOf, MayWrite, MayWriteSome, entry_of}
+use Rattle.dsr_edit.proofs.Entries.{cell_at}
+use Rattle.dsr_edit.specs.Edits.{AreMade, MayWriteSome, entry_of}
 use Rattle.dsr_edit.specs.Edits.AreMade.{done, made}
-use Rattle.dsr_edit.specs.Puts.{AreCellsOf, IsPutOf}
 use Rattle.dsr_edit.specs.declared.groups.CellWrite.{CellWrite}
 use Rattle.dsr_ir.specs.declared.declarations.Field.{Field}
 use Rattle.dsr_ir.specs.declared.declarations.FieldRef.{FieldRef}
 use Rattle.dsr_ir.specs.declared.declarations.Spec.{Spec}
-use Rattle.dsr_ir.specs.declared.layouts.Cell.{Cell}
 use Rattle.dsr_ir.specs.declared.layouts.Layout.{Layout}
-use Rattle.dsr_meaning.specs.Cells.{IsCellOf}
 use Rattle.dsr_meaning.specs.Counting.{IsIn}
 use Rattle.dsr_meaning.specs.Instances.{declared_field}
-use Rattle.dsr_meaning.specs.Legal.{IsLegalLayout}
 use Rattle.dsr_meaning.specs.Writes.{AreBytes}
 use Rattle.dsr_resolve.proofs.AcceptedLayouts.{legal_of}
 use Rattle.dsr_step_theory.specs.Images.{IsImageOf}
-use Rattle.dsr_step_theory.specs.Puts.{ArePut, IsPut}
-use Rattle.dsr_step_theory.specs.Puts.ArePut.{done as none_put, put}
 use Rattle.dsr_fixpoint.specs.Models.{IsLaidOut}
 
 pub layout_laid_out : (spec : Spec) (layout : Layout) (bytes : List ℕ) → IsImageOf spec layout bytes → IsLaidOut spec layout bytes

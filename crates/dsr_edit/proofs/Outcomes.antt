@@ -3,12 +3,10 @@ use Rattle.std.proofs.Common.{◌≡◌, ◌<◌, ◌↔◌, ℕ, true, false, n
 use Rattle.std.proofs.lemmas.Bool.{eqb-true, false≢true}
 use Rattle.dsr_affected.specs.Marking.{AreAffected}
 use Rattle.dsr_affected_laws.proofs.Violated.{first_of_all, still_consistent}
-use Rattle.dsr_edit.proofs.Made.{alike, made_by}
-use Rattle.dsr_edit.specs.Edits.{AreMade, ArePutsOf, IsEditFault, IsFirstViolation, IsUnwritable}
+use Rattle.dsr_edit.proofs.Made.{alike}
+use Rattle.dsr_edit.specs.Edits.{AreMade, IsEditFault, IsFirstViolation, IsUnwritable}
 use Rattle.dsr_edit.specs.declared.faults.EditFault.{EditFault}
 use Rattle.dsr_edit.specs.declared.faults.EditFault.TheVariants as faults
-use Rattle.dsr_ir.specs.declared.layouts.Cell.{Cell}
-use Rattle.dsr_step_theory.specs.Puts.{ArePut}
 use Rattle.dsr_edit.specs.declared.groups.CellWrite.{CellWrite}
 use Rattle.dsr_fixpoint.proofs.Bridged.{same_facts}
 use Rattle.dsr_fixpoint.proofs.SameFacts.{AreSame, same_violations, turned, violated_same}

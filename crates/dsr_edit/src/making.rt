@@ -8,7 +8,8 @@ ghost use Rattle.dsr_meaning.specs.Consistency.{bound_constraint};
 use crate::faults::EditFault;
 use crate::groups::CellWrite;
 use crate::preparing::{Prepared, prepare};
-use crate::puts::{put_back, put_noting, settle};
+use crate::puts::{put_back, put_noting};
+use crate::updates::CellPut;
 use dsr_image::Whole;
 use dsr_ir::{Binding, Layout, Spec};
 use dsr_model::Model;
@@ -38,12 +39,11 @@ fn make(
 {
     let mut prepared = prepared;
     let was: &mut [u64] = &mut prepared.was;
-    let changed = put_noting(spec, layout, rules, image, model, &prepared.puts, was);
-    settle(spec, layout, rules, image, model, changed);
+    let puts: &[CellPut] = &prepared.puts;
+    put_noting(spec, layout, rules, image, model, puts, was);
     match first_violated(model, spec, &prepared.order) {
         Some(found) => {
-            let changed = put_back(spec, layout, rules, image, model, &prepared.puts, was);
-            settle(spec, layout, rules, image, model, changed);
+            put_back(spec, layout, rules, image, model, puts, was);
             Some(found)
         }
         None => None,

@@ -1,10 +1,7 @@
 -- What is left to be put leads to all that is to be put, what is noted leads back, and the model is that of the image
 -- where it was changed with it.
-use Rattle.std.proofs.Common.{◌×◌}
 use Rattle.dsr_edit.proofs.Taking.{IsNoting}
-use Rattle.dsr_edit.specs.Puts.{IsBetween}
 use Rattle.dsr_edit.proofs.puts.put_noting.Given as goal
 
 abbrev pub invariant-loop-place : goal.invariant-loop-place
-invariant-loop-place l =
-    IsNoting l.spec l.layout l.puts l.place l.was l.fn.image l.image × IsBetween l.spec l.layout l.rules l.image l.model l.changed
+invariant-loop-place l = IsNoting l.spec l.layout l.rules l.puts l.place l.was l.fn.image l.image l.model l.changed

@@ -3,13 +3,12 @@ use Rattle.std.proofs.Common.{◌≡◌, ◌<◌, ◌≤◌, ◌+◌, ◌∙◌,
 use Rattle.std.proofs.lemmas.Option.{same_Some}
 use Rattle.dsr_edit.proofs.Taking.{take_whole}
 use Rattle.dsr_edit.specs.Edits.{IsFirstUnwritable, MayWrite, MayWriteSome}
-use Rattle.dsr_edit.specs.Updates.{AreReady, IsReady, IsUpdateOf, writes_of}
+use Rattle.dsr_edit.specs.Updates.{AreReady, IsReady, writes_of}
 use Rattle.dsr_edit.specs.declared.groups.CellWrite.{CellWrite}
 use Rattle.dsr_edit.specs.declared.updates.CellPut.{CellPut}
 use Rattle.dsr_ir.specs.declared.declarations.Spec.{Spec}
 use Rattle.dsr_ir.specs.declared.layouts.Cell.{Cell}
 use Rattle.dsr_ir.specs.declared.layouts.Layout.{Layout}
-use Rattle.dsr_ir.specs.declared.updates.Update.{Update}
 
 none_taken : {A : Type 0} (xs : List A) → take 0 xs ≡ []
 none_taken [] = refl
@@ -42,13 +41,12 @@ module _ (spec : Spec) (layout : Layout) where
   pub puts_begin : (group : List CellWrite) → ArePutTo group 0 []
   puts_begin group = record { writes = sym (none_taken group); ready = tt }
 
-  pub puts_more : (group : List CellWrite) (place : ℕ) (puts : List CellPut) (write : CellWrite) (cell : Cell) (update : Update) → slice_get group place ≡ Some write → MayWrite spec layout write cell → IsUpdateOf write.field update → ArePutTo group place puts → ArePutTo group (place + 1) (puts ++ (record { write = write; cell = cell; update = update }) ∷ [])
-  puts_more group place puts write cell update is may of are =
+  pub puts_more : (group : List CellWrite) (place : ℕ) (puts : List CellPut) (put : CellPut) → slice_get group place ≡ Some put.write → IsReady spec layout put → ArePutTo group place puts → ArePutTo group (place + 1) (puts ++ put ∷ [])
+  puts_more group place puts put is ready are =
       let next : suc place ≡ place + 1 = omega arith in
-      let put : CellPut = record { write = write; cell = cell; update = update } in
       record {
         writes = subst (λ n. writes_of (puts ++ put ∷ []) ≡ take n group) next (put_next group place puts put is are.writes);
-        ready = ready_next puts put are.ready (record { may = may; update = of });
+        ready = ready_next puts put are.ready ready;
       }
 
   pub puts_end : (group : List CellWrite) (place : ℕ) (puts : List CellPut) → length group ≤ place → ArePutTo group place puts → writes_of puts ≡ group

@@ -59,7 +59,8 @@ set_here (y ∷ ys) zero x less = refl
 set_here (y ∷ ys) (suc n) x less = set_here ys n x (omega (arith, less))
 
 set_before : {A : Type 0} (xs : List A) (n k : ℕ) (x : A) → k < n → slice_get (set xs n x) k ≡ slice_get xs k
-set_before [] n k x less = refl
+set_before [] zero k x less = absurd (omega (arith, less))
+set_before [] (suc n) k x less = refl
 set_before (y ∷ ys) zero k x less = absurd (omega (arith, less))
 set_before (y ∷ ys) (suc n) zero x less = refl
 set_before (y ∷ ys) (suc n) (suc k) x less = set_before ys n k x (omega (arith, less))
@@ -144,7 +145,7 @@ module _ (spec : Spec) (layout : Layout) (resolved : List Resolved) (puts : List
     one_back : (first : List ℕ) → LeadsBack puts was (length puts) start first → LeadsBack puts was (suc left) now first
     one_back first back = subst (λ n. LeadsBack puts was n now first) left_is (so_far.leads first back)
 
-    pub taken_fits : (first : List ℕ) × LeadsBack puts was (length puts) start first → value < 2 ^ put.cell.width
+    pub taken_fits : ((first : List ℕ) × LeadsBack puts was (length puts) start first) → value < 2 ^ put.cell.width
     taken_fits some =
         let t = (one_back some.0 some.1).1 in
         let same : t.put ≡ put = same_Some t.put put (sym t.put_is ∙ put_is) in

@@ -112,7 +112,7 @@ module _ (spec : Spec) (layout : Layout) (old new : List ℕ) (image : IsImageOf
   write_lies : Lies write.elem d
   write_lies =
       let but = alike spec layout old new image group one_made in
-      let fields = write.field ∷ [] in
+      let fields : List FieldRef = write.field ∷ [] in
       entry_lies spec old layout image.layout_is image.typed legal write.elem write.field may.field (entry_of write) d
       (only_head_of spec layout fields old new but write.elem write.field.structure at.of_record) may.names.is_field.declared
       (in_line_of_head spec layout fields old new but write.elem write.field.structure at.of_record) at.entry

@@ -8,8 +8,7 @@ ghost use Rattle.dsr_model.specs.Views.{IsLayoutFor};
 
 use crate::cells::puts_of;
 use crate::faults::EditFault;
-use crate::groups::{CellWrite, fields_of};
-use crate::puts::values_of;
+use crate::groups::{CellWrite, fields_of, values_of};
 use crate::updates::CellPut;
 use dsr_affected::affected_constraints;
 use dsr_ir::{Layout, Spec};
@@ -42,6 +41,6 @@ pub fn prepare(
     let puts = puts_of(alloc, spec, layout, group)?;
     let fields = fields_of(alloc, group)?;
     let order = affected_constraints(alloc, spec, &fields)?;
-    let was = values_of(alloc, &puts)?;
+    let was = values_of(alloc, group)?;
     Ok(Prepared { puts, was, order })
 }

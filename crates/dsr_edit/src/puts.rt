@@ -1,5 +1,5 @@
 // Writes that are put into their cells, and taken back, with the model of the image.
-ghost use Rattle.std.specs.Prelude.{◌≡◌, ◌<◌, ◌^◌, ℕ, List, Some, true, IfOk, length, map, slice_get};
+ghost use Rattle.std.specs.Prelude.{◌≡◌, ◌<◌, ◌^◌, ℕ, List, Some, true, IfOk, length, slice_get};
 ghost use Rattle.dsr_edit.specs.Edits.{AreMade};
 ghost use Rattle.dsr_edit.specs.Puts.{IsBetween, LeadsBack};
 ghost use Rattle.dsr_edit.specs.Updates.{AreReady, IsReady, writes_of};
@@ -145,11 +145,4 @@ pub fn copied(alloc: Global, image: &Whole) -> Result<Vec<u8>, NoMemory>
         bytes.push(image.byte(at))?;
     }
     Ok(bytes)
-}
-
-/// Room for a value of each write.
-pub fn values_of(alloc: Global, puts: &[CellPut]) -> Result<Vec<u64>, NoMemory>
-    ensures { IfOk result (λ values. values.items ≡ map (λ put. put.write.value) puts.now) }
-{
-    Ok(puts.iter().map(|put| put.write.value).collect(alloc)?)
 }

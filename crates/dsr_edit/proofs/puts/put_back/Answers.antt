@@ -37,5 +37,5 @@ settle-requires c = record { between = c.loop-place.invariant.between }
 pub returns : goal.returns
 returns c = record {
   back = taking_ends c.args.spec.now c.args.layout.now c.args.rules.now c.args.puts.now c.args.was.now c.args.image.now c.loop-place.place c.loop-place.image c.loop-place.model c.loop-place.changed c.loop-place-test.false c.loop-place.invariant;
-  between = c.settle.ensures;
+  between = c.settle.ensures.between;
 }

@@ -31,5 +31,5 @@ returns c = record {
   made = noting_made c.args.spec.now c.args.layout.now c.args.rules.now c.args.puts.now c.loop-place.place c.loop-place.was c.args.image.now c.loop-place.image c.loop-place.model c.loop-place.changed c.loop-place-test.false c.loop-place.invariant;
   room = c.loop-place.invariant.room;
   back = noting_back c.args.spec.now c.args.layout.now c.args.rules.now c.args.puts.now c.loop-place.place c.loop-place.was c.args.image.now c.loop-place.image c.loop-place.model c.loop-place.changed c.loop-place-test.false c.loop-place.invariant;
-  between = c.settle.ensures;
+  between = c.settle.ensures.between;
 }

@@ -1,5 +1,5 @@
 -- What a model of the image after a group tells of it.
-use Rattle.std.proofs.Common.{◌≡◌, ◌<◌, ◌↔◌, ℕ, true, false, nat_eq, List, [], ◌∷◌, length, map, Some, slice_get, refl, sym, ap, subst, ◌∙◌, arith}
+use Rattle.std.proofs.Common.{◌≡◌, ℕ, true, false, nat_eq, List, [], ◌∷◌, length, map, refl, sym, ap, subst, ◌∙◌, arith}
 use Rattle.std.proofs.lemmas.Bool.{eqb-true, false≢true}
 use Rattle.dsr_affected.specs.Marking.{AreAffected}
 use Rattle.dsr_affected_laws.proofs.Violated.{first_of_all, still_consistent}
@@ -9,7 +9,7 @@ use Rattle.dsr_edit.specs.declared.faults.EditFault.{EditFault}
 use Rattle.dsr_edit.specs.declared.faults.EditFault.TheVariants as faults
 use Rattle.dsr_edit.specs.declared.groups.CellWrite.{CellWrite}
 use Rattle.dsr_fixpoint.proofs.Bridged.{same_facts}
-use Rattle.dsr_fixpoint.proofs.SameFacts.{AreSame, same_violations, turned, violated_same}
+use Rattle.dsr_fixpoint.proofs.SameFacts.{same_violations, turned, violated_same}
 use Rattle.dsr_fixpoint.specs.Models.{IsModelOf, IsPreparedFor}
 use Rattle.dsr_ir.specs.declared.declarations.FieldRef.{FieldRef}
 use Rattle.dsr_ir.specs.declared.declarations.Spec.{Spec}
@@ -19,7 +19,6 @@ use Rattle.dsr_ir.specs.declared.tuples.Fact.{Fact}
 use Rattle.dsr_meaning.specs.Consistency.{AreViolations, BoundConstraint, IsConsistent, IsFirstViolated, IsViolated, NoneIsViolated, bound_constraint}
 use Rattle.dsr_meaning.specs.Counting.{IsIn}
 use Rattle.dsr_meaning.specs.Models.{IsFact}
-use Rattle.dsr_meaning.specs.Orders.{BindingPrecedes}
 use Rattle.dsr_model.specs.Facts.{IsInModel}
 use Rattle.dsr_model.specs.Views.{ModelView}
 use Rattle.dsr_step_theory.specs.Images.{IsImageOf}

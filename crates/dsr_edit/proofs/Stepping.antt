@@ -1,11 +1,10 @@
 -- One write as a step: the image that it leaves, and the model.
-use Rattle.std.proofs.Common.{◌≡◌, ◌<◌, ◌^◌, ℕ, true, List, [], ◌∷◌, refl}
+use Rattle.std.proofs.Common.{◌<◌, ◌^◌, ℕ, List, [], ◌∷◌}
 use Rattle.dsr_edit.proofs.Entries.{cell_in}
 use Rattle.dsr_edit.proofs.Made.{image_stays, layout_laid_out}
 use Rattle.dsr_edit.proofs.Untouched.{put_leaves}
-use Rattle.dsr_edit.specs.Edits.{AreMade, MayWrite}
+use Rattle.dsr_edit.specs.Edits.{MayWrite}
 use Rattle.dsr_edit.specs.Edits.AreMade.{done, made}
-use Rattle.dsr_edit.specs.Puts.{IsBetween}
 use Rattle.dsr_edit.specs.Updates.{IsReady, IsStepOf}
 use Rattle.dsr_edit.specs.declared.groups.CellWrite.{CellWrite}
 use Rattle.dsr_edit.specs.declared.updates.CellPut.{CellPut}

@@ -5,7 +5,7 @@ use Rattle.std.proofs.lemmas.List.{length-set}
 use Rattle.std.proofs.lemmas.Option.{same_Some}
 use Rattle.dsr_edit.specs.Edits.{AreMade, MayWrite}
 use Rattle.dsr_edit.specs.Edits.AreMade.{done, made}
-use Rattle.dsr_edit.specs.Puts.{IsBetween, IsTakenBack, LeadsBack}
+use Rattle.dsr_edit.specs.Puts.{IsBetween, LeadsBack}
 use Rattle.dsr_edit.specs.Updates.{AreReady, IsReady, writes_of}
 use Rattle.dsr_edit.specs.declared.updates.CellPut.{CellPut}
 use Rattle.dsr_ir.specs.declared.declarations.Spec.{Spec}
@@ -107,14 +107,18 @@ module _ (spec : Spec) (layout : Layout) (resolved : List Resolved) (puts : List
     room = length-set was place _ ∙ so_far.room;
     low = omega (arith, below);
     goes_on = λ end more. so_far.goes_on end (subst (λ ps. AreMade spec layout (writes_of ps) now end) (sym (drop_got puts place put is)) (made put.write put.cell may one more));
-    back = subst (λ n. LeadsBack puts (set was place noted) n next first) after (now, record {
-      put = put;
-      put_is = is;
-      value = noted;
-      value_is = set_here was place noted (let room = so_far.room in omega (arith, below, room));
-      fits = fits;
-      taken = subst (λ n. IsPut put.cell n next now) (sym noted_is) (put_back put.cell put.write.value now next so_far.between.image.bytes one);
-    }, back_stays puts was place noted place now first (omega arith) so_far.back);
+    back = subst (λ n. LeadsBack puts (set was place noted) n next first) after (
+      now,
+      record {
+        put = put;
+        put_is = is;
+        value = noted;
+        value_is = set_here was place noted (let room = so_far.room in omega (arith, below, room));
+        fits = fits;
+        taken = subst (λ n. IsPut put.cell n next now) (sym noted_is) (put_back put.cell put.write.value now next so_far.between.image.bytes one);
+      },
+      back_stays puts was place noted place now first (omega arith) so_far.back,
+    );
     between = between;
   } where
     after : suc place ≡ place + 1

@@ -31,12 +31,11 @@ use Rattle.dsr_layout_laws.proofs.Fields.{in_other_fields}
 use Rattle.dsr_layout_laws.specs.Entries.{IsEntry}
 use Rattle.dsr_leaf_laws.specs.Touched.{IsTouched, IsUnmoved, LeavesUntouched, touching}
 use Rattle.dsr_meaning.proofs.Items.{item_at, none_of, of_all}
-use Rattle.dsr_meaning.specs.Cells.{IsFieldCell, cell_value, placed_cell, record_start, value_at}
+use Rattle.dsr_meaning.specs.Cells.{cell_value, placed_cell, record_start, value_at}
 use Rattle.dsr_meaning.specs.Counting.{IsIn}
 use Rattle.dsr_meaning.specs.Instances.{IsInstance, record_count}
 use Rattle.dsr_meaning.specs.Legal.{IsLegalLayout}
 use Rattle.dsr_meaning.specs.Lists.{any_of}
-use Rattle.dsr_meaning.specs.Truth.{head}
 use Rattle.dsr_meaning.specs.Typed.{Descends, IsTyped, IsTypedPath, IsTypedRule, premise_structure}
 use Rattle.dsr_meaning.specs.Writes.{AreCellsApart}
 use Rattle.dsr_model_laws.proofs.Instances.{elements}
@@ -84,8 +83,8 @@ module _ (spec : Spec) (field : FieldRef) (update : Update) (of : IsUpdateOf fie
       record {
         differs = λ same. false≢true (sym fails ∙ same_field of.write.path.field other (of.field_is ∙ sym same));
         related = subst (λ (f : FieldRef). IsTrue (are_related spec.base other.structure f.structure)) of.field_is
-        (not-false (are_related spec.base other.structure of.write.path.field.structure)
-        (none_of (λ w. not (are_related spec.base other.structure w.path.field.structure)) update.writes parts.1 of.write its_own));
+            (not-false (are_related spec.base other.structure of.write.path.field.structure)
+            (none_of (λ w. not (are_related spec.base other.structure w.path.field.structure)) update.writes parts.1 of.write its_own));
       }
 
 -- ---- a put

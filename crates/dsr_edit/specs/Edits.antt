@@ -1,5 +1,5 @@
 -- Groups of writes: which can be made, what they leave, and why one isn't made.
-use Rattle.std.specs.Prelude.{◌≡◌, ◌≢◌, ◌<◌, ◌^◌, ℕ, Bool, false, is_some, List, [], ◌∷◌, All, Option, None, Some, slice_get, unwrap_or}
+use Rattle.std.specs.Prelude.{◌≡◌, ◌<◌, ◌^◌, ℕ, false, is_some, List, [], ◌∷◌, Some, slice_get, unwrap_or}
 use Rattle.dsr_edit.specs.declared.faults.EditFault.{EditFault}
 use Rattle.dsr_edit.specs.declared.faults.EditFault.TheVariants as faults
 use Rattle.dsr_edit.specs.declared.groups.CellWrite.{CellWrite}

@@ -11,7 +11,8 @@ use Rattle.dsr_step_theory.specs.Images.{IsImageOf}
 use Rattle.dsr_step_theory.specs.Puts.{IsPut}
 
 -- putting the value that was there into the cell at the place leads on
-pub record IsTakenBack (puts : List CellPut) (was : List ℕ) (place : ℕ) (now before : List ℕ) : Type 0 where
+pub record IsTakenBack (puts : List CellPut) (was : List ℕ) (place : ℕ)
+    (now before : List ℕ) : Type 0 where
   pub put : CellPut
   pub put_is : slice_get puts place ≡ Some put
   pub value : ℕ
@@ -23,7 +24,8 @@ pub record IsTakenBack (puts : List CellPut) (was : List ℕ) (place : ℕ) (now
 abbrev pub LeadsBack : List CellPut → List ℕ → ℕ → List ℕ → List ℕ → Type 0
 LeadsBack puts was zero now first = now ≡ first
 LeadsBack puts was (suc place) now first =
-    (before : List ℕ) × IsTakenBack puts was place now before × LeadsBack puts was place before first
+    (before : List ℕ) × IsTakenBack puts was place now before
+    × LeadsBack puts was place before first
 
 -- between two writes of a group: the model is that of the image, where it was changed with it
 pub record IsBetween (spec : Spec) (layout : Layout) (resolved : List Resolved) (bytes : List ℕ)

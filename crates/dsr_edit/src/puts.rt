@@ -29,8 +29,8 @@ fn value_at(was: &[u64], place: usize) -> u64
     was[place]
 }
 
-// Puts a value into the cell of a write, and changes the model by what that touched, where no member of
-// a premise came or went. Whether the model is that of the image then.
+// Puts a value into the cell of a write, and changes the model by what that touched, where no member
+// of a premise came or went. Whether the model is that of the image then.
 fn put_one(
     spec: &Spec,
     layout: &Layout,
@@ -76,9 +76,9 @@ fn settle(
     }
 }
 
-/// Puts the values of writes into their cells, one after the other, and notes in `was` the values that
-/// were there. The model is that of the image then: it is built anew only where it wasn't changed with
-/// each of the writes.
+/// Puts the values of writes into their cells, one after the other, and notes in `was` the values
+/// that were there. The model is that of the image then: it is built anew only where it wasn't
+/// changed with each of the writes.
 pub fn put_noting(
     spec: &Spec,
     layout: &Layout,
@@ -101,13 +101,22 @@ pub fn put_noting(
         let put = put_at(puts, place);
         let noted = image.get(&put.cell);
         was[place] = noted;
-        changed = put_one(spec, layout, rules, image, model, changed, put, put.write.value);
+        changed = put_one(
+            spec,
+            layout,
+            rules,
+            image,
+            model,
+            changed,
+            put,
+            put.write.value,
+        );
     }
     settle(spec, layout, rules, image, model, changed);
 }
 
-/// Puts the values that were there into the cells of writes, the last one first. The model is that of
-/// the image then.
+/// Puts the values that were there into the cells of writes, the last one first. The model is that
+/// of the image then.
 pub fn put_back(
     spec: &Spec,
     layout: &Layout,
@@ -120,7 +129,8 @@ pub fn put_back(
     requires between { IsBetween spec.now layout.now rules.now image.old model.old true }
     requires ready { AreReady spec.now layout.now puts.now }
     requires room { length was.now ≡ length puts.now }
-    requires back { (first : List ℕ) × LeadsBack puts.now was.now (length puts.now) image.old first }
+    requires back { (first : List ℕ)
+        × LeadsBack puts.now was.now (length puts.now) image.old first }
     ensures back { (first : List ℕ) → LeadsBack puts.now was.now (length puts.now) image.old first
         → image.new ≡ first }
     ensures between { IsBetween spec.now layout.now rules.now image.new model.new true }

@@ -1,5 +1,5 @@
-// Writes that are to be put, each seen as that of a step by an update: what such a step touches rests
-// on its field, its record and its entry alone.
+// Writes that are to be put, each seen as that of a step by an update: what such a step touches
+// rests on its field, its record and its entry alone.
 ghost use Rattle.std.specs.Prelude.{IfOk};
 ghost use Rattle.dsr_edit.specs.Updates.{IsStepOf, IsUpdateOf};
 

@@ -1,4 +1,4 @@
-use Rattle.std.proofs.Common.{◌≡◌, length, subst, sym, ◌+◌}
+use Rattle.std.proofs.Common.{subst, sym, ◌+◌}
 use Rattle.dsr_edit.proofs.Judged.{ArePutTo, first_unwritable, puts_begin, puts_end, puts_more}
 use Rattle.dsr_edit.proofs.cells.puts_of.Goals as goal
 

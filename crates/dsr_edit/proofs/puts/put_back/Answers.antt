@@ -1,4 +1,4 @@
-use Rattle.std.proofs.Common.{◌≡◌, ◌<◌, ◌≤◌, ◌-◌, ℕ, suc, length, arith}
+use Rattle.std.proofs.Common.{◌≡◌, ◌-◌, ℕ, suc, arith}
 use Rattle.dsr_edit.proofs.Stepping.{cell_there}
 use Rattle.dsr_edit.proofs.Taking.{ready_at, taken_fits, taking_begins, taking_ends, taking_more}
 use Rattle.dsr_edit.proofs.puts.put_back.Goals as goal

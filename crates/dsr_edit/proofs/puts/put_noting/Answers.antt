@@ -1,4 +1,3 @@
-use Rattle.std.proofs.Common.{◌<◌, ◌≤◌, ◌^◌, length, subst, arith}
 use Rattle.dsr_edit.proofs.Stepping.{cell_there}
 use Rattle.dsr_edit.proofs.Taking.{noting_back, noting_begins, noting_made, noting_more, ready_at}
 use Rattle.dsr_edit.proofs.puts.put_noting.Goals as goal

@@ -1,5 +1,5 @@
 -- A record has the entries of its fields, and their cells lie in the image.
-use Rattle.std.proofs.Common.{◌≡◌, ◌<◌, ◌≤◌, ◌+◌, ◌-◌, ◌*◌, ◌^◌, ◌∙◌, ℕ, Bool, true, false, nat_eq, nat_lt, List, length, Option, None, Some, IsSome, IsSomeAnd, MatchBool, slice_get, unwrap_or, inl, inr, refl, sym, ap, subst, arith}
+use Rattle.std.proofs.Common.{◌≡◌, ◌<◌, ◌≤◌, ◌+◌, ◌-◌, ◌*◌, ◌^◌, ◌∙◌, ℕ, true, false, nat_eq, nat_lt, List, length, Option, None, Some, IsSome, IsSomeAnd, MatchBool, slice_get, inl, refl, sym, ap, subst, arith}
 use Rattle.std.specs.Prelude.{if◌then◌else◌, option_map}
 use Rattle.std.proofs.lemmas.Bool.{ne_eqb}
 use Rattle.std.proofs.lemmas.Bool.Decides.{nat_tests}
@@ -31,13 +31,13 @@ use Rattle.dsr_meaning.proofs.Items.{item_there, of_all, place_of}
 use Rattle.dsr_meaning.proofs.Options.{some_and, some_of}
 use Rattle.dsr_meaning.specs.Cells.{IsCellOf, cell_of, placed_cell, record_start, width_bits}
 use Rattle.dsr_meaning.specs.FixedFields.{fixed_value}
-use Rattle.dsr_meaning.specs.Instances.{declared_field, record_count}
+use Rattle.dsr_meaning.specs.Instances.{record_count}
 use Rattle.dsr_meaning.specs.Legal.{HasBits, HasEntry, IsLegalLayout, entry_count}
 use Rattle.dsr_meaning.specs.Places.{size_of}
 use Rattle.dsr_meaning.specs.Refusals.{IsLayoutOf}
 use Rattle.dsr_meaning.specs.Truth.{head}
 use Rattle.dsr_meaning.specs.Typed.{IsPoolNumber, IsTyped, IsTypedSet, Descends}
-use Rattle.dsr_report_read.specs.Forms.{IsOfPool, IsPoolField, IsTop}
+use Rattle.dsr_report_read.specs.Forms.{IsPoolField, IsTop}
 use Rattle.dsr_report_read.specs.Forms.IsTop.{of_head, of_pool, of_set}
 use Rattle.dsr_resolve.proofs.Descent.{descended_end}
 use Rattle.dsr_resolve.proofs.Entries.{numbers_of}

@@ -3,3 +3,5 @@ pub mod Made
 pub mod Taking
 pub mod Outcomes
 pub mod Judged
+pub mod Untouched
+pub mod Stepping

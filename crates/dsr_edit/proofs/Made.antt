@@ -1,39 +1,23 @@
 -- A group of writes that is made leaves an image on the same layout, which differs only in the cells
 -- of the fields that it writes.
-use Rattle.std.proofs.Common.{◌≡◌, ◌≤◌, ◌<◌, ◌+◌, ◌*◌, ◌^◌, ◌∙◌, ℕ, true, false, List, [], ◌∷◌, All, length, map, IsSomeAnd, Some, inl, inr, refl, sym, ap, subst, arith}
-use Rattle.std.proofs.lemmas.List.Elements.{All-cons, All-nil}
+use Rattle.std.proofs.Common.{◌≡◌, ◌∙◌, ℕ, false, List, [], ◌∷◌, length, map, IsSomeAnd, Some, inl, inr, refl, sym, ap, subst}
 use Rattle.dsr_affected_laws.proofs.Keeping.{layout_stays}
 use Rattle.dsr_affected_laws.proofs.Writing.{more_differ, none_differ, one_differs}
 use Rattle.dsr_affected_laws.specs.Differing.{AreAlikeBut, AreFree, DifferOnlyIn}
-use Rattle.dsr_edit.proofs.Entries.{cell_at, cell_in}
-use Rattle.dsr_edit.specs.Edits.{AreMade, ArePutsOf, MayWrite, MayWriteSome, entry_of}
+use Rattle.dsr_edit.proofs.Entries.{cell_at}
+use Rattle.dsr_edit.specs.Edits.{AreMade, MayWriteSome, entry_of}
 use Rattle.dsr_edit.specs.Edits.AreMade.{done, made}
-use Rattle.dsr_edit.specs.Puts.{AreCellsOf, IsPutOf}
 use Rattle.dsr_edit.specs.declared.groups.CellWrite.{CellWrite}
 use Rattle.dsr_ir.specs.declared.declarations.Field.{Field}
 use Rattle.dsr_ir.specs.declared.declarations.FieldRef.{FieldRef}
 use Rattle.dsr_ir.specs.declared.declarations.Spec.{Spec}
-use Rattle.dsr_ir.specs.declared.layouts.Cell.{Cell}
 use Rattle.dsr_ir.specs.declared.layouts.Layout.{Layout}
-use Rattle.dsr_meaning.specs.Cells.{IsCellOf}
 use Rattle.dsr_meaning.specs.Counting.{IsIn}
 use Rattle.dsr_meaning.specs.Instances.{declared_field}
-use Rattle.dsr_meaning.specs.Legal.{IsLegalLayout}
 use Rattle.dsr_meaning.specs.Writes.{AreBytes}
 use Rattle.dsr_resolve.proofs.AcceptedLayouts.{legal_of}
 use Rattle.dsr_step_theory.specs.Images.{IsImageOf}
-use Rattle.dsr_step_theory.specs.Puts.{ArePut, IsPut}
-use Rattle.dsr_step_theory.specs.Puts.ArePut.{done as none_put, put}
 use Rattle.dsr_fixpoint.specs.Models.{IsLaidOut}
-
--- ---- cells
-
-cell_kept : (old new : List ℕ) → length new ≡ length old → (cell : Cell) → IsCellOf old cell → IsCellOf new cell
-cell_kept old new long cell is = let within = is.within in record { form = is.form; within = omega (arith, within, long) }
-
-pub cells_kept : (old new : List ℕ) → length new ≡ length old → (cells : List (Cell × ℕ)) → AreCellsOf old cells → AreCellsOf new cells
-cells_kept old new long [] are = tt
-cells_kept old new long (c ∷ cells) are = ((cell_kept old new long c.0 are.0.0, are.0.1), cells_kept old new long cells are.1)
 
 pub layout_laid_out : (spec : Spec) (layout : Layout) (bytes : List ℕ) → IsImageOf spec layout bytes → IsLaidOut spec layout bytes
 layout_laid_out spec layout bytes image = record {
@@ -42,28 +26,6 @@ layout_laid_out spec layout bytes image = record {
   legal = legal_of spec bytes layout image.layout_is image.typed image.small;
   small = image.small;
 }
-
-module _ (spec : Spec) (layout : Layout) (bytes : List ℕ) (image : IsImageOf spec layout bytes) where
-  legal : IsLegalLayout layout
-  legal = legal_of spec bytes layout image.layout_is image.typed image.small
-
-  -- the cells of a group lie in the image, and its values fit them
-  pub puts_in : (group : List CellWrite) (cells : List (Cell × ℕ)) → ArePutsOf spec layout group cells → AreCellsOf bytes cells
-  puts_in [] [] are = tt
-  puts_in [] (c ∷ cells) are = absurd are
-  puts_in (w ∷ group) [] are = absurd are
-  puts_in (w ∷ group) (c ∷ cells) are =
-      let value = are.1 in
-      ((cell_in spec bytes layout image.layout_is image.typed legal w c.0 are.0, subst (λ v. v < 2 ^ c.0.width) (sym value) are.0.fits), puts_in group cells are.2)
-
--- ---- what is made
-
-pub made_by : (spec : Spec) (layout : Layout) (group : List CellWrite) (cells : List (Cell × ℕ)) (old new : List ℕ) → ArePutsOf spec layout group cells → ArePut cells old new → AreMade spec layout group old new
-made_by spec layout [] [] old new are none_put = done
-made_by spec layout [] (c ∷ cells) old new are puts = absurd are
-made_by spec layout (w ∷ group) [] old new are puts = absurd are
-made_by spec layout (w ∷ group) (c ∷ cells) old new are (put {middle = m} cell value one rest) =
-    made w cell are.0 (subst (λ v. IsPut cell v old m) are.1 one) (made_by spec layout group cells m new are.2 rest)
 
 module _ (spec : Spec) (layout : Layout) where
   pub each_may : (group : List CellWrite) (old new : List ℕ) → AreMade spec layout group old new → (write : CellWrite) → IsIn write group → MayWriteSome spec layout write

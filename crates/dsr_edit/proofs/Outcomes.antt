@@ -1,17 +1,15 @@
 -- What a model of the image after a group tells of it.
-use Rattle.std.proofs.Common.{◌≡◌, ◌<◌, ◌↔◌, ℕ, true, false, nat_eq, List, [], ◌∷◌, length, map, Some, slice_get, refl, sym, ap, subst, ◌∙◌, arith}
+use Rattle.std.proofs.Common.{◌≡◌, ℕ, true, false, nat_eq, List, [], ◌∷◌, length, map, refl, sym, ap, subst, ◌∙◌, arith}
 use Rattle.std.proofs.lemmas.Bool.{eqb-true, false≢true}
 use Rattle.dsr_affected.specs.Marking.{AreAffected}
 use Rattle.dsr_affected_laws.proofs.Violated.{first_of_all, still_consistent}
-use Rattle.dsr_edit.proofs.Made.{alike, made_by}
-use Rattle.dsr_edit.specs.Edits.{AreMade, ArePutsOf, IsEditFault, IsFirstViolation, IsUnwritable}
+use Rattle.dsr_edit.proofs.Made.{alike}
+use Rattle.dsr_edit.specs.Edits.{AreMade, IsEditFault, IsFirstViolation, IsUnwritable}
 use Rattle.dsr_edit.specs.declared.faults.EditFault.{EditFault}
 use Rattle.dsr_edit.specs.declared.faults.EditFault.TheVariants as faults
-use Rattle.dsr_ir.specs.declared.layouts.Cell.{Cell}
-use Rattle.dsr_step_theory.specs.Puts.{ArePut}
 use Rattle.dsr_edit.specs.declared.groups.CellWrite.{CellWrite}
 use Rattle.dsr_fixpoint.proofs.Bridged.{same_facts}
-use Rattle.dsr_fixpoint.proofs.SameFacts.{AreSame, same_violations, turned, violated_same}
+use Rattle.dsr_fixpoint.proofs.SameFacts.{same_violations, turned, violated_same}
 use Rattle.dsr_fixpoint.specs.Models.{IsModelOf, IsPreparedFor}
 use Rattle.dsr_ir.specs.declared.declarations.FieldRef.{FieldRef}
 use Rattle.dsr_ir.specs.declared.declarations.Spec.{Spec}
@@ -21,7 +19,6 @@ use Rattle.dsr_ir.specs.declared.tuples.Fact.{Fact}
 use Rattle.dsr_meaning.specs.Consistency.{AreViolations, BoundConstraint, IsConsistent, IsFirstViolated, IsViolated, NoneIsViolated, bound_constraint}
 use Rattle.dsr_meaning.specs.Counting.{IsIn}
 use Rattle.dsr_meaning.specs.Models.{IsFact}
-use Rattle.dsr_meaning.specs.Orders.{BindingPrecedes}
 use Rattle.dsr_model.specs.Facts.{IsInModel}
 use Rattle.dsr_model.specs.Views.{ModelView}
 use Rattle.dsr_step_theory.specs.Images.{IsImageOf}
@@ -78,10 +75,7 @@ no_items (x ∷ xs) e = let none : length (x ∷ xs) ≡ 0 = eqb-true (length (x
 pub some_items : {A : Type 0} (xs : List A) → nat_eq (length xs) 0 ≡ false → xs ≡ [] → ⊥
 some_items xs e none = let same : nat_eq (length xs) 0 ≡ true = ap (λ ys. nat_eq (length ys) 0) none in false≢true (sym e ∙ same)
 
--- ---- a group that was put
-
-pub group_made : (spec : Spec) (layout : Layout) (group : List CellWrite) (puts slice : List (Cell × ℕ)) (old new : List ℕ) → slice ≡ puts → ArePutsOf spec layout group puts → ArePut slice old new → AreMade spec layout group old new
-group_made spec layout group puts slice old new same are one = made_by spec layout group puts old new are (subst (λ p. ArePut p old new) same one)
+-- ---- a group that is refused
 
 -- why a group wasn't prepared is why it isn't made
 pub refused_as : (spec : Spec) (layout : Layout) (group : List CellWrite) (old : List ℕ) (fault : EditFault) → IsUnwritable spec layout group fault → IsEditFault spec layout group old fault

@@ -1,5 +1,5 @@
 -- Groups of writes: which can be made, what they leave, and why one isn't made.
-use Rattle.std.specs.Prelude.{◌≡◌, ◌≢◌, ◌<◌, ◌^◌, ℕ, Bool, false, is_some, List, [], ◌∷◌, All, Option, None, Some, slice_get, unwrap_or}
+use Rattle.std.specs.Prelude.{◌≡◌, ◌<◌, ◌^◌, ℕ, false, is_some, List, [], ◌∷◌, Some, slice_get, unwrap_or}
 use Rattle.dsr_edit.specs.declared.faults.EditFault.{EditFault}
 use Rattle.dsr_edit.specs.declared.faults.EditFault.TheVariants as faults
 use Rattle.dsr_edit.specs.declared.groups.CellWrite.{CellWrite}
@@ -63,13 +63,6 @@ pub data AreMade (spec : Spec) (layout : Layout) : List CellWrite → List ℕ �
 pub record IsEdited (spec : Spec) (layout : Layout) (group : List CellWrite) (old new : List ℕ) : Type 0 where
   pub made : AreMade spec layout group old new
   pub consistent : IsConsistent spec layout new
-
--- the cells of the writes with their values, where each can be made
-abbrev pub ArePutsOf : Spec → Layout → List CellWrite → List (Cell × ℕ) → Type 0
-ArePutsOf spec layout [] [] = Unit {0}
-ArePutsOf spec layout (write ∷ rest) (put ∷ puts) =
-    MayWrite spec layout write put.0 × (put.1 ≡ write.value) × ArePutsOf spec layout rest puts
-ArePutsOf spec layout _ _ = ⊥
 
 -- ---- why a group isn't made
 

@@ -3,3 +3,4 @@ pub mod Opened
 pub mod Prepared
 pub mod Puts
 pub mod Sessions
+pub mod Updates

@@ -1,7 +1,7 @@
 -- What was prepared for a group.
 use Rattle.std.specs.Prelude.{◌≡◌, List, length, map}
 use Rattle.dsr_affected.specs.Marking.{AreAffected}
-use Rattle.dsr_edit.specs.Edits.{ArePutsOf}
+use Rattle.dsr_edit.specs.Updates.{AreReady, writes_of}
 use Rattle.dsr_edit.specs.declared.groups.CellWrite.{CellWrite}
 use Rattle.dsr_edit.specs.declared.preparing.Prepared.{Prepared}
 use Rattle.dsr_ir.specs.declared.declarations.Spec.{Spec}
@@ -11,6 +11,7 @@ use Rattle.dsr_ir.specs.declared.layouts.Layout.{Layout}
 -- which they may bear
 pub record IsPreparedGroup (spec : Spec) (layout : Layout) (group : List CellWrite)
     (prepared : Prepared) : Type 0 where
-  pub puts : ArePutsOf spec layout group prepared.puts.items
-  pub room : length prepared.undo.items ≡ length prepared.puts.items
+  pub writes : writes_of prepared.puts.items ≡ group
+  pub ready : AreReady spec layout prepared.puts.items
+  pub room : length prepared.was.items ≡ length prepared.puts.items
   pub order : AreAffected spec (map (λ write. write.field) group) prepared.order.items

@@ -1,6 +1,7 @@
 // The cells that writes name.
 ghost use Rattle.std.specs.Prelude.{◌≡◌, ◌<◌, ◌^◌, nat_lt, Decides, IfErr, IfOk, MatchOption, Some, length, slice_get};
-ghost use Rattle.dsr_edit.specs.Edits.{ArePutsOf, IsEntryPlace, IsUnwritable, MayWrite, MayWriteSome};
+ghost use Rattle.dsr_edit.specs.Edits.{IsEntryPlace, IsUnwritable, MayWrite, MayWriteSome};
+ghost use Rattle.dsr_edit.specs.Updates.{AreReady, writes_of};
 ghost use Rattle.dsr_ir.specs.declared.declarations.Field as fields;
 ghost use Rattle.dsr_ir.specs.declared.layouts.Cell as cells;
 ghost use Rattle.dsr_ir.specs.declared.layouts.FieldPlace as places;
@@ -13,6 +14,7 @@ ghost use Rattle.dsr_meaning.specs.Legal.{IsLegalLayout};
 
 use crate::faults::EditFault;
 use crate::groups::CellWrite;
+use crate::updates::{CellPut, update_of};
 use dsr_ir::{Cell, Field, FieldPlace, Layout, Spec, Width};
 use dsr_layout::{cell, field_place, record_count};
 use dsr_report_read::{has_name, is_of_pool};
@@ -120,27 +122,33 @@ fn write_at(group: &[CellWrite], place: usize) -> CellWrite
     group[place]
 }
 
-/// The cells of a group with their values, where each of its writes can be made. `Cell` tells the
-/// first one that can't.
+/// The writes of a group as they are put, where each of them can be made. `Cell` tells the first one
+/// that can't.
 pub fn puts_of(
     alloc: Global,
     spec: &Spec,
     layout: &Layout,
     group: &[CellWrite],
-) -> Result<Vec<(Cell, u64)>, EditFault>
+) -> Result<Vec<CellPut>, EditFault>
     requires typed { IsTyped spec.now }
     requires layout { IsLayoutFor spec.now layout.now }
     requires legal { IsLegalLayout layout.now }
-    ensures puts { IfOk result (λ puts. ArePutsOf spec.now layout.now group.now puts.items) }
+    ensures writes { IfOk result (λ puts. writes_of puts.items ≡ group.now) }
+    ensures ready { IfOk result (λ puts. AreReady spec.now layout.now puts.items) }
     ensures refused { IfErr result (IsUnwritable spec.now layout.now group.now) }
 {
     let mut puts = Vec::with_capacity(alloc, group.len())?;
     for place in 0..group.len() {
         let write = write_at(group, place);
-        match cell_for(spec, layout, &write) {
-            Some(cell) => puts.push((cell, write.value))?,
-            None => return Err(EditFault::Cell(place as u64)),
-        }
+        let Some(cell) = cell_for(spec, layout, &write) else {
+            return Err(EditFault::Cell(place as u64));
+        };
+        let update = update_of(alloc, &write)?;
+        puts.push(CellPut {
+            write,
+            cell,
+            update,
+        })?;
     }
     Ok(puts)
 }

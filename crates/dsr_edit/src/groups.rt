@@ -23,3 +23,10 @@ pub fn fields_of(alloc: Global, group: &[CellWrite]) -> Result<Vec<FieldRef>, No
 {
     Ok(group.iter().map(|write| write.field).collect(alloc)?)
 }
+
+/// The values that a group writes.
+pub fn values_of(alloc: Global, group: &[CellWrite]) -> Result<Vec<u64>, NoMemory>
+    ensures { IfOk result (λ values. values.items ≡ map (λ write. write.value) group.now) }
+{
+    Ok(group.iter().map(|write| write.value).collect(alloc)?)
+}

@@ -9,6 +9,7 @@ mod making;
 mod preparing;
 mod puts;
 mod session;
+mod updates;
 
 pub use faults::{EditFault, OpenFault};
 pub use groups::CellWrite;

@@ -8,17 +8,18 @@ ghost use Rattle.dsr_meaning.specs.Consistency.{bound_constraint};
 use crate::faults::EditFault;
 use crate::groups::CellWrite;
 use crate::preparing::{Prepared, prepare};
-use crate::puts::{put_all, put_noting};
-use dsr_fixpoint::rebuild;
+use crate::puts::{put_back, put_noting};
+use crate::updates::CellPut;
 use dsr_image::Whole;
-use dsr_ir::{Binding, Cell, Layout, Spec};
+use dsr_ir::{Binding, Layout, Spec};
 use dsr_model::Model;
 use dsr_resolve::ResolvedRules;
 use dsr_truth::first_violated;
 use std::alloc::Global;
 
 // Makes the writes of a group, and takes them back where a constraint is violated then: the first one
-// with the least of its violated bindings.
+// with the least of its violated bindings. The model is changed with each write, or built anew where
+// some write made a member of a premise come or go.
 fn make(
     spec: &Spec,
     layout: &Layout,
@@ -37,13 +38,12 @@ fn make(
         × (image.new ≡ image.old)) }
 {
     let mut prepared = prepared;
-    let undo: &mut [(Cell, u64)] = &mut prepared.undo;
-    put_noting(image, &prepared.puts, undo);
-    rebuild(model, spec, layout, rules, image);
+    let was: &mut [u64] = &mut prepared.was;
+    let puts: &[CellPut] = &prepared.puts;
+    put_noting(spec, layout, rules, image, model, puts, was);
     match first_violated(model, spec, &prepared.order) {
         Some(found) => {
-            put_all(image, undo);
-            rebuild(model, spec, layout, rules, image);
+            put_back(spec, layout, rules, image, model, puts, was);
             Some(found)
         }
         None => None,

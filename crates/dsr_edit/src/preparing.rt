@@ -8,19 +8,19 @@ ghost use Rattle.dsr_model.specs.Views.{IsLayoutFor};
 
 use crate::cells::puts_of;
 use crate::faults::EditFault;
-use crate::groups::{CellWrite, fields_of};
-use crate::puts::copied_puts;
+use crate::groups::{CellWrite, fields_of, values_of};
+use crate::updates::CellPut;
 use dsr_affected::affected_constraints;
-use dsr_ir::{Cell, Layout, Spec};
+use dsr_ir::{Layout, Spec};
 use std::alloc::Global;
 
 /// All that a group needs, before its first write.
 #[derive(Drop)]
 pub struct Prepared {
-    /// The cells that are written, with their values.
-    pub puts: Vec<(Cell, u64)>,
-    /// Room for what takes the writes back.
-    pub undo: Vec<(Cell, u64)>,
+    /// The writes with their cells.
+    pub puts: Vec<CellPut>,
+    /// Room for the values that take the writes back.
+    pub was: Vec<u64>,
     /// The constraints on which the writes may bear.
     pub order: Vec<u32>,
 }
@@ -41,6 +41,6 @@ pub fn prepare(
     let puts = puts_of(alloc, spec, layout, group)?;
     let fields = fields_of(alloc, group)?;
     let order = affected_constraints(alloc, spec, &fields)?;
-    let undo = copied_puts(alloc, &puts)?;
-    Ok(Prepared { puts, undo, order })
+    let was = values_of(alloc, group)?;
+    Ok(Prepared { puts, was, order })
 }

@@ -1,4 +1,4 @@
-use Rattle.std.proofs.Common.{length, take, arith, sym, ◌∙◌, ◌<◌, ◌≤◌}
+use Rattle.std.proofs.Common.{length, arith, ◌∙◌, ◌<◌, ◌≤◌}
 use Rattle.std.proofs.lemmas.List.{take_more}
 use Rattle.dsr_edit.proofs.Taking.{take_whole}
 use Rattle.dsr_edit.proofs.puts.copied.Goals as goal

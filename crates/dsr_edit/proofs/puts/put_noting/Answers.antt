@@ -1,36 +1,34 @@
-use Rattle.std.proofs.Common.{◌<◌, ◌≤◌, ◌^◌, drop, set, refl, subst, sym, ap, ◌∙◌, suc, ◌-◌, ◌+◌, arith}
-use Rattle.dsr_edit.specs.Puts.{AreCellsOf}
-use Rattle.dsr_edit.proofs.Taking.{IsNoting, drop_got, noting_back, noting_begins, noting_cells, noting_made, noting_more}
+use Rattle.dsr_edit.proofs.Stepping.{cell_there}
+use Rattle.dsr_edit.proofs.Taking.{noting_back, noting_begins, noting_made, noting_more, ready_at}
 use Rattle.dsr_edit.proofs.puts.put_noting.Goals as goal
 
 pub loop-place-init : goal.loop-place-init
-loop-place-init c = noting_begins c.args.puts.now c.args.undo.now c.args.image.now c.requires.room c.requires.bytes c.requires.cells
+loop-place-init c = noting_begins c.args.spec.now c.args.layout.now c.args.rules.now c.args.puts.now c.args.was.now c.args.image.now c.args.model.now c.requires.room c.requires.between
+
+pub get-noted-requires : goal.get-noted-requires
+get-noted-requires c =
+    let ready = ready_at c.args.spec.now c.args.layout.now c.args.puts.now c.loop-place.place c.put_at-put.result.now c.put_at-put.ensures c.requires.ready in
+    cell_there c.args.spec.now c.args.layout.now c.loop-place.image c.put_at-put.result.now c.loop-place.invariant.between.image ready
+
+pub put_one-changed-requires : goal.put_one-changed-requires
+put_one-changed-requires c =
+    let ready = ready_at c.args.spec.now c.args.layout.now c.args.puts.now c.loop-place.place c.put_at-put.result.now c.put_at-put.ensures c.requires.ready in
+    record { between = c.loop-place.invariant.between; ready = ready; fits = ready.may.fits }
 
 pub loop-place-preserved : goal.loop-place-preserved
 loop-place-preserved c =
-    let is = drop_got c.args.puts.now c.loop-place.place c.put_at-put.result c.put_at-put.ensures in
-    let cells = subst (AreCellsOf c.loop-place.image) is c.loop-place.invariant.putting.cells in
-    subst (λ v. IsNoting c.args.puts.now (c.loop-place.place + 1) (set c.loop-place.undo (c.loop-place.left - 1) (c.put_at-put.result.0, v)) (c.loop-place.left - 1) c.args.image.now c.put.new.self) (sym c.get-was.ensures.value)
-    (noting_more c.args.puts.now c.loop-place.undo c.loop-place.place c.loop-place.left (c.loop-place.left - 1) c.args.image.now c.loop-place.image c.put.new.self c.put_at-put.result
-    (omega (arith, c.loop-place.invariant.left_is, c.loop-place-test.true)) c.loop-place-test.true is c.loop-place.invariant cells.0.0 (subst (λ v. v < 2 ^ c.put_at-put.result.0.width) c.get-was.ensures.value c.get-was.ensures.fits) (record { puts = c.put.ensures.put; beside = c.put.ensures.beside; bytes = c.put.ensures.bytes }))
+    let ready = ready_at c.args.spec.now c.args.layout.now c.args.puts.now c.loop-place.place c.put_at-put.result.now c.put_at-put.ensures c.requires.ready in
+    noting_more c.args.spec.now c.args.layout.now c.args.rules.now c.args.puts.now c.loop-place.place c.loop-place.was c.args.image.now c.loop-place.image c.put_one-changed.new.image c.loop-place.model c.put_one-changed.new.model c.loop-place.changed c.put_one-changed.result c.put_at-put.result.now
+    c.put_at-put.ensures c.loop-place-test.true ready.may c.get-noted.result c.get-noted.ensures.value c.get-noted.ensures.fits
+    c.put_one-changed.ensures.put c.put_one-changed.ensures.between c.loop-place.invariant
 
-pub get-was-requires : goal.get-was-requires
-get-was-requires c = (subst (AreCellsOf c.loop-place.image) (drop_got c.args.puts.now c.loop-place.place c.put_at-put.result c.put_at-put.ensures) c.loop-place.invariant.putting.cells).0.0
+pub settle-requires : goal.settle-requires
+settle-requires c = record { between = c.loop-place.invariant.between }
 
-pub put-requires-clause-cell : goal.put-requires-clause-cell
-put-requires-clause-cell c = (subst (AreCellsOf c.loop-place.image) (drop_got c.args.puts.now c.loop-place.place c.put_at-put.result c.put_at-put.ensures) c.loop-place.invariant.putting.cells).0.0
-
-pub put-requires-clause-claimed : goal.put-requires-clause-claimed
-put-requires-clause-claimed c = λ j from before. refl
-
-pub put-requires-clause-fits : goal.put-requires-clause-fits
-put-requires-clause-fits c = (subst (AreCellsOf c.loop-place.image) (drop_got c.args.puts.now c.loop-place.place c.put_at-put.result c.put_at-put.ensures) c.loop-place.invariant.putting.cells).0.1
-
-pub returns-clause-made : goal.returns-clause-made
-returns-clause-made c = noting_made c.args.puts.now c.loop-place.undo c.loop-place.place c.loop-place.left c.args.image.now c.loop-place.image c.loop-place-test.false c.loop-place.invariant
-
-pub returns-clause-back : goal.returns-clause-back
-returns-clause-back c = noting_back c.args.puts.now c.loop-place.undo c.loop-place.place c.loop-place.left c.args.image.now c.loop-place.image c.loop-place-test.false c.loop-place.invariant
-
-pub returns-clause-cells : goal.returns-clause-cells
-returns-clause-cells c = noting_cells c.args.puts.now c.loop-place.undo c.loop-place.place c.loop-place.left c.args.image.now c.loop-place.image c.loop-place-test.false c.loop-place.invariant
+pub returns : goal.returns
+returns c = record {
+  made = noting_made c.args.spec.now c.args.layout.now c.args.rules.now c.args.puts.now c.loop-place.place c.loop-place.was c.args.image.now c.loop-place.image c.loop-place.model c.loop-place.changed c.loop-place-test.false c.loop-place.invariant;
+  room = c.loop-place.invariant.room;
+  back = noting_back c.args.spec.now c.args.layout.now c.args.rules.now c.args.puts.now c.loop-place.place c.loop-place.was c.args.image.now c.loop-place.image c.loop-place.model c.loop-place.changed c.loop-place-test.false c.loop-place.invariant;
+  between = c.settle.ensures.between;
+}

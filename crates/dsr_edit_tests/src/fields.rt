@@ -40,9 +40,12 @@ fn add_own(
     requires typed { IsTyped spec.now }
 {
     for (field, its) in structure.fields.items().iter().enumerate() {
+        let Ok(field) = u32::try_from(field) else {
+            bail!("too many fields");
+        };
         let place = FieldRef {
             structure: number,
-            field: field as u32,
+            field,
         };
         add_field(text, alloc, spec, place, its.name.bytes())?;
     }

@@ -1,0 +1,68 @@
+// What is said of a whole specification.
+use crate::fields::push_fields;
+use crate::supplies::push_supplies;
+use crate::uses::{is_base_or_avoided, is_constrained, is_given, is_premise};
+use dsr_ir::{NoMemory, Spec, Symbol};
+use dsr_wording::{numbered, text_of};
+use std::alloc::Global;
+use std::fmt::Write;
+
+// Appends what is to be said of a set.
+fn push_set(text: &mut String, spec: &Spec, set: u32, name: &[u8]) -> Result<(), NoMemory> {
+    let name = text_of(name);
+    let (symbol, starts) = (Symbol::Set(set), is_premise(spec, set));
+    if !is_given(spec, symbol) {
+        write!(
+            text,
+            "set {name}: no rule gives it a member, so it is empty\n"
+        )?;
+        if starts {
+            write!(text, "set {name}: rules start from it, and never fire\n")?;
+        }
+    }
+    if !starts && !is_constrained(spec, symbol) && !is_base_or_avoided(spec, set) {
+        write!(
+            text,
+            "set {name}: no constraint speaks of it, and no rule starts from it\n"
+        )?;
+    }
+    Ok(())
+}
+
+// Appends what is to be said of the sets.
+fn push_sets(text: &mut String, spec: &Spec) -> Result<(), NoMemory> {
+    for (number, set) in spec.base.sets.items().iter().enumerate() {
+        if set.except.is_none() {
+            push_set(text, spec, numbered(number), set.name.bytes())?;
+        }
+    }
+    Ok(())
+}
+
+// Appends what is to be said of the relations.
+fn push_relations(text: &mut String, spec: &Spec) -> Result<(), NoMemory> {
+    for (number, rel) in spec.base.rels.items().iter().enumerate() {
+        let (symbol, name) = (Symbol::Relnumbered(number), text_of(rel.name.bytes()));
+        if !is_given(spec, symbol) {
+            write!(
+                text,
+                "relation {name}: no rule gives it a pair, so every bound on it holds\n"
+            )?;
+        }
+        if !is_constrained(spec, symbol) {
+            write!(text, "relation {name}: no constraint speaks of it\n")?;
+        }
+    }
+    Ok(())
+}
+
+/// What a specification says nothing about, a line each: sets, relations, fields, supplies, in
+/// order of declaration. It is empty where there is nothing to say.
+pub fn lint(alloc: Global, spec: &Spec) -> Result<String, NoMemory> {
+    let mut text = String::new(alloc);
+    push_sets(&mut text, spec)?;
+    push_relations(&mut text, spec)?;
+    push_fields(&mut text, spec)?;
+    push_supplies(&mut text, spec)?;
+    Ok(text)
+}

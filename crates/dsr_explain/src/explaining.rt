@@ -1,9 +1,11 @@
 // What an answer of `dsr` means, in words.
 ghost use Rattle.dsr_meaning.specs.Typed.{IsTyped};
 
+use crate::chains::chain_told;
 use crate::layouts::layout_told;
 use crate::plans::refusal_told;
 use crate::reading::{IMAGE_LIMIT, Meaning, SpecRead, loaded, read_spec};
+use crate::refusals::{certificate_refused, report_refused};
 use crate::reports::{members_told, report_told};
 use crate::violations::violations_told;
 use dsr_diagnosis::shown;
@@ -42,10 +44,10 @@ fn image_told(
     requires { IsTyped meaning.now.spec }
 {
     let mut text = String::new(alloc);
-    let copy = Vec::from_slice(alloc, &bytes)?;
     if bytes.len() as u64 > IMAGE_LIMIT {
         return Ok(text);
     }
+    let copy = Vec::from_slice(alloc, &bytes)?;
     match image_model(alloc, &meaning.spec, bytes) {
         Ok(image) => {
             write!(text, "{name}: error: the image is inconsistent\n")?;
@@ -144,6 +146,21 @@ fn repaired<F: Shelf>(
     Ok(text)
 }
 
+// By which rules a chain goes.
+fn chain_found<F: Shelf>(
+    alloc: Global,
+    shelf: &mut F,
+    name: &str,
+    out: &[u8],
+) -> Result<String, NoMemory> {
+    let SpecRead::Means(meaning) = read_spec(alloc, shelf, name)? else {
+        return Ok(String::new(alloc));
+    };
+    let mut text = String::new(alloc);
+    chain_told(&mut text, &meaning.text, &meaning.tree, text_of(out))?;
+    Ok(text)
+}
+
 const LONG_SPEC: &str = "a specification has at most 65,536 bytes\n";
 
 const LONG_IMAGE: &str =
@@ -151,12 +168,16 @@ const LONG_IMAGE: &str =
 
 const LONG_CERTIFICATE: &str = "a certificate has at most 1,048,576 bytes\n";
 
+const LONG_REPORT: &str = "a report has at most 67,108,864 bytes (64 MiB)\n";
+
 // Which file is too long.
 fn too_long(out: &[u8]) -> &'static str {
     if out.starts_with(b"too long spec") {
         LONG_SPEC
     } else if out.starts_with(b"too long image") {
         LONG_IMAGE
+    } else if out.starts_with(b"too long report") {
+        LONG_REPORT
     } else {
         LONG_CERTIFICATE
     }
@@ -164,6 +185,41 @@ fn too_long(out: &[u8]) -> &'static str {
 
 const USAGE: &str =
     "the words ask for nothing: no file has an empty name or one that begins with -, what is saved has another name than the specification, and N is a number up to 65535\n";
+
+// What the answer of a command means that did what it was asked for, or had no fresh record left.
+fn done<F: Shelf>(
+    alloc: Global,
+    shelf: &mut F,
+    words: &[String],
+    out: &[u8],
+) -> Result<String, NoMemory> {
+    match word(words, 0) {
+        "repair" => repaired(alloc, shelf, words, out),
+        "why" => chain_found(alloc, shelf, word(words, 1), out),
+        _ => Ok(String::new(alloc)),
+    }
+}
+
+// What a command's own verdict means.
+fn said<F: Shelf>(
+    alloc: Global,
+    shelf: &mut F,
+    words: &[String],
+    verdict: Verdict,
+    out: &[u8],
+) -> Result<String, NoMemory> {
+    let (spec, file) = (word(words, 1), word(words, 2));
+    match verdict {
+        Verdict::SpecRefused => spec_refused(alloc, shelf, spec),
+        Verdict::Inconsistent | Verdict::LayoutRefused => image_refused(alloc, shelf, spec, file),
+        Verdict::PlanRefused => plan_refused(alloc, shelf, spec, out),
+        Verdict::CertRefused => certificate_refused(alloc, file, text_of(out)),
+        Verdict::ReportRefused => report_refused(alloc, word(words, 3), text_of(out)),
+        Verdict::Usage => Ok(USAGE.to_string(alloc)?),
+        Verdict::Ok | Verdict::SupplyEmpty => done(alloc, shelf, words, out),
+        Verdict::EditRefused => Ok(String::new(alloc)),
+    }
+}
 
 /// What an answer means; nothing where it says so itself, or where only the system can tell why a
 /// file failed.
@@ -174,17 +230,8 @@ pub fn explained<F: Shelf>(
     status: &Status,
     out: &[u8],
 ) -> Result<String, NoMemory> {
-    let (spec, file) = (word(words, 1), word(words, 2));
     match status {
-        Status::Said(Verdict::SpecRefused) => spec_refused(alloc, shelf, spec),
-        Status::Said(Verdict::Inconsistent | Verdict::LayoutRefused) => {
-            image_refused(alloc, shelf, spec, file)
-        }
-        Status::Said(Verdict::PlanRefused) => plan_refused(alloc, shelf, spec, out),
-        Status::Said(Verdict::Ok | Verdict::SupplyEmpty) if word(words, 0) == "repair" => {
-            repaired(alloc, shelf, words, out)
-        }
-        Status::Said(Verdict::Usage) => Ok(USAGE.to_string(alloc)?),
+        Status::Said(verdict) => said(alloc, shelf, words, *verdict, out),
         Status::TooLong => Ok(too_long(out).to_string(alloc)?),
         _ => Ok(String::new(alloc)),
     }

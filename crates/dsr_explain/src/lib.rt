@@ -2,12 +2,14 @@
 //! layout, with numbers, which constraints are violated, with values; and what is shown of an image.
 #![tactic(auto)]
 
+mod chains;
 mod explaining;
 mod extents;
 mod layouts;
 mod listed;
 mod plans;
 mod reading;
+mod refusals;
 mod reports;
 mod showing;
 mod sources;

@@ -42,7 +42,7 @@ fn push_sets(text: &mut String, spec: &Spec) -> Result<(), NoMemory> {
 // Appends what is to be said of the relations.
 fn push_relations(text: &mut String, spec: &Spec) -> Result<(), NoMemory> {
     for (number, rel) in spec.base.rels.items().iter().enumerate() {
-        let (symbol, name) = (Symbol::Relnumbered(number), text_of(rel.name.bytes()));
+        let (symbol, name) = (Symbol::Rel(numbered(number)), text_of(rel.name.bytes()));
         if !is_given(spec, symbol) {
             write!(
                 text,

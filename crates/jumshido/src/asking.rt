@@ -4,35 +4,47 @@ use clap::ArgMatches;
 use dsr_ir::NoMemory;
 use std::alloc::Global;
 
-// A file's name as the other program takes it.
-fn file_name(name: &str) -> &str {
+/// The arguments of a command, in their order.
+pub fn arguments_of(command: &str) -> &'static [&'static str] {
+    match command {
+        "repair" => &["SPEC", "IMAGE", "OUT"],
+        "undo" => &["SPEC", "FIXED", "REPORT", "OUT"],
+        "audit" => &["SPEC", "IMAGE", "REPORT", "FIXED"],
+        "why" => &["SPEC", "IMAGE", "TUPLE"],
+        "lost" => &["SPEC", "IMAGE"],
+        "certify" => &["SPEC", "CERT"],
+        "verify" => &["SPEC", "CERT"],
+        "trial" => &["N"],
+        _ => &["SPEC"],
+    }
+}
+
+/// The argument of a command under which it saves; none where it saves nothing.
+pub fn saved_by(command: &str) -> Option<&'static str> {
+    match command {
+        "repair" => Some("OUT"),
+        "undo" => Some("OUT"),
+        "certify" => Some("CERT"),
+        _ => None,
+    }
+}
+
+/// The name of a file that is read, as the other program takes it.
+pub fn file_name(name: &str) -> &str {
     if name == "-" { INPUT } else { name }
 }
 
-// Appends the value of an argument, where there is one.
-fn push_file(
-    words: &mut Vec<String>,
-    alloc: Global,
-    given: &ArgMatches<'_>,
-    id: &str,
-) -> Result<(), NoMemory> {
-    if let Some(value) = given.get_str(id) {
-        words.push(file_name(value).to_string(alloc)?)?;
+/// The value of an argument; nothing where there is none.
+pub fn value_of<'a>(given: &ArgMatches<'a>, id: &str) -> &'a str {
+    match given.get_str(id) {
+        Some(value) => value,
+        None => "",
     }
-    Ok(())
 }
 
-// The arguments of the commands that have each file once, in their order.
-fn files_of(command: &str) -> &'static [&'static str] {
-    if command == "repair" {
-        &["SPEC", "IMAGE", "OUT"]
-    } else if command == "certify" || command == "verify" {
-        &["SPEC", "CERT"]
-    } else if command == "trial" {
-        &["N"]
-    } else {
-        &["SPEC"]
-    }
+/// The name of a file that is read.
+pub fn file_of<'a>(given: &ArgMatches<'a>, id: &str) -> &'a str {
+    file_name(value_of(given, id))
 }
 
 /// The words of a command of `dsr`, but for the images of `check`.
@@ -43,8 +55,14 @@ pub fn dsr_words(
 ) -> Result<Vec<String>, NoMemory> {
     let mut words = Vec::new(alloc);
     words.push(command.to_string(alloc)?)?;
-    for id in files_of(command) {
-        push_file(&mut words, alloc, given, id)?;
+    let saved = saved_by(command);
+    for id in arguments_of(command) {
+        let word = if saved == Some(*id) {
+            value_of(given, id)
+        } else {
+            file_of(given, id)
+        };
+        words.push(word.to_string(alloc)?)?;
     }
     Ok(words)
 }
@@ -57,13 +75,4 @@ pub fn with_file(alloc: Global, words: &[String], file: &str) -> Result<Vec<Stri
     }
     more.push(file_name(file).to_string(alloc)?)?;
     Ok(more)
-}
-
-/// The name of a file behind a command.
-pub fn file_of<'a>(given: &ArgMatches<'a>, id: &str) -> &'a str {
-    match given.get_str(id) {
-        Some("-") => INPUT,
-        Some(name) => name,
-        None => "",
-    }
 }

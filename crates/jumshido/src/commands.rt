@@ -10,20 +10,19 @@ const AFTER: &str =
     "Standard output and status are those of `dsr`; the standard error tells what they mean. \
 A file named - is the standard input.";
 
-// What a file is for.
-fn help_of(file: &str) -> &'static str {
-    if file == "SPEC" {
-        "The specification's text"
-    } else if file == "IMAGE" {
-        "The bytes that are checked: a heap dump, a disk image, a memory-mapped table"
-    } else if file == "OUT" {
-        "Where the repaired image is saved"
-    } else if file == "CERT" {
-        "A certificate of a plan"
-    } else if file == "N" {
-        "How many nodes the list has, from 0 to 65535"
-    } else {
-        "What is shown: a record as nodes[3] or head, a set or a relation; all sets without it"
+// What an argument is for.
+fn help_of(argument: &str) -> &'static str {
+    match argument {
+        "SPEC" => "The specification's text",
+        "IMAGE" => "The bytes that are checked: a heap dump, a disk image, a memory-mapped table",
+        "OUT" => "Where the image that comes of it is saved",
+        "FIXED" => "What a repair saved",
+        "REPORT" => "What a repair printed",
+        "TUPLE" => "A record in a set, as Nodes:nodes[3], or a pair, as 'Next:<nodes[0],nodes[2]>'",
+        "CERT" => "A certificate of a plan",
+        "SHELL" => "bash, zsh or fish",
+        "N" => "How many nodes the list has, from 0 to 65535",
+        _ => "What is shown: a record as nodes[3] or head, a set or a relation; all sets without it",
     }
 }
 
@@ -83,6 +82,26 @@ fn repair(alloc: Global) -> Result<Command<'static>, AllocError> {
     with_files(alloc, "repair", about, &["SPEC", "IMAGE", "OUT"])
 }
 
+fn undo(alloc: Global) -> Result<Command<'static>, AllocError> {
+    let about = "Take a repair back, by its report";
+    with_files(alloc, "undo", about, &["SPEC", "FIXED", "REPORT", "OUT"])
+}
+
+fn audit(alloc: Global) -> Result<Command<'static>, AllocError> {
+    let about = "Tell whether a report and a repaired image are those of the repair";
+    with_files(alloc, "audit", about, &["SPEC", "IMAGE", "REPORT", "FIXED"])
+}
+
+fn why(alloc: Global) -> Result<Command<'static>, AllocError> {
+    let about = "Tell by which rules a record is in a set";
+    with_files(alloc, "why", about, &["SPEC", "IMAGE", "TUPLE"])
+}
+
+fn lost(alloc: Global) -> Result<Command<'static>, AllocError> {
+    let about = "List the records to which nothing leads";
+    with_files(alloc, "lost", about, &["SPEC", "IMAGE"])
+}
+
 fn certify(alloc: Global) -> Result<Command<'static>, AllocError> {
     let about = "Save the plan as a certificate";
     with_files(alloc, "certify", about, &["SPEC", "CERT"])
@@ -122,12 +141,21 @@ fn graph(alloc: Global) -> Result<Command<'static>, AllocError> {
     with_files(alloc, "graph", about, &["SPEC"])?.arg(dot)
 }
 
+fn completions(alloc: Global) -> Result<Command<'static>, AllocError> {
+    let about = "Print what a shell is to read to complete the words of this program";
+    with_files(alloc, "completions", about, &["SHELL"])
+}
+
 // The commands of `dsr`.
 fn with_dsr<'a>(alloc: Global, command: Command<'a>) -> Result<Command<'a>, AllocError> {
     command
         .subcommand(check(alloc)?)?
         .subcommand(plan(alloc)?)?
         .subcommand(repair(alloc)?)?
+        .subcommand(undo(alloc)?)?
+        .subcommand(audit(alloc)?)?
+        .subcommand(why(alloc)?)?
+        .subcommand(lost(alloc)?)?
         .subcommand(certify(alloc)?)?
         .subcommand(verify(alloc)?)?
         .subcommand(text(alloc)?)?
@@ -151,5 +179,6 @@ pub fn commands(alloc: Global) -> Result<Command<'static>, AllocError> {
         .subcommand(show(alloc)?)?
         .subcommand(ways(alloc)?)?
         .subcommand(lint(alloc)?)?
-        .subcommand(graph(alloc)?)
+        .subcommand(graph(alloc)?)?
+        .subcommand(completions(alloc)?)
 }

@@ -6,8 +6,11 @@ mod answers;
 mod asking;
 mod colours;
 mod commands;
+mod completions;
 mod input;
+mod putting;
 mod reasons;
+mod running;
 
 use crate::answers::answer;
 use std::alloc::{AllocError, Global};

@@ -7,4 +7,5 @@ use Rattle.dsr_explain.specs.declared.reading.SpecRead.TheVariants as reads
 abbrev pub IsTypedRead : SpecRead → Type 0
 IsTypedRead (reads.Means meaning) = IsTyped meaning.spec
 IsTypedRead (reads.Refused text diagnosis) = Unit {0}
+IsTypedRead reads.TooLong = Unit {0}
 IsTypedRead reads.Missed = Unit {0}

@@ -18,5 +18,5 @@ mod violations;
 
 pub use explaining::explained;
 pub use reading::{Meaning, SpecRead, loaded, read_spec};
-pub use showing::{Shown, show};
+pub use showing::{Shown, draw, show};
 pub use telling::{Telling, tell};

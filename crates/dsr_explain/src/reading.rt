@@ -15,8 +15,14 @@ use std::alloc::Global;
 /// The most bytes of a specification's text.
 const SPEC_LIMIT: u64 = 65_536;
 
+// As many bytes as show that a file has more than a specification's text may have.
+const MORE_THAN_SPEC: u64 = 65_537;
+
 /// The most bytes of an image.
 pub const IMAGE_LIMIT: u64 = 67_108_864;
+
+/// As many bytes as show that a file has more than an image may have.
+pub const MORE_THAN_IMAGE: u64 = 67_108_865;
 
 /// A specification, with its text and its tree.
 #[derive(Drop)]
@@ -32,6 +38,8 @@ pub enum SpecRead {
     Means(Meaning),
     /// The text, and what is wrong with it.
     Refused(Vec<u8>, Diagnosis),
+    /// The file has more bytes than a text may have.
+    TooLong,
     /// The file couldn't be read.
     Missed,
 }
@@ -70,9 +78,12 @@ fn meaning_of(alloc: Global, text: Vec<u8>) -> Result<Result<Meaning, Vec<u8>>, 
 pub fn read_spec<F: Shelf>(alloc: Global, shelf: &mut F, name: &str) -> Result<SpecRead, NoMemory>
     ensures { IfOk result IsTypedRead }
 {
-    let Some(text) = loaded(alloc, shelf, name, SPEC_LIMIT)? else {
+    let Some(text) = loaded(alloc, shelf, name, MORE_THAN_SPEC)? else {
         return Ok(SpecRead::Missed);
     };
+    if text.len() as u64 > SPEC_LIMIT {
+        return Ok(SpecRead::TooLong);
+    }
     match meaning_of(alloc, text)? {
         Ok(meaning) => Ok(SpecRead::Means(meaning)),
         Err(text) => match diagnose(alloc, &text)? {

@@ -1,14 +1,18 @@
 // The command `show`.
+ghost use Rattle.std.specs.Prelude.{IfOk};
 ghost use Rattle.dsr_meaning.specs.Typed.{IsTyped};
 
 use crate::layouts::layout_told;
-use crate::reading::{IMAGE_LIMIT, Meaning, SpecRead, loaded, read_spec};
+use crate::reading::{IMAGE_LIMIT, MORE_THAN_IMAGE, Meaning, SpecRead, loaded, read_spec};
 use dsr_answers::pool_name;
 use dsr_diagnosis::shown;
 use dsr_ir::{Element, NoMemory, Spec, Symbol};
 use dsr_layout::{LayoutFault, record_count};
-use dsr_show::{ImageModel, image_model, push_record, push_relation, push_set, push_summary};
+use dsr_show::{
+    ImageModel, image_model, push_picture, push_record, push_relation, push_set, push_summary,
+};
 use dsr_store::Shelf;
+use dsr_truth::violations;
 use dsr_wording::numbered;
 use std::alloc::Global;
 use std::fmt::Write;
@@ -98,10 +102,7 @@ fn push_what(
     }
     match symbol_named(image.spec, what) {
         Some(Symbol::Set(set)) => push_set(text, image, set)?,
-        Some(Symbol::Rel(rel)) => match image.spec.base.rels.items().get(rel as usize) {
-            Some(declared) => push_relation(text, image, rel, declared)?,
-            None => {}
-        },
+        Some(Symbol::Rel(rel)) => push_relation(text, image, rel)?,
         None => {
             write!(
                 told,
@@ -113,25 +114,59 @@ fn push_what(
     Ok(0)
 }
 
+// What is to be shown of an image.
+#[derive(Clone, Copy)]
+enum Asked<'a> {
+    /// What this word names, or all.
+    What(&'a str),
+    /// A picture of all of it.
+    Picture,
+}
+
+// Draws an image, with its violations.
+fn picture(alloc: Global, image: &ImageModel<'_>) -> Result<Shown, NoMemory> {
+    let mut text = String::new(alloc);
+    let violated = violations(alloc, &image.model, image.spec)?;
+    push_picture(&mut text, image, &violated)?;
+    Ok(Shown {
+        status: 0,
+        text,
+        told: String::new(alloc),
+    })
+}
+
+// Shows an image that has a layout.
+fn show_model(
+    alloc: Global,
+    image: &ImageModel<'_>,
+    asked: Asked<'_>,
+) -> Result<Shown, NoMemory> {
+    match asked {
+        Asked::Picture => picture(alloc, image),
+        Asked::What(what) => {
+            let (mut text, mut told) = (String::new(alloc), String::new(alloc));
+            let status = push_what(&mut text, &mut told, image, what)?;
+            Ok(Shown { status, text, told })
+        }
+    }
+}
+
 // Shows an image.
 fn show_image(
     alloc: Global,
     meaning: &Meaning,
     bytes: Vec<u8>,
-    what: &str,
+    asked: Asked<'_>,
 ) -> Result<Shown, NoMemory>
     requires { IsTyped meaning.now.spec }
 {
-    let copy = Vec::from_slice(alloc, &bytes)?;
     if bytes.len() as u64 > IMAGE_LIMIT {
-        return Ok(refusal(alloc, 9, String::new(alloc)));
+        let told = "an image has at most 67,108,864 bytes (64 MiB)\n".to_string(alloc)?;
+        return Ok(refusal(alloc, 9, told));
     }
+    let copy = Vec::from_slice(alloc, &bytes)?;
     match image_model(alloc, &meaning.spec, bytes) {
-        Ok(image) => {
-            let (mut text, mut told) = (String::new(alloc), String::new(alloc));
-            let status = push_what(&mut text, &mut told, &image, what)?;
-            Ok(Shown { status, text, told })
-        }
+        Ok(image) => show_model(alloc, &image, asked),
         Err(LayoutFault::NoMemory) => Err(NoMemory),
         Err(fault) => {
             let told = layout_told(alloc, &meaning.spec, &copy, fault)?;
@@ -140,7 +175,47 @@ fn show_image(
     }
 }
 
-/// Shows what a specification says of an image.
+/// What a specification means, or what is told where it can't be read or means nothing.
+pub fn meaning_or_told<F: Shelf>(
+    alloc: Global,
+    shelf: &mut F,
+    name: &str,
+) -> Result<Result<Meaning, Shown>, NoMemory>
+    ensures { IfOk result (λ found. IfOk found (λ meaning. IsTyped meaning.spec)) }
+{
+    match read_spec(alloc, shelf, name)? {
+        SpecRead::Means(meaning) => Ok(Ok(meaning)),
+        SpecRead::Refused(text, diagnosis) => {
+            let told = shown(alloc, name, &text, &diagnosis)?;
+            Ok(Err(refusal(alloc, 4, told)))
+        }
+        SpecRead::TooLong => {
+            let told = "a specification has at most 65,536 bytes\n".to_string(alloc)?;
+            Ok(Err(refusal(alloc, 9, told)))
+        }
+        SpecRead::Missed => Ok(Err(refusal(alloc, 7, String::new(alloc)))),
+    }
+}
+
+// Reads a specification and an image, and shows the image.
+fn show_asked<F: Shelf>(
+    alloc: Global,
+    shelf: &mut F,
+    spec: &str,
+    image: &str,
+    asked: Asked<'_>,
+) -> Result<Shown, NoMemory> {
+    let meaning = match meaning_or_told(alloc, shelf, spec)? {
+        Ok(meaning) => meaning,
+        Err(told) => return Ok(told),
+    };
+    match loaded(alloc, shelf, image, MORE_THAN_IMAGE)? {
+        Some(bytes) => show_image(alloc, &meaning, bytes, asked),
+        None => Ok(refusal(alloc, 7, String::new(alloc))),
+    }
+}
+
+/// Shows what a specification says of an image: what a word names, or all sets where it is empty.
 pub fn show<F: Shelf>(
     alloc: Global,
     shelf: &mut F,
@@ -148,16 +223,15 @@ pub fn show<F: Shelf>(
     image: &str,
     what: &str,
 ) -> Result<Shown, NoMemory> {
-    let meaning = match read_spec(alloc, shelf, spec)? {
-        SpecRead::Means(meaning) => meaning,
-        SpecRead::Refused(text, diagnosis) => {
-            let told = shown(alloc, spec, &text, &diagnosis)?;
-            return Ok(refusal(alloc, 4, told));
-        }
-        SpecRead::Missed => return Ok(refusal(alloc, 7, String::new(alloc))),
-    };
-    match loaded(alloc, shelf, image, IMAGE_LIMIT)? {
-        Some(bytes) => show_image(alloc, &meaning, bytes, what),
-        None => Ok(refusal(alloc, 7, String::new(alloc))),
-    }
+    show_asked(alloc, shelf, spec, image, Asked::What(what))
+}
+
+/// Draws what a specification says of an image, for Graphviz.
+pub fn draw<F: Shelf>(
+    alloc: Global,
+    shelf: &mut F,
+    spec: &str,
+    image: &str,
+) -> Result<Shown, NoMemory> {
+    show_asked(alloc, shelf, spec, image, Asked::Picture)
 }

@@ -1,9 +1,8 @@
 // The commands that tell something of a specification alone.
 ghost use Rattle.dsr_meaning.specs.Typed.{IsTyped};
 
-use crate::reading::{Meaning, SpecRead, read_spec};
-use crate::showing::{Shown, refusal};
-use dsr_diagnosis::shown;
+use crate::reading::Meaning;
+use crate::showing::{Shown, meaning_or_told};
 use dsr_ir::NoMemory;
 use dsr_lint::lint;
 use dsr_store::Shelf;
@@ -39,16 +38,12 @@ pub fn tell<F: Shelf>(
     name: &str,
     telling: Telling,
 ) -> Result<Shown, NoMemory> {
-    match read_spec(alloc, shelf, name)? {
-        SpecRead::Means(meaning) => Ok(Shown {
+    match meaning_or_told(alloc, shelf, name)? {
+        Ok(meaning) => Ok(Shown {
             status: 0,
             text: told(alloc, &meaning, telling)?,
             told: String::new(alloc),
         }),
-        SpecRead::Refused(text, diagnosis) => {
-            let told = shown(alloc, name, &text, &diagnosis)?;
-            Ok(refusal(alloc, 4, told))
-        }
-        SpecRead::Missed => Ok(refusal(alloc, 7, String::new(alloc))),
+        Err(told) => Ok(told),
     }
 }

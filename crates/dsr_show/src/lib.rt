@@ -3,10 +3,12 @@
 #![tactic(auto)]
 
 mod atoms;
+mod facts;
 mod images;
 mod listing;
 mod names;
 mod pairs;
+mod pictures;
 mod records;
 mod values;
 mod violated;
@@ -16,6 +18,7 @@ pub use images::{ImageModel, image_model};
 pub use listing::{push_set, push_summary};
 pub use names::{push_binding, push_element};
 pub use pairs::push_relation;
+pub use pictures::push_picture;
 pub use records::{push_record, record_structure};
 pub use values::{field_value, is_member, is_pair, value_after};
 pub use violated::push_violation;

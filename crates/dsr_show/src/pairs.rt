@@ -1,10 +1,11 @@
 // The pairs of relations.
+use crate::facts::fact_after;
 use crate::images::ImageModel;
 use crate::listing::{MOST, push_listed, slots_of};
 use crate::names::push_element;
 use crate::values::{is_pair, value_after};
 use dsr_answers::symbol_name;
-use dsr_ir::{Element, NoMemory, Rel, Symbol};
+use dsr_ir::{Element, Fact, NoMemory, Rel, Symbol, Target};
 use dsr_wording::text_of;
 use std::fmt::Write;
 
@@ -96,35 +97,52 @@ pub fn push_given(
     }
 }
 
-// How many records with pairs are listed.
-const LISTED: u64 = 1000;
+// How many pairs are listed.
+const LISTED: usize = 1000;
 
-/// Appends a relation with its pairs, a line for each first part.
-pub fn push_relation(
+// Appends the second part of a pair.
+fn push_target(
     text: &mut String,
     image: &ImageModel<'_>,
-    rel: u32,
-    declared: &Rel,
+    target: Target,
 ) -> Result<(), NoMemory> {
-    let name = text_of(symbol_name(image.spec, Symbol::Rel(rel)));
+    match target {
+        Target::Elem(elem) => push_element(text, image.spec, elem),
+        Target::Num(number) => {
+            write!(text, "{number}")?;
+            Ok(())
+        }
+    }
+}
+
+// Appends a pair as a line.
+fn push_pair(text: &mut String, image: &ImageModel<'_>, fact: Fact) -> Result<(), NoMemory> {
+    let Fact::Pair(_, source, target) = fact else {
+        return Ok(());
+    };
+    text.push_str("  ")?;
+    push_element(text, image.spec, source)?;
+    text.push_str(" -> ")?;
+    push_target(text, image, target)?;
+    text.push('\n')?;
+    Ok(())
+}
+
+/// Appends a relation with its pairs, a line each, the first ones where there are many.
+pub fn push_relation(text: &mut String, image: &ImageModel<'_>, rel: u32) -> Result<(), NoMemory> {
+    let symbol = Symbol::Rel(rel);
+    let name = text_of(symbol_name(image.spec, symbol));
     write!(text, "relation {name}\n")?;
-    let mut listed = 0u64;
-    for slot in 0..slots_of(image, declared.source) {
-        if listed == LISTED {
-            text.push_str("  ..\n")?;
+    let mut last = None;
+    for _turn in 0..LISTED {
+        let Some(fact) = fact_after(image, symbol, last) else {
             return Ok(());
-        }
-        let source = Element {
-            pool: declared.source,
-            slot,
         };
-        let mut given = String::new(*text.allocator());
-        if push_given(&mut given, image, rel, declared, source)? > 0 {
-            text.push_str("  ")?;
-            push_element(text, image.spec, source)?;
-            write!(text, " -> {given}\n")?;
-            listed = listed.saturating_add(1);
-        }
+        push_pair(text, image, fact)?;
+        last = Some(fact);
+    }
+    if fact_after(image, symbol, last).is_some() {
+        text.push_str("  ..\n")?;
     }
     Ok(())
 }

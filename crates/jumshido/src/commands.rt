@@ -133,12 +133,15 @@ fn lint(alloc: Global) -> Result<Command<'static>, AllocError> {
 }
 
 fn graph(alloc: Global) -> Result<Command<'static>, AllocError> {
-    let about = "Print the dependence graph of the constraints for Graphviz";
+    let about = "Print a graph for Graphviz: which constraints may break which, or an image";
     let dot = Arg::new(alloc, "dot")
         .long("dot")
         .action(ArgAction::SetTrue)
         .help("In the language of Graphviz, which is the only one");
-    with_files(alloc, "graph", about, &["SPEC"])?.arg(dot)
+    let image = placed(alloc, "IMAGE").required(false);
+    with_files(alloc, "graph", about, &["SPEC"])?
+        .arg(image)?
+        .arg(dot)
 }
 
 fn completions(alloc: Global) -> Result<Command<'static>, AllocError> {

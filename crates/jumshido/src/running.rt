@@ -4,7 +4,7 @@ use crate::input::InputShelf;
 use crate::putting::{Manner, missed_told, put, tell};
 use clap::ArgMatches;
 use dsr_cli::run;
-use dsr_explain::{Shown, Telling, explained, show, tell as tell_spec};
+use dsr_explain::{Shown, Telling, draw, explained, show, tell as tell_spec};
 use dsr_ir::NoMemory;
 use dsr_json::document;
 use dsr_script::Status;
@@ -172,6 +172,20 @@ pub fn run_show<R: Files + Print + Eprint>(
     let what = value_of(given, "WHAT");
     let words = shown_words(alloc, "show", &[spec, image])?;
     let shown = show(alloc, &mut shelf, spec, image, what)?;
+    put_shown(rt, alloc, &shelf, &words, &shown, manner)
+}
+
+/// Draws an image.
+pub fn run_draw<R: Files + Print + Eprint>(
+    rt: &R,
+    alloc: Global,
+    given: &ArgMatches<'_>,
+    manner: Manner,
+) -> Result<u8, NoMemory> {
+    let mut shelf = InputShelf::new(rt, alloc);
+    let (spec, image) = (file_of(given, "SPEC"), file_of(given, "IMAGE"));
+    let words = shown_words(alloc, "graph", &[spec, image])?;
+    let shown = draw(alloc, &mut shelf, spec, image)?;
     put_shown(rt, alloc, &shelf, &words, &shown, manner)
 }
 

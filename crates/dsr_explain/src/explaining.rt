@@ -3,7 +3,7 @@ ghost use Rattle.dsr_meaning.specs.Typed.{IsTyped};
 
 use crate::chains::chain_told;
 use crate::layouts::layout_told;
-use crate::plans::refusal_told;
+use crate::plans::{Declared, refusal_told};
 use crate::reading::{IMAGE_LIMIT, Meaning, SpecRead, loaded, read_spec};
 use crate::refusals::{certificate_refused, report_refused};
 use crate::reports::{members_told, report_told};
@@ -95,7 +95,12 @@ fn plan_refused<F: Shelf>(
     let mut text = String::new(alloc);
     write!(text, "{name}: ")?;
     let out = text_of(out);
-    refusal_told(&mut text, &meaning.text, &meaning.spec, &meaning.tree, out)?;
+    let declared = Declared {
+        text: &meaning.text,
+        tree: &meaning.tree,
+        spec: &meaning.spec,
+    };
+    refusal_told(&mut text, declared, out)?;
     Ok(text)
 }
 

@@ -3,10 +3,12 @@
 #![tactic(auto)]
 
 mod chains;
+mod converting;
 mod explaining;
 mod extents;
 mod layouts;
 mod listed;
+mod needs;
 mod plans;
 mod reading;
 mod refusals;
@@ -16,6 +18,7 @@ mod sources;
 mod telling;
 mod violations;
 
+pub use converting::from_c;
 pub use explaining::explained;
 pub use reading::{Meaning, SpecRead, loaded, read_spec};
 pub use showing::{Shown, draw, show};

@@ -1,9 +1,22 @@
 // What stands in the way of a plan, in words.
+ghost use Rattle.dsr_meaning.specs.Typed.{IsTyped};
+
+use crate::needs::push_needs;
 use crate::sources::constraint_source;
-use dsr_ir::{Atom, Constraint, Literal, NoMemory, Op, Spec};
+use dsr_graph::graph;
+use dsr_ir::{Constraint, Literal, NoMemory, Spec};
 use dsr_tree::Tree;
+use dsr_ways::{push_literal, variables_of};
 use dsr_wording::{numbered, text_of};
 use std::fmt::Write;
+
+/// A specification with its text and its tree.
+#[derive(Clone, Copy)]
+pub struct Declared<'a> {
+    pub text: &'a [u8],
+    pub tree: &'a Tree,
+    pub spec: &'a Spec,
+}
 
 // The number of the constraint with this name.
 fn constraint_named(spec: &Spec, name: &str) -> Option<u32> {
@@ -16,24 +29,60 @@ fn constraint_named(spec: &Spec, name: &str) -> Option<u32> {
 }
 
 // Appends a constraint's name and its source.
-fn push_named(
-    text: &mut String,
-    source: &[u8],
-    spec: &Spec,
-    tree: &Tree,
-    name: &str,
-) -> Result<(), NoMemory> {
+fn push_named(text: &mut String, declared: Declared<'_>, name: &str) -> Result<(), NoMemory> {
     write!(text, "`{name}`")?;
-    if let Some(number) = constraint_named(spec, name) {
-        let (line, words) = constraint_source(source, tree, number);
+    if let Some(number) = constraint_named(declared.spec, name) {
+        let (line, words) = constraint_source(declared.text, declared.tree, number);
         let words = text_of(words);
         write!(text, " (line {line}: {words})")?;
     }
     Ok(())
 }
 
-// Appends what a way breaks: `way C.L.T breaks OTHER by gain of SYMBOL`.
-fn push_way(text: &mut String, line: &str) -> Result<(), NoMemory> {
+// A number of a line that counts from 1, counted from 0.
+fn from_zero(word: Option<&str>) -> Option<usize> {
+    word?.parse::<usize>().ok()?.checked_sub(1)
+}
+
+// The literal of a constraint with the numbers `C.L.T`.
+fn literal_of<'a>(constraint: &'a Constraint, numbers: &str) -> Option<&'a Literal> {
+    let mut parts = numbers.split('.');
+    let conj = from_zero(parts.next())?;
+    let literal = from_zero(parts.next())?;
+    let literals = constraint.conjs.items().get(conj)?;
+    literals.literals.items().get(literal)
+}
+
+// Appends the literal of a member for which a way is tried.
+fn push_tried(
+    text: &mut String,
+    declared: Declared<'_>,
+    member: Option<u32>,
+    numbers: &str,
+) -> Result<(), NoMemory> {
+    let Some(number) = member else {
+        return Ok(());
+    };
+    let Some(constraint) = declared.spec.constraints.items().get(number as usize) else {
+        return Ok(());
+    };
+    let Some(literal) = literal_of(constraint, numbers) else {
+        return Ok(());
+    };
+    let variables = variables_of(declared.tree, number);
+    text.push_str(" to make `")?;
+    push_literal(text, declared.spec, &variables, literal)?;
+    text.push_str("` true")?;
+    Ok(())
+}
+
+// Appends what a way of a member breaks: `way C.L.T breaks OTHER by gain of SYMBOL`.
+fn push_way(
+    text: &mut String,
+    declared: Declared<'_>,
+    member: Option<u32>,
+    line: &str,
+) -> Result<(), NoMemory> {
     let mut words = line.split(' ').skip(1);
     let way = words.next().unwrap_or("");
     let other = words.nth(1).unwrap_or("");
@@ -44,9 +93,11 @@ fn push_way(text: &mut String, line: &str) -> Result<(), NoMemory> {
     } else {
         "take facts from"
     };
+    write!(text, "    way {way}")?;
+    push_tried(text, declared, member, way)?;
     write!(
         text,
-        "    its way {way} (conjunction, literal, way) may {what} `{symbol}`, and so break `{other}`\n"
+        " may {what} `{symbol}`, and so break `{other}`\n"
     )?;
     Ok(())
 }
@@ -55,77 +106,41 @@ const CYCLE: &str =
     "  each waits for the one behind it. Of the ways above ask which can't happen in your structure, and say \
 why in the specification: by a constraint that is declared earlier, by a narrower rule, or by other words for the constraint\n";
 
-// What is tried for a literal, and what that needs.
-fn need_of(literal: &Literal) -> &'static str {
-    if literal.given {
-        return "it is `given`, and so only tested";
-    }
-    match literal.atom {
-        Atom::Member(_, _) if literal.negated => {
-            "each rule that gives the set is kept from it: each needs a guard that can be made false, or a reference that can be set to none"
-        }
-        Atom::Pair(_, _, _) if literal.negated => {
-            "each rule that gives the relation is kept from it: each needs a guard that can be made false, or a reference that can be set to none"
-        }
-        Atom::Member(_, _) => {
-            "it needs a rule `x in T => x in S` without index, from a set T of which the variable is known to be a member"
-        }
-        Atom::Pair(_, _, _) => {
-            "it needs a rule `<x, x.f> in R` without index, that starts at a set of which the first variable is known to be a member"
-        }
-        Atom::Count(_, Op::Le, _) | Atom::Count(_, Op::Eq, 0) => {
-            "what is counted goes, the greatest first: each rule that gives it needs a guard that can be made false, or a reference that can be set to none"
-        }
-        Atom::Count(_, _, 1) => {
-            "it needs a supply, `fresh POOL avoid ..`, and a rule that gives the set or the relation from a reference of a known record"
-        }
-        Atom::Count(_, _, _) => "no number of records but 0 and 1 can be reached",
-        Atom::Value(_, _, Op::Eq | Op::Le | Op::Ge, _) => {
-            "it needs exactly one rule that gives the relation, from a field that isn't fixed"
-        }
-        Atom::Value(_, _, _, _) => "values are set for `=`, `<=` and `>=` alone",
-    }
-}
-
-// Appends what each literal of a constraint needs.
-fn push_needs(text: &mut String, constraint: &Constraint) -> Result<(), NoMemory> {
-    for (conj, literals) in constraint.conjs.items().iter().enumerate() {
-        for (number, literal) in literals.literals.items().iter().enumerate() {
-            let (conj, number) = (conj.saturating_add(1), number.saturating_add(1));
-            let need = need_of(literal);
-            write!(text, "    literal {conj}.{number}: {need}\n")?;
-        }
-    }
-    Ok(())
-}
-
 // Appends what keeps a constraint from being repaired in any order.
-fn push_unrepairable(text: &mut String, spec: &Spec, name: &str) -> Result<(), NoMemory> {
+fn push_unrepairable(
+    text: &mut String,
+    declared: Declared<'_>,
+    name: &str,
+) -> Result<(), NoMemory>
+    requires { IsTyped declared.spec.now }
+{
     write!(
         text,
-        "  no order helps `{name}`: for some literal nothing is tried, or each way makes another literal of its conjunction false\n"
+        "  no order helps `{name}`: the literals of each of its conjunctions can't all be made true, or known to be\n"
     )?;
-    let Some(number) = constraint_named(spec, name) else {
+    let Some(number) = constraint_named(declared.spec, name) else {
         return Ok(());
     };
-    match spec.constraints.items().get(number as usize) {
-        Some(constraint) => push_needs(text, constraint),
-        None => Ok(()),
-    }
+    let Some(constraint) = declared.spec.constraints.items().get(number as usize) else {
+        return Ok(());
+    };
+    let graph = graph(*text.allocator(), declared.spec)?;
+    let variables = variables_of(declared.tree, number);
+    push_needs(text, declared.spec, &graph, &variables, number, constraint)
 }
 
-// Appends what a line of the answer means.
+// Appends what a line of the answer means, which is about a member of the stuck set.
 fn push_line(
     text: &mut String,
-    source: &[u8],
-    spec: &Spec,
-    tree: &Tree,
+    declared: Declared<'_>,
+    member: Option<u32>,
     line: &str,
-) -> Result<(), NoMemory> {
-    let line = line.trim();
+) -> Result<(), NoMemory>
+    requires { IsTyped declared.spec.now }
+{
     if let Some(name) = line.strip_prefix("stuck ") {
         text.push_str("  ")?;
-        push_named(text, source, spec, tree, name)?;
+        push_named(text, declared, name)?;
         text.push_str(" can't be repaired before the others of these\n")?;
         return Ok(());
     }
@@ -137,10 +152,10 @@ fn push_line(
         return Ok(());
     }
     if line.starts_with("way ") {
-        return push_way(text, line);
+        return push_way(text, declared, member, line);
     }
     if let Some(name) = line.strip_prefix("unrepairable ") {
-        return push_unrepairable(text, spec, name);
+        return push_unrepairable(text, declared, name);
     }
     text.push_str(CYCLE)?;
     Ok(())
@@ -149,14 +164,19 @@ fn push_line(
 /// Appends what the answer means that there is no plan.
 pub fn refusal_told(
     text: &mut String,
-    source: &[u8],
-    spec: &Spec,
-    tree: &Tree,
+    declared: Declared<'_>,
     out: &str,
-) -> Result<(), NoMemory> {
+) -> Result<(), NoMemory>
+    requires { IsTyped declared.spec.now }
+{
     text.push_str("error: the constraints have no order of repair\n")?;
+    let mut member = None;
     for line in out.lines() {
-        push_line(text, source, spec, tree, line)?;
+        let line = line.trim();
+        if let Some(name) = line.strip_prefix("stuck ") {
+            member = constraint_named(declared.spec, name);
+        }
+        push_line(text, declared, member, line)?;
     }
     Ok(())
 }

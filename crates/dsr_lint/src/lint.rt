@@ -2,25 +2,31 @@
 use crate::fields::push_fields;
 use crate::supplies::push_supplies;
 use crate::uses::{is_base_or_avoided, is_constrained, is_given, is_premise};
-use dsr_ir::{NoMemory, Spec, Symbol};
+use dsr_ir::{NoMemory, SetDecl, Spec, Symbol};
 use dsr_wording::{numbered, text_of};
 use std::alloc::Global;
 use std::fmt::Write;
 
-// Appends what is to be said of a set.
-fn push_set(text: &mut String, spec: &Spec, set: u32, name: &[u8]) -> Result<(), NoMemory> {
-    let name = text_of(name);
-    let (symbol, starts) = (Symbol::Set(set), is_premise(spec, set));
-    if !is_given(spec, symbol) {
-        write!(
-            text,
-            "set {name}: no rule gives it a member, so it is empty\n"
-        )?;
-        if starts {
-            write!(text, "set {name}: rules start from it, and never fire\n")?;
-        }
+// Appends what is to be said of a set that no rule fills.
+fn push_empty(text: &mut String, name: &str, starts: bool) -> Result<(), NoMemory> {
+    write!(
+        text,
+        "set {name}: no rule gives it a member, so it is empty\n"
+    )?;
+    if starts {
+        write!(text, "set {name}: rules start from it, and never fire\n")?;
     }
-    if !starts && !is_constrained(spec, symbol) && !is_base_or_avoided(spec, set) {
+    Ok(())
+}
+
+// Appends what is to be said of a set.
+fn push_set(text: &mut String, spec: &Spec, number: u32, set: &SetDecl) -> Result<(), NoMemory> {
+    let name = text_of(set.name.bytes());
+    let (symbol, starts) = (Symbol::Set(number), is_premise(spec, number));
+    if set.except.is_none() && !is_given(spec, symbol) {
+        push_empty(text, name, starts)?;
+    }
+    if !starts && !is_constrained(spec, symbol) && !is_base_or_avoided(spec, number) {
         write!(
             text,
             "set {name}: no constraint speaks of it, and no rule starts from it\n"
@@ -32,9 +38,7 @@ fn push_set(text: &mut String, spec: &Spec, set: u32, name: &[u8]) -> Result<(),
 // Appends what is to be said of the sets.
 fn push_sets(text: &mut String, spec: &Spec) -> Result<(), NoMemory> {
     for (number, set) in spec.base.sets.items().iter().enumerate() {
-        if set.except.is_none() {
-            push_set(text, spec, numbered(number), set.name.bytes())?;
-        }
+        push_set(text, spec, numbered(number), set)?;
     }
     Ok(())
 }

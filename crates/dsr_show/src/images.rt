@@ -1,6 +1,7 @@
 // An image with what a specification says of it.
-ghost use Rattle.std.specs.Prelude.{◌≡◌, ◌≤◌, length, true};
-ghost use Rattle.dsr_fixpoint.specs.Models.{IsLaidOut};
+ghost use Rattle.std.specs.Prelude.{◌≡◌, ◌≤◌, IfOk, length, true};
+ghost use Rattle.dsr_fixpoint.specs.Models.{IsLaidOut, IsModelOf};
+ghost use Rattle.dsr_meaning.specs.Limits.{most_bytes, most_constraints};
 ghost use Rattle.dsr_meaning.specs.Typed.{IsTyped};
 
 use dsr_fixpoint::rebuild;
@@ -18,7 +19,7 @@ pub struct ImageModel<'a> {
     pub layout: Layout,
     pub bytes: Vec<u8>,
     pub model: Model,
-    ghost few: { length spec.now.constraints ≤ 128 },
+    ghost few: { length spec.now.constraints ≤ most_constraints },
     ghost ordered: { model.ordered ≡ true },
 }
 
@@ -30,7 +31,10 @@ fn with_layout<'a>(
     bytes: Vec<u8>,
 ) -> Result<ImageModel<'a>, NoMemory>
     requires laid_out { IsLaidOut spec.now layout bytes.items }
-    requires few { length spec.now.constraints ≤ 128 }
+    requires few { length spec.now.constraints ≤ most_constraints }
+    ensures model { IfOk result (λ image.
+        IsModelOf spec.now image.layout image.bytes.items image.model) }
+    ensures bytes { IfOk result (λ image. image.bytes.items ≡ bytes.items) }
 {
     let mut model = Model::prepare(alloc, spec, &layout)?;
     let rules = ResolvedRules::new(alloc, spec, &layout)?;
@@ -51,7 +55,10 @@ pub fn image_model<'a>(
     bytes: Vec<u8>,
 ) -> Result<ImageModel<'a>, LayoutFault>
     requires typed { IsTyped spec.now }
-    requires small { length bytes.items ≤ 67108864 }
+    requires small { length bytes.items ≤ most_bytes }
+    ensures model { IfOk result (λ image.
+        IsModelOf spec.now image.layout image.bytes.items image.model) }
+    ensures bytes { IfOk result (λ image. image.bytes.items ≡ bytes.items) }
 {
     let layout = layout(alloc, spec, &bytes)?;
     Ok(with_layout(alloc, spec, layout, bytes)?)

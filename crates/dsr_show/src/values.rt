@@ -1,4 +1,11 @@
 // What an image holds: values of fields, members and pairs.
+ghost use Rattle.std.specs.Prelude.{◌≡◌, ◌↔◌, IfSome, IsTrue};
+ghost use Rattle.dsr_ir.specs.declared.tuples.Fact.TheVariants as facts;
+ghost use Rattle.dsr_ir.specs.declared.tuples.Target.TheVariants.{Elem, Num};
+ghost use Rattle.dsr_meaning.specs.Cells.{cell_value};
+ghost use Rattle.dsr_model.specs.Facts.{IsInModel};
+ghost use Rattle.dsr_relations.specs.Tuples.{FindsNextValue};
+
 use crate::images::ImageModel;
 use dsr_ir::{Cell, Element, Fact, FieldPlace, FieldRef, Target};
 use dsr_layout::{field_place, is_bytewise, pool_numbers};
@@ -25,7 +32,9 @@ fn entry_bit(record: u64, place: &FieldPlace, index: u64) -> Option<u64> {
 }
 
 // The value of a cell; none where it isn't in the image.
-fn cell_value(bytes: &[u8], cell: &Cell) -> Option<u64> {
+fn value_in(bytes: &[u8], cell: &Cell) -> Option<u64>
+    ensures { IfSome result (λ value. value ≡ cell_value bytes.now cell.now) }
+{
     let length = bytes.len() as u64;
     if length > MOST || cell.width > 64 {
         return None;
@@ -57,22 +66,29 @@ pub fn field_value(
         bytewise: is_bytewise(place.width),
         order: image.layout.order,
     };
-    cell_value(&image.bytes, &cell)
+    value_in(&image.bytes, &cell)
 }
 
 /// Whether a record is a member of a set.
-pub fn is_member(image: &ImageModel<'_>, set: u32, elem: Element) -> bool {
+pub fn is_member(image: &ImageModel<'_>, set: u32, elem: Element) -> bool
+    ensures { IsTrue result ↔ IsInModel image.now.model (facts.Member set elem) }
+{
     image.model.has(&Fact::Member(set, elem))
 }
 
 /// Whether two records are a pair of a relation.
-pub fn is_pair(image: &ImageModel<'_>, rel: u32, source: Element, target: Element) -> bool {
+pub fn is_pair(image: &ImageModel<'_>, rel: u32, source: Element, target: Element) -> bool
+    ensures { IsTrue result ↔ IsInModel image.now.model (facts.Pair rel source (Elem target)) }
+{
     image
         .model
         .has(&Fact::Pair(rel, source, Target::Elem(target)))
 }
 
 /// The least number from `from` on that a relation gives to a record.
-pub fn value_after(image: &ImageModel<'_>, rel: u32, source: Element, from: u64) -> Option<u64> {
+pub fn value_after(image: &ImageModel<'_>, rel: u32, source: Element, from: u64) -> Option<u64>
+    ensures { FindsNextValue (λ value. IsInModel image.now.model (facts.Pair rel source (Num value)))
+        from result }
+{
     image.model.next_value(rel, source, from)
 }

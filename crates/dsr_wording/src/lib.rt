@@ -1,6 +1,9 @@
 //! Small pieces of texts for people: names, numbers, signs.
 #![tactic(auto)]
 
+ghost use Rattle.std.specs.Prelude.{◌≡◌, ◌-◌, ◌^◌, min};
+ghost use Rattle.dsr_wording.specs.Signs.{sign_text};
+
 use dsr_ir::{NoMemory, Op};
 use itoa::Buffer;
 
@@ -10,12 +13,16 @@ pub fn text_of(bytes: &[u8]) -> &str {
 }
 
 /// The number of what stands at a place of a table.
-pub fn numbered(place: usize) -> u32 {
+pub fn numbered(place: usize) -> u32
+    ensures { result ≡ min place (2 ^ 32 - 1) }
+{
     u32::try_from(place).unwrap_or(u32::MAX)
 }
 
 /// How a comparison is written.
-pub fn sign_of(op: Op) -> &'static str {
+pub fn sign_of(op: Op) -> &'static str
+    ensures { result.now ≡ sign_text op }
+{
     match op {
         Op::Eq => "=",
         Op::Ne => "!=",

@@ -4,7 +4,7 @@ use crate::commands::commands;
 use crate::completions::completions_of;
 use crate::putting::{Manner, put, tell};
 use crate::reasons::is_same_file;
-use crate::running::{check_all, run_draw, run_dsr, run_show, run_tell};
+use crate::running::{check_all, run_draw, run_dsr, run_from_c, run_show, run_tell};
 use clap::error::ErrorKind;
 use clap::{ArgMatches, Error};
 use dsr_explain::Telling;
@@ -61,6 +61,9 @@ fn obey<R: Files + Print + Eprint>(
     let manner = Manner { colours, json };
     if command == "show" {
         return run_show(rt, alloc, given, manner);
+    }
+    if command == "from-c" {
+        return run_from_c(rt, alloc, given, manner);
     }
     if command == "graph" && given.get_str("IMAGE").is_some() {
         return run_draw(rt, alloc, given, manner);

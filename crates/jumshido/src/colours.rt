@@ -22,7 +22,8 @@ fn is_mark(line: &str) -> bool {
 
 // The colour of a line.
 fn colour_of(line: &str) -> &'static str {
-    if is_mark(line) || line.contains(": error: ") || line.starts_with("    false:") {
+    let is_error = line.starts_with("error: ") || line.contains(": error: ");
+    if is_error || is_mark(line) || line.starts_with("    false:") {
         RED
     } else if line.starts_with("      = ") {
         BLUE

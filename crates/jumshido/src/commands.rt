@@ -20,6 +20,7 @@ fn help_of(argument: &str) -> &'static str {
         "REPORT" => "What a repair printed",
         "TUPLE" => "A record in a set, as Nodes:nodes[3], or a pair, as 'Next:<nodes[0],nodes[2]>'",
         "CERT" => "A certificate of a plan",
+        "FILE" => "What gdb printed of structures by `ptype /o struct NAME`",
         "SHELL" => "bash, zsh or fish",
         "N" => "How many nodes the list has, from 0 to 65535",
         _ => "What is shown: a record as nodes[3] or head, a set or a relation; all sets without it",
@@ -144,6 +145,11 @@ fn graph(alloc: Global) -> Result<Command<'static>, AllocError> {
         .arg(dot)
 }
 
+fn from_c(alloc: Global) -> Result<Command<'static>, AllocError> {
+    let about = "Print a first specification for structures of C";
+    with_files(alloc, "from-c", about, &["FILE"])
+}
+
 fn completions(alloc: Global) -> Result<Command<'static>, AllocError> {
     let about = "Print what a shell is to read to complete the words of this program";
     with_files(alloc, "completions", about, &["SHELL"])
@@ -183,5 +189,6 @@ pub fn commands(alloc: Global) -> Result<Command<'static>, AllocError> {
         .subcommand(ways(alloc)?)?
         .subcommand(lint(alloc)?)?
         .subcommand(graph(alloc)?)?
+        .subcommand(from_c(alloc)?)?
         .subcommand(completions(alloc)?)
 }

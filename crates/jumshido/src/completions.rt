@@ -3,7 +3,7 @@
 const BASH: &str = "\
 # Completions of jumshido for bash.
 _jumshido() {
-    local commands='check plan repair undo audit why lost certify verify text trial show ways lint graph completions help'
+    local commands='check plan repair undo audit why lost certify verify text trial show ways lint graph from-c completions help'
     local word=${COMP_WORDS[COMP_CWORD]}
     if [ \"$COMP_CWORD\" -eq 1 ]; then
         mapfile -t COMPREPLY < <(compgen -W \"$commands --help --json --version\" -- \"$word\")
@@ -41,6 +41,7 @@ _jumshido() {
         'ways:tell how each constraint would be repaired'
         'lint:tell what a specification says nothing about'
         'graph:print a graph for Graphviz'
+        'from-c:print a first specification for structures of C'
         'completions:print completions for a shell'
         'help:print the help of a command'
     )
@@ -60,7 +61,7 @@ _jumshido \"$@\"
 
 const FISH: &str = "\
 # Completions of jumshido for fish.
-set -l commands check plan repair undo audit why lost certify verify text trial show ways lint graph completions help
+set -l commands check plan repair undo audit why lost certify verify text trial show ways lint graph from-c completions help
 complete -c jumshido -n \"not __fish_seen_subcommand_from $commands\" -f
 complete -c jumshido -n \"not __fish_seen_subcommand_from $commands\" -a check -d 'Tell whether images are consistent'
 complete -c jumshido -n \"not __fish_seen_subcommand_from $commands\" -a plan -d 'Tell in which order the constraints can be repaired'
@@ -77,6 +78,7 @@ complete -c jumshido -n \"not __fish_seen_subcommand_from $commands\" -a show -d
 complete -c jumshido -n \"not __fish_seen_subcommand_from $commands\" -a ways -d 'Tell how each constraint would be repaired'
 complete -c jumshido -n \"not __fish_seen_subcommand_from $commands\" -a lint -d 'Tell what a specification says nothing about'
 complete -c jumshido -n \"not __fish_seen_subcommand_from $commands\" -a graph -d 'Print a graph for Graphviz'
+complete -c jumshido -n \"not __fish_seen_subcommand_from $commands\" -a from-c -d 'Print a first specification for structures of C'
 complete -c jumshido -n \"not __fish_seen_subcommand_from $commands\" -a completions -d 'Print completions for a shell'
 complete -c jumshido -n \"not __fish_seen_subcommand_from $commands\" -a help -d 'Print the help of a command'
 complete -c jumshido -n '__fish_seen_subcommand_from completions' -f -a 'bash fish zsh'

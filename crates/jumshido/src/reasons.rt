@@ -7,8 +7,20 @@ use std::os::unix::fs::MetadataExt;
 use std::path::Path;
 use std::rt::Files;
 
-// Why a file can't be opened, where that is so.
+// Whether there is a folder of this name.
+fn is_folder<R: Files>(rt: &R, name: &str) -> bool {
+    match fs::metadata(rt, name) {
+        Ok(found) => found.is_dir(),
+        Err(_) => false,
+    }
+}
+
+// Why a file can't be read, as far as that can be told now.
 fn push_read_reason<R: Files>(text: &mut String, rt: &R, name: &str) -> Result<(), NoMemory> {
+    if is_folder(rt, name) {
+        text.push_str("it is a folder")?;
+        return Ok(());
+    }
     match fs::open(rt, name) {
         Ok(_file) => text.push_str("reading it failed")?,
         Err(error) => write!(text, "{error}")?,
@@ -41,19 +53,18 @@ fn push_folder_reason<R: Files>(text: &mut String, rt: &R, name: &str) -> Result
 
 // Why a file can't be saved.
 fn push_save_reason<R: Files>(text: &mut String, rt: &R, name: &str) -> Result<(), NoMemory> {
-    match fs::metadata(rt, name) {
-        Ok(found) if found.is_dir() => {
-            text.push_str("it is a folder")?;
-            return Ok(());
-        }
-        Ok(_found) => match OpenOptions::new().write(true).open(rt, name) {
+    if is_folder(rt, name) {
+        text.push_str("it is a folder")?;
+        return Ok(());
+    }
+    if fs::metadata(rt, name).is_ok() {
+        match OpenOptions::new().write(true).open(rt, name) {
             Ok(_file) => {}
             Err(error) => {
                 write!(text, "{error}")?;
                 return Ok(());
             }
-        },
-        Err(_error) => {}
+        }
     }
     push_folder_reason(text, rt, name)
 }

@@ -4,7 +4,7 @@ use crate::input::InputShelf;
 use crate::putting::{Manner, missed_told, put, tell};
 use clap::ArgMatches;
 use dsr_cli::run;
-use dsr_explain::{Shown, Telling, draw, explained, show, tell as tell_spec};
+use dsr_explain::{Shown, Telling, draw, explained, from_c, show, tell as tell_spec};
 use dsr_ir::NoMemory;
 use dsr_json::document;
 use dsr_script::Status;
@@ -186,6 +186,20 @@ pub fn run_draw<R: Files + Print + Eprint>(
     let (spec, image) = (file_of(given, "SPEC"), file_of(given, "IMAGE"));
     let words = shown_words(alloc, "graph", &[spec, image])?;
     let shown = draw(alloc, &mut shelf, spec, image)?;
+    put_shown(rt, alloc, &shelf, &words, &shown, manner)
+}
+
+/// Prints a first specification for structures of C.
+pub fn run_from_c<R: Files + Print + Eprint>(
+    rt: &R,
+    alloc: Global,
+    given: &ArgMatches<'_>,
+    manner: Manner,
+) -> Result<u8, NoMemory> {
+    let mut shelf = InputShelf::new(rt, alloc);
+    let name = file_of(given, "FILE");
+    let words = shown_words(alloc, "from-c", &[name])?;
+    let shown = from_c(alloc, &mut shelf, name)?;
     put_shown(rt, alloc, &shelf, &words, &shown, manner)
 }
 

@@ -3,7 +3,6 @@
 #![tactic(auto)]
 
 mod chains;
-mod converting;
 mod explaining;
 mod extents;
 mod layouts;
@@ -18,8 +17,7 @@ mod sources;
 mod telling;
 mod violations;
 
-pub use converting::from_c;
 pub use explaining::explained;
 pub use reading::{Meaning, SpecRead, loaded, read_spec};
-pub use showing::{Shown, draw, show};
+pub use showing::{Shown, draw, refusal, show};
 pub use telling::{Telling, tell};

@@ -3,8 +3,8 @@
 #![tactic(auto)]
 
 mod fields;
-mod lint;
+mod remarks;
 mod supplies;
 mod uses;
 
-pub use lint::lint;
+pub use remarks::lint;

@@ -1,4 +1,8 @@
 // Literals of constraints, with the records in place of their variables.
+ghost use Rattle.std.specs.Prelude.{◌↔◌, IfSome, IsTrue};
+ghost use Rattle.dsr_meaning.specs.Truth.{HasSize, HasVariable};
+ghost use Rattle.dsr_model.specs.Facts.{IsInModel};
+
 use crate::images::ImageModel;
 use crate::listing::push_members;
 use crate::names::push_element;
@@ -124,15 +128,26 @@ fn declared<'a>(image: &'a ImageModel<'_>, rel: u32) -> Option<&'a Rel> {
     image.spec.base.rels.items().get(rel as usize)
 }
 
-// How many are counted; none where the binding hasn't got the variable.
-fn size_of(image: &ImageModel<'_>, binding: &Binding, measure: &Measure) -> Option<u64> {
+// Whether a binding has the variable of a size.
+fn has_variable(binding: &Binding, measure: &Measure) -> bool
+    ensures { IsTrue result ↔ HasVariable binding.now measure.now }
+{
     match *measure {
-        Measure::Whole(_) => {}
-        Measure::Out(var, _) | Measure::Into(_, var) => {
-            element_of(binding, var)?;
-        }
+        Measure::Whole(_) => true,
+        Measure::Out(var, _) => element_of(binding, var).is_some(),
+        Measure::Into(_, var) => element_of(binding, var).is_some(),
     }
-    Some(image.model.size(measure, binding))
+}
+
+// How many are counted; none where the binding hasn't got the variable.
+fn size_of(image: &ImageModel<'_>, binding: &Binding, measure: &Measure) -> Option<u64>
+    ensures { IfSome result (HasSize (IsInModel image.now.model) binding.now measure.now) }
+{
+    if has_variable(binding, measure) {
+        Some(image.model.size(measure, binding))
+    } else {
+        None
+    }
 }
 
 // Appends what is counted.

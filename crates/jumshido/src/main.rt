@@ -7,6 +7,7 @@ mod asking;
 mod colours;
 mod commands;
 mod completions;
+mod converting;
 mod input;
 mod putting;
 mod reasons;

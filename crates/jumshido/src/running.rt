@@ -1,10 +1,11 @@
 // Commands that are run, each to its status.
 use crate::asking::{file_of, value_of, with_file};
+use crate::converting::from_c;
 use crate::input::InputShelf;
 use crate::putting::{Manner, missed_told, put, tell};
 use clap::ArgMatches;
 use dsr_cli::run;
-use dsr_explain::{Shown, Telling, draw, explained, from_c, show, tell as tell_spec};
+use dsr_explain::{Shown, Telling, draw, explained, show, tell as tell_spec};
 use dsr_ir::NoMemory;
 use dsr_json::document;
 use dsr_script::Status;

@@ -1,6 +1,6 @@
--- The next fact is one of the symbol, and so of the symbol's kind.
-use Rattle.std.proofs.Common.{Option, None, Some}
+use Rattle.dsr_show.proofs.Next.{next_kind}
 use Rattle.dsr_show.proofs.facts.fact_after.Goals as goal
 
 pub ensures-kind : goal.ensures-kind
-ensures-kind c = ?
+ensures-kind c = next_kind c.args.image.now.model c.args.symbol c.args.last c.after.result
+    c.after.ensures.kinds c.after.ensures.next

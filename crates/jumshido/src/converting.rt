@@ -1,6 +1,5 @@
 // The command `from-c`.
-use crate::reading::loaded;
-use crate::showing::{Shown, refusal};
+use dsr_explain::{Shown, loaded, refusal};
 use dsr_from_c::{specification_of, structures_of};
 use dsr_ir::NoMemory;
 use dsr_store::Shelf;

@@ -95,10 +95,7 @@ fn push_way(
     };
     write!(text, "    way {way}")?;
     push_tried(text, declared, member, way)?;
-    write!(
-        text,
-        " may {what} `{symbol}`, and so break `{other}`\n"
-    )?;
+    write!(text, " may {what} `{symbol}`, and so break `{other}`\n")?;
     Ok(())
 }
 
@@ -107,11 +104,7 @@ const CYCLE: &str =
 why in the specification: by a constraint that is declared earlier, by a narrower rule, or by other words for the constraint\n";
 
 // Appends what keeps a constraint from being repaired in any order.
-fn push_unrepairable(
-    text: &mut String,
-    declared: Declared<'_>,
-    name: &str,
-) -> Result<(), NoMemory>
+fn push_unrepairable(text: &mut String, declared: Declared<'_>, name: &str) -> Result<(), NoMemory>
     requires { IsTyped declared.spec.now }
 {
     write!(
@@ -162,11 +155,7 @@ fn push_line(
 }
 
 /// Appends what the answer means that there is no plan.
-pub fn refusal_told(
-    text: &mut String,
-    declared: Declared<'_>,
-    out: &str,
-) -> Result<(), NoMemory>
+pub fn refusal_told(text: &mut String, declared: Declared<'_>, out: &str) -> Result<(), NoMemory>
     requires { IsTyped declared.spec.now }
 {
     text.push_str("error: the constraints have no order of repair\n")?;

@@ -136,11 +136,7 @@ fn picture(alloc: Global, image: &ImageModel<'_>) -> Result<Shown, NoMemory> {
 }
 
 // Shows an image that has a layout.
-fn show_model(
-    alloc: Global,
-    image: &ImageModel<'_>,
-    asked: Asked<'_>,
-) -> Result<Shown, NoMemory> {
+fn show_model(alloc: Global, image: &ImageModel<'_>, asked: Asked<'_>) -> Result<Shown, NoMemory> {
     match asked {
         Asked::Picture => picture(alloc, image),
         Asked::What(what) => {

@@ -101,11 +101,7 @@ pub fn push_given(
 const LISTED: usize = 1000;
 
 // Appends the second part of a pair.
-fn push_target(
-    text: &mut String,
-    image: &ImageModel<'_>,
-    target: Target,
-) -> Result<(), NoMemory> {
+fn push_target(text: &mut String, image: &ImageModel<'_>, target: Target) -> Result<(), NoMemory> {
     match target {
         Target::Elem(elem) => push_element(text, image.spec, elem),
         Target::Num(number) => {

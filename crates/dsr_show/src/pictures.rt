@@ -96,7 +96,10 @@ fn push_violated(
 ) -> Result<(), NoMemory> {
     match *binding {
         Binding::Once => {
-            write!(text, "  \"{name} is violated\" [shape=plaintext, fontcolor=red];\n")?;
+            write!(
+                text,
+                "  \"{name} is violated\" [shape=plaintext, fontcolor=red];\n"
+            )?;
             Ok(())
         }
         Binding::Each(elem) => push_node(text, image, elem, " [color=red, fontcolor=red]"),

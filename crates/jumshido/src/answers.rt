@@ -40,7 +40,12 @@ fn complete<R: Print + Eprint>(rt: &R, alloc: Global, shell: &str, colours: bool
     match completions_of(shell) {
         Some(text) => put(rt, alloc, text.as_bytes(), 0),
         None => {
-            tell(rt, alloc, "error: the shells are bash, zsh and fish\n", colours);
+            tell(
+                rt,
+                alloc,
+                "error: the shells are bash, zsh and fish\n",
+                colours,
+            );
             put(rt, alloc, b"usage\n", USAGE)
         }
     }

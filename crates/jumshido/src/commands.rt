@@ -23,7 +23,8 @@ fn help_of(argument: &str) -> &'static str {
         "FILE" => "What gdb printed of structures by `ptype /o struct NAME`",
         "SHELL" => "bash, zsh or fish",
         "N" => "How many nodes the list has, from 0 to 65535",
-        _ => "What is shown: a record as nodes[3] or head, a set or a relation; all sets without it",
+        _ =>
+            "What is shown: a record as nodes[3] or head, a set or a relation; all sets without it",
     }
 }
 

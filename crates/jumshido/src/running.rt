@@ -16,19 +16,44 @@ use std::rt::Files;
 // The status of a file that can't be read, as that of `dsr`.
 const STORE_FAILED: u8 = 7;
 
+// How a command of `dsr` ended, with its answer.
+#[derive(Drop)]
+struct Ran {
+    status: Status,
+    answer: Vec<u8>,
+}
+
+// Runs a command of `dsr`.
+fn ran<R: Files>(
+    alloc: Global,
+    words: &Vec<String>,
+    shelf: &mut InputShelf<'_, R>,
+) -> Result<Ran, NoMemory> {
+    let mut out = SureSink {
+        bytes: Vec::new(alloc),
+    };
+    let status = run(alloc, words, shelf, &mut out);
+    if matches!(status, Status::NoMemory) {
+        return Err(NoMemory);
+    }
+    Ok(Ran {
+        status,
+        answer: out.bytes,
+    })
+}
+
 // What an answer of `dsr` means.
 fn meaning_of<R: Files>(
     rt: &R,
     alloc: Global,
     shelf: &mut InputShelf<'_, R>,
     words: &[String],
-    status: &Status,
-    out: &[u8],
+    ran: &Ran,
 ) -> Result<String, NoMemory> {
-    if matches!(status, Status::StoreFailed) {
+    if matches!(ran.status, Status::StoreFailed) {
         return missed_told(rt, alloc, shelf);
     }
-    explained(alloc, shelf, words, status, out)
+    explained(alloc, shelf, words, &ran.status, &ran.answer)
 }
 
 const NO_MORE: &str = "error: there is not enough memory to tell more\n";
@@ -41,16 +66,10 @@ fn run_plain<R: Files + Print + Eprint>(
     colours: bool,
 ) -> Result<u8, NoMemory> {
     let mut shelf = InputShelf::new(rt, alloc);
-    let mut out = SureSink {
-        bytes: Vec::new(alloc),
-    };
-    let status = run(alloc, words, &mut shelf, &mut out);
-    if matches!(status, Status::NoMemory) {
-        return Err(NoMemory);
-    }
-    let number = put(rt, alloc, &out.bytes, status.number());
+    let ran = ran(alloc, words, &mut shelf)?;
+    let number = put(rt, alloc, &ran.answer, ran.status.number());
     // The answer is put: what it means can't change the status.
-    match meaning_of(rt, alloc, &mut shelf, words, &status, &out.bytes) {
+    match meaning_of(rt, alloc, &mut shelf, words, &ran) {
         Ok(told) => tell(rt, alloc, told.as_str(), colours),
         Err(_) => tell(rt, alloc, NO_MORE, colours),
     }
@@ -64,15 +83,10 @@ fn run_json<R: Files + Print + Eprint>(
     words: &Vec<String>,
 ) -> Result<u8, NoMemory> {
     let mut shelf = InputShelf::new(rt, alloc);
-    let mut out = SureSink {
-        bytes: Vec::new(alloc),
-    };
-    let status = run(alloc, words, &mut shelf, &mut out);
-    if matches!(status, Status::NoMemory) {
-        return Err(NoMemory);
-    }
-    let told = meaning_of(rt, alloc, &mut shelf, words, &status, &out.bytes)?;
-    put_document(rt, alloc, words, status.number(), &out.bytes, told.as_str())
+    let ran = ran(alloc, words, &mut shelf)?;
+    let told = meaning_of(rt, alloc, &mut shelf, words, &ran)?;
+    let number = ran.status.number();
+    put_document(rt, alloc, words, number, &ran.answer, told.as_str())
 }
 
 // Puts an answer as a document.

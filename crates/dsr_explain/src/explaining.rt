@@ -100,7 +100,7 @@ fn plan_refused<F: Shelf>(
         tree: &meaning.tree,
         spec: &meaning.spec,
     };
-    refusal_told(&mut text, declared, out)?;
+    refusal_told(&mut text, &declared, out)?;
     Ok(text)
 }
 

@@ -11,7 +11,7 @@ use dsr_wording::{numbered, text_of};
 use std::fmt::Write;
 
 /// A specification with its text and its tree.
-#[derive(Clone, Copy)]
+#[derive(Drop)]
 pub struct Declared<'a> {
     pub text: &'a [u8],
     pub tree: &'a Tree,
@@ -29,7 +29,7 @@ fn constraint_named(spec: &Spec, name: &str) -> Option<u32> {
 }
 
 // Appends a constraint's name and its source.
-fn push_named(text: &mut String, declared: Declared<'_>, name: &str) -> Result<(), NoMemory> {
+fn push_named(text: &mut String, declared: &Declared<'_>, name: &str) -> Result<(), NoMemory> {
     write!(text, "`{name}`")?;
     if let Some(number) = constraint_named(declared.spec, name) {
         let (line, words) = constraint_source(declared.text, declared.tree, number);
@@ -56,7 +56,7 @@ fn literal_of<'a>(constraint: &'a Constraint, numbers: &str) -> Option<&'a Liter
 // Appends the literal of a member for which a way is tried.
 fn push_tried(
     text: &mut String,
-    declared: Declared<'_>,
+    declared: &Declared<'_>,
     member: Option<u32>,
     numbers: &str,
 ) -> Result<(), NoMemory> {
@@ -79,7 +79,7 @@ fn push_tried(
 // Appends what a way of a member breaks: `way C.L.T breaks OTHER by gain of SYMBOL`.
 fn push_way(
     text: &mut String,
-    declared: Declared<'_>,
+    declared: &Declared<'_>,
     member: Option<u32>,
     line: &str,
 ) -> Result<(), NoMemory> {
@@ -104,8 +104,8 @@ const CYCLE: &str =
 why in the specification: by a constraint that is declared earlier, by a narrower rule, or by other words for the constraint\n";
 
 // Appends what keeps a constraint from being repaired in any order.
-fn push_unrepairable(text: &mut String, declared: Declared<'_>, name: &str) -> Result<(), NoMemory>
-    requires { IsTyped declared.spec.now }
+fn push_unrepairable(text: &mut String, declared: &Declared<'_>, name: &str) -> Result<(), NoMemory>
+    requires { IsTyped declared.now.spec.now }
 {
     write!(
         text,
@@ -125,11 +125,11 @@ fn push_unrepairable(text: &mut String, declared: Declared<'_>, name: &str) -> R
 // Appends what a line of the answer means, which is about a member of the stuck set.
 fn push_line(
     text: &mut String,
-    declared: Declared<'_>,
+    declared: &Declared<'_>,
     member: Option<u32>,
     line: &str,
 ) -> Result<(), NoMemory>
-    requires { IsTyped declared.spec.now }
+    requires { IsTyped declared.now.spec.now }
 {
     if let Some(name) = line.strip_prefix("stuck ") {
         text.push_str("  ")?;
@@ -155,8 +155,8 @@ fn push_line(
 }
 
 /// Appends what the answer means that there is no plan.
-pub fn refusal_told(text: &mut String, declared: Declared<'_>, out: &str) -> Result<(), NoMemory>
-    requires { IsTyped declared.spec.now }
+pub fn refusal_told(text: &mut String, declared: &Declared<'_>, out: &str) -> Result<(), NoMemory>
+    requires { IsTyped declared.now.spec.now }
 {
     text.push_str("error: the constraints have no order of repair\n")?;
     let mut member = None;

@@ -52,7 +52,7 @@ fn complete<R: Print + Eprint>(rt: &R, alloc: Global, shell: &str, colours: bool
 }
 
 const SAME_FILE: &str =
-    "error: what is saved would replace the specification: it is the same file under another name\n";
+    "error: what is saved would replace the specification: both names are those of one file\n";
 
 // Does what a command asks for.
 fn obey<R: Files + Print + Eprint>(

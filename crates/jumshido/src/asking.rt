@@ -29,6 +29,13 @@ pub fn saved_by(command: &str) -> Option<&'static str> {
     }
 }
 
+fn is_saved(command: &str, id: &str) -> bool {
+    match saved_by(command) {
+        Some(saved) => saved == id,
+        None => false,
+    }
+}
+
 /// The name of a file that is read, as the other program takes it.
 pub fn file_name(name: &str) -> &str {
     if name == "-" { INPUT } else { name }
@@ -55,9 +62,8 @@ pub fn dsr_words(
 ) -> Result<Vec<String>, NoMemory> {
     let mut words = Vec::new(alloc);
     words.push(command.to_string(alloc)?)?;
-    let saved = saved_by(command);
     for id in arguments_of(command) {
-        let word = if saved == Some(*id) {
+        let word = if is_saved(command, id) {
             value_of(given, id)
         } else {
             file_of(given, id)

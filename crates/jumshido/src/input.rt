@@ -39,7 +39,7 @@ fn is_special<R: Files>(rt: &R, name: &str) -> bool {
 fn kept_of<'a>(kept: &'a [Kept], name: &str) -> Option<&'a [u8]> {
     for one in kept {
         if one.name.as_str() == name {
-            return Some(&one.bytes);
+            return Some(one.bytes.as_slice());
         }
     }
     None

@@ -140,8 +140,11 @@ fn push_address(
     };
     write!(
         text,
-        "rule x in {source}{index} => x.{field}{entry} in {target};\n\
-rule x in {source}{index} when illegal(x.{field}{entry}) => x in {astray};\n"
+        "rule x in {source}{index} => x.{field}{entry} in {target};\n"
+    )?;
+    write!(
+        text,
+        "rule x in {source}{index} when illegal(x.{field}{entry}) => x in {astray};\n"
     )?;
     Ok(())
 }

@@ -1,5 +1,5 @@
 -- The next fact of a symbol may be asked for the one behind it.
-use Rattle.std.proofs.Common.{IfSome, Option, None, Some, tt}
+use Rattle.std.proofs.Common.{IfSome, Option, None, Some}
 use Rattle.dsr_ir.specs.declared.tuples.Fact.{Fact}
 use Rattle.dsr_ir.specs.declared.updates.Symbol.{Symbol}
 use Rattle.dsr_meaning.specs.Looking.{FindsNextFact, IsOf}

@@ -1,21 +1,16 @@
 -- Why an image can't be edited, told.
-use Rattle.std.proofs.Common.{◌≡◌, ◌≢◌, ℕ, List, [], ◌∷◌, Ok, inl, map, refl, sym, subst}
-use Rattle.std.specs.Prelude.{Vec}
-use Rattle.std.specs.declared.alloc.Global.{Global}
+use Rattle.std.proofs.Common.{◌≡◌, ◌≢◌, ℕ, List, [], ◌∷◌, Ok, map, refl, sym, subst}
 use Rattle.dsr_answers.specs.Texts.{layout_answer, verdict_answer}
 use Rattle.dsr_command_edit.specs.Opened.{IsOpening, Refuses}
 use Rattle.dsr_command_edit.specs.Opened.IsOpening.{inconsistent, unlaid}
 use Rattle.dsr_command_image.proofs.Answered.{refused_answer}
-use Rattle.dsr_edit.specs.Opened.{IsOpenFault}
-use Rattle.dsr_edit.specs.declared.faults.OpenFault.{OpenFault}
-use Rattle.dsr_edit.specs.declared.faults.OpenFault.TheVariants as opens
 use Rattle.dsr_ir.specs.declared.declarations.Spec.{Spec}
 use Rattle.dsr_ir.specs.declared.layouts.Layout.{Layout}
 use Rattle.dsr_ir.specs.declared.tuples.Binding.{Binding}
 use Rattle.dsr_layout.specs.Telling.{Tells, told_as}
 use Rattle.dsr_layout.specs.declared.faults.LayoutFault.{LayoutFault}
 use Rattle.dsr_layout.specs.declared.faults.LayoutFault.TheVariants as faults
-use Rattle.dsr_meaning.specs.Consistency.{AreViolations, BoundConstraint, IsConsistent, bound_constraint}
+use Rattle.dsr_meaning.specs.Consistency.{AreViolations, bound_constraint}
 use Rattle.dsr_meaning.specs.Models.{IsFact}
 use Rattle.dsr_meaning.specs.Refusals.{IsLayoutOf, Refusal, refusals}
 use Rattle.dsr_script.specs.Moves.{shown}
@@ -43,16 +38,3 @@ module _ (spec : Spec) (image : List ℕ) where
   violated_told layout bytes vs told held laid are some says =
       subst (λ a. IsOpening spec image (Refuses a)) (sym says)
       (inconsistent layout (map bound_constraint vs) laid (subst (λ b. AreViolations (IsFact spec layout b) spec (map bound_constraint vs)) held are) (some_mapped bound_constraint vs some))
-
--- ---- a consistent image is opened
-
-some_violated : (spec : Spec) (layout : Layout) (bytes : List ℕ) (vs : List BoundConstraint) → AreViolations (IsFact spec layout bytes) spec vs → vs ≢ [] → IsConsistent spec layout bytes → ⊥
-some_violated spec layout bytes [] are some all = some refl
-some_violated spec layout bytes (v ∷ vs) are some all = all v (are.only v (inl refl))
-
-pub none_violated :
-    (spec : Spec) (layout : Layout) (image bytes : List ℕ) (fault : OpenFault) (found : Vec (ℕ × Binding) Global) → bytes ≡ image
-    → fault ≡ opens.Violated found → IsConsistent spec layout image → IsOpenFault spec layout bytes fault → ⊥
-none_violated spec layout image bytes fault found held is all refused =
-    let its = subst (IsOpenFault spec layout bytes) is refused in
-    some_violated spec layout bytes (map bound_constraint found.items) its.0 (some_mapped bound_constraint found.items its.1) (subst (IsConsistent spec layout) (sym held) all)

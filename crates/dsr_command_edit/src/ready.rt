@@ -3,15 +3,13 @@ ghost use Rattle.std.specs.Prelude.{◌≡◌};
 ghost use Rattle.dsr_meaning.specs.Consistency.{IsConsistent};
 ghost use Rattle.dsr_step_theory.specs.Images.{IsImageOf};
 
-use dsr_ir::{Layout, Spec};
+use dsr_edit::Session;
 use std::marker::Model;
 
 /// A specification with an image that is consistent by it.
 #[derive(Drop)]
 pub struct Ready {
-    pub(crate) spec: Spec,
-    pub(crate) layout: Layout,
-    pub(crate) image: Vec<u8>,
+    pub(crate) session: Session,
 }
 
 impl Model for Ready {
@@ -25,22 +23,18 @@ impl Model for Ready {
 
     ghost coded = { Prim.hlevel (codes, shape_code) };
 
-    ghost view = { λ r. (r.spec, r.image.items) };
+    ghost view = { λ r. (r.session.0, r.session.2) };
 
-    ghost invariant = { λ r. IsOpen r.spec r.layout r.image.items };
+    ghost invariant = { λ r. IsOpen r.session.0 r.session.1 r.session.2 };
 }
 
 impl Ready {
-    /// A specification with an image of this layout that is consistent by it.
-    pub fn new(spec: Spec, layout: Layout, image: Vec<u8>) -> Ready
-        requires image { IsImageOf spec layout image.items }
-        requires consistent { IsConsistent spec layout image.items }
-        ensures { result ≡ (spec, image.items) }
+    /// What a session has, which has begun.
+    pub fn new(session: Session) -> Ready
+        requires image { IsImageOf session.0 session.1 session.2 }
+        requires consistent { IsConsistent session.0 session.1 session.2 }
+        ensures { result ≡ (session.0, session.2) }
     {
-        Ready {
-            spec,
-            layout,
-            image,
-        }
+        Ready { session }
     }
 }

@@ -28,16 +28,16 @@ fn is_none(found: &[(u32, Binding)]) -> bool
 
 /// An image that is consistent under a specification and its layout, and stays so whatever is edited.
 #[derive(Drop)]
-pub struct Session<'a> {
-    spec: &'a Spec,
-    layout: &'a Layout,
+pub struct Session {
+    spec: Spec,
+    layout: Layout,
     rules: ResolvedRules,
     image: Whole,
     /// The model of the image.
     model: Model,
 }
 
-impl<'a> marker::Model for Session<'a> {
+impl marker::Model for Session {
     ghost use Rattle.std.specs.Coded.{codes};
     ghost use Rattle.std.specs.Prelude.{ℕ, List};
     ghost use Rattle.dsr_ir.specs.Exprs.{shape_code};
@@ -49,30 +49,30 @@ impl<'a> marker::Model for Session<'a> {
 
     ghost coded = { Prim.hlevel (codes, shape_code) };
 
-    ghost view = { λ s. (s.spec.now, s.layout.now, s.image) };
+    ghost view = { λ s. (s.spec, s.layout, s.image) };
 
-    ghost invariant = { λ s. IsSession s.spec.now s.layout.now s.rules s.image s.model };
+    ghost invariant = { λ s. IsSession s.spec s.layout s.rules s.image s.model };
 }
 
-impl<'a> Session<'a> {
+impl Session {
     /// A session on an image of which this is the layout. After a refusal the image is given up.
     pub fn begin(
         alloc: Global,
-        spec: &'a Spec,
-        layout: &'a Layout,
+        spec: Spec,
+        layout: Layout,
         image: Whole,
-    ) -> Result<Session<'a>, OpenFault>
-        requires image { IsImageOf spec.now layout.now image }
-        ensures begun { IfOk result (λ session. session ≡ (spec.now, layout.now, image)) }
-        ensures consistent { IfOk result (λ _. IsConsistent spec.now layout.now image) }
-        ensures refused { IfErr result (IsOpenFault spec.now layout.now image) }
+    ) -> Result<Session, OpenFault>
+        requires image { IsImageOf spec layout image }
+        ensures begun { IfOk result (λ session. session ≡ (spec, layout, image)) }
+        ensures consistent { IfOk result (λ _. IsConsistent spec layout image) }
+        ensures refused { IfErr result (IsOpenFault spec layout image) }
     {
-        let rules = ResolvedRules::new(alloc, spec, layout)?;
-        let mut model = Model::prepare(alloc, spec, layout)?;
-        rebuild(&mut model, spec, layout, &rules, &image);
-        let found = violations(alloc, &model, spec)?;
+        let rules = ResolvedRules::new(alloc, &spec, &layout)?;
+        let mut model = Model::prepare(alloc, &spec, &layout)?;
+        rebuild(&mut model, &spec, &layout, &rules, &image);
+        let found = violations(alloc, &model, &spec)?;
         if !is_none(&found) {
-            return Err(OpenFault::Violated(found));
+            return Err(OpenFault::Violated(spec, found));
         }
         Ok(Session {
             spec,
@@ -83,11 +83,18 @@ impl<'a> Session<'a> {
         })
     }
 
+    /// The specification under which the image is consistent.
+    pub fn spec(&self) -> &Spec
+        ensures { result.now ≡ self.now.0 }
+    {
+        &self.spec
+    }
+
     /// Whether a write names a cell of a field that isn't fixed, and its value fits.
     pub fn may_write(&self, write: &CellWrite) -> bool
         ensures { Decides result (MayWriteSome self.now.0 self.now.1 write.now) }
     {
-        can_write(self.spec, self.layout, write)
+        can_write(&self.spec, &self.layout, write)
     }
 
     /// Makes the writes of a group, in order, where each of them can be made and the image is consistent
@@ -102,8 +109,8 @@ impl<'a> Session<'a> {
     {
         edit_group(
             alloc,
-            self.spec,
-            self.layout,
+            &self.spec,
+            &self.layout,
             &self.rules,
             &mut self.image,
             &mut self.model,

@@ -18,17 +18,24 @@ returns-in-Err-clause-opened c =
 pub returns-in-Err-Violated-clause-opened : goal.returns-in-Err-Violated-clause-opened
 returns-in-Err-Violated-clause-opened c =
     let its = subst (IsOpenFault c.args.spec c.in-Ok.layout c.new.result) c.in-Err-Violated.field-0-is c.in-Err-Violated.ensures.refused in
-    violated_told c.args.spec c.args.image.items c.in-Ok.layout c.new.result c.in-Err-Violated.found.items c.in_ok-verdict-in-Err-Violated.field-0
-    c.new.ensures (subst (λ b. IsLayoutOf c.args.spec b c.in-Ok.layout) c.deref.ensures.value c.in-Ok.ensures.image.layout_is) its.0 its.1
-    (c.in_ok-verdict-in-Err-Violated.ensures ∙ ap (λ vs. verdict_answer c.args.spec (map bound_constraint vs)) c.deref-in-Err-Violated.ensures.value)
+    let found = c.in-Err-Violated.found.items in
+    violated_told c.args.spec c.args.image.items c.in-Ok.layout c.new.result found c.in_ok-verdict-in-Err-Violated.field-0
+    c.new.ensures (subst (λ b. IsLayoutOf c.args.spec b c.in-Ok.layout) c.deref.ensures.value c.in-Ok.ensures.image.layout_is) its.1 its.2
+    (c.in_ok-verdict-in-Err-Violated.ensures
+    ∙ (ap (λ vs. verdict_answer c.in-Err-Violated.spec (map bound_constraint vs)) c.deref-in-Err-Violated.ensures.value
+    ∙ ap (λ s. verdict_answer s (map bound_constraint found)) its.0))
 
-pub new-requires-2-clause-consistent : goal.new-requires-2-clause-consistent
-new-requires-2-clause-consistent c =
-    subst (IsConsistent c.args.spec c.in-Ok.layout) (sym (c.into_bytes-bytes.ensures.bytes ∙ ap (λ (s : Spec × Layout × List ℕ). s.2) c.in-Ok-begin.ensures.begun))
-    c.in-Ok-begin.ensures.consistent
+pub new-requires-2 : goal.new-requires-2
+new-requires-2 c =
+    let begun = sym c.in-Ok-begin.ensures.begun in
+    record {
+      image = subst (λ (s : Spec × Layout × List ℕ). IsImageOf s.0 s.1 s.2) begun
+          (subst (IsImageOf c.args.spec c.in-Ok.layout) (c.deref.ensures.value ∙ sym c.new.ensures) c.in-Ok.ensures.image);
+      consistent = subst (λ (s : Spec × Layout × List ℕ). IsConsistent s.0 s.1 s.2) begun c.in-Ok-begin.ensures.consistent;
+    }
 
-pub returns-clause-opened : goal.returns-clause-opened
-returns-clause-opened c = open_to c.in-Ok.layout (record {
+pub returns-in-Ok-clause-opened : goal.returns-in-Ok-clause-opened
+returns-in-Ok-clause-opened c = open_to c.in-Ok.layout (record {
   image_of = subst (IsImageOf c.args.spec c.in-Ok.layout) c.deref.ensures.value c.in-Ok.ensures.image;
   consistent = subst (IsConsistent c.args.spec c.in-Ok.layout) c.new.ensures c.in-Ok-begin.ensures.consistent;
 })

@@ -1,5 +1,5 @@
 -- What comes of an edit, told.
-use Rattle.std.proofs.Common.{◌≡◌, ◌∙◌, ℕ, Bool, List, ap, length, map, sym, subst}
+use Rattle.std.proofs.Common.{◌≡◌, ◌∙◌, ℕ, List, ap, length, map, sym, subst}
 use Rattle.std.specs.Prelude.{Vec}
 use Rattle.std.specs.declared.alloc.Global.{Global}
 use Rattle.std.proofs.lemmas.List.{length-map}
@@ -9,6 +9,8 @@ use Rattle.dsr_command_edit.specs.Ends.{IsOutcome}
 use Rattle.dsr_command_edit.specs.Opened.{IsOpen}
 use Rattle.dsr_command_edit.specs.declared.editing.Outcome.{Outcome}
 use Rattle.dsr_command_image.specs.Repaired.{Ending, Saves, Tells}
+use Rattle.dsr_edit.specs.Sessions.{IsPaused}
+use Rattle.dsr_edit.specs.declared.session.Paused.{Paused}
 use Rattle.dsr_edit_text.specs.Scripts as scripts
 use Rattle.dsr_edit_text.specs.Scripts.{IsFirstWrong, IsScript, SetText}
 use Rattle.dsr_edit_text.specs.Shown.{shown, shown_groups}
@@ -22,15 +24,17 @@ use Rattle.dsr_script.specs.Scripts.{Answer}
 
 -- how the groups ended, in other names
 pub outcome_of :
-    (spec : Spec) (layout : Layout) (image new : List ℕ) (groups slice : List (Vec SetLine Global)) (outcome end : Outcome) → slice ≡ groups → outcome ≡ end
-    → IsOutcome spec layout (shown_groups slice) image new outcome → IsOutcome spec layout (shown_groups groups) image new end
-outcome_of spec layout image new groups slice outcome end same ends is =
+    (spec : Spec) (layout : Layout) (image new : List ℕ) (session : Spec × Layout × List ℕ) (groups slice : List (Vec SetLine Global)) (outcome end : Outcome)
+    → slice ≡ groups → session ≡ (spec, layout, image) → outcome ≡ end
+    → IsOutcome spec session.1 (shown_groups slice) session.2 new outcome → IsOutcome spec layout (shown_groups groups) image new end
+outcome_of spec layout image new session groups slice outcome end same resumed ends is =
     subst (IsOutcome spec layout (shown_groups groups) image new) ends
-    (subst (λ gs. IsOutcome spec layout (shown_groups gs) image new outcome) same is)
+    (subst (λ (s : Spec × Layout × List ℕ). IsOutcome spec s.1 (shown_groups groups) s.2 new outcome) resumed
+    (subst (λ gs. IsOutcome spec session.1 (shown_groups gs) session.2 new outcome) same is))
 
--- the script as it was read, by the specification's version
-pub script_of : (spec : Spec) (script : List ℕ) (groups : List (List SetText)) (second : Bool) → second ≡ is_second spec → IsScript second script groups → IsScript (is_second spec) script groups
-script_of spec script groups second same is = subst (λ b. IsScript b script groups) same is
+-- an image may be edited on which a session was put aside
+pub opened : (spec : Spec) (layout : Layout) (paused : Paused) → IsPaused spec layout paused → IsOpen spec layout paused.image
+opened spec layout paused is = record { image_of = is.image; consistent = is.consistent }
 
 pub groups_many : (groups slice : List (Vec SetLine Global)) (n : ℕ) → slice ≡ groups → n ≡ length slice → n ≡ length (shown_groups groups)
 groups_many groups slice n same many =
@@ -45,11 +49,10 @@ module _ (ready : Spec × List ℕ) (spec : Spec) (image script : List ℕ) (vie
 
   -- a line isn't of the form
   pub unread_told :
-      (fault : ScriptFault) (line : ℕ) (answer : Answer) (second : Bool) → second ≡ is_second spec → fault ≡ faults.Line line → scripts.Tells (IsFirstWrong second script) fault
+      (fault : ScriptFault) (line : ℕ) (answer : Answer) → fault ≡ faults.Line line → scripts.Tells (IsFirstWrong (is_second spec) script) fault
       → answer ≡ unread_answer line → IsEditOf ready.0 ready.1 script (Tells answer)
-  unread_told fault line answer second same is first says =
-      let its = subst (λ b. scripts.Tells (IsFirstWrong b script) fault) same first in
-      answered (unread_answer line) answer says (unread line (subst (scripts.Tells (IsFirstWrong (is_second spec) script)) is its))
+  unread_told fault line answer is first says =
+      answered (unread_answer line) answer says (unread line (subst (scripts.Tells (IsFirstWrong (is_second spec) script)) is first))
 
   module _ (layout : Layout) (opened : IsOpen spec layout image) (groups : List (List SetText)) (is_script : IsScript (is_second spec) script groups) where
     pub unwritable_told : (line : ℕ) (answer : Answer) → answer ≡ unwritable_answer line → IsUnwritableLine spec layout groups image line

@@ -45,11 +45,10 @@ module _ (spec : Spec) (layout : Layout) (lines : List SetText) (writes : List C
 
 -- a step of another name
 pub stepped :
-    (spec its : Spec) (layout laid : Layout) (lines : List SetText) (old new : List ℕ) (step end : Step) → its ≡ spec → laid ≡ layout → step ≡ end
-    → IsStep its laid lines old new step → IsStep spec layout lines old new end
-stepped spec its layout laid lines old new step end same same_layout ends is =
-    subst (λ s. IsStep s layout lines old new end) same
-    (subst (λ l. IsStep its l lines old new end) same_layout (subst (IsStep its laid lines old new) ends is))
+    (spec : Spec) (layout its : Layout) (lines : List SetText) (old new : List ℕ) (step end : Step) → its ≡ layout → step ≡ end
+    → IsStep spec its lines old new step → IsStep spec layout lines old new end
+stepped spec layout its lines old new step end same ends is =
+    subst (λ l. IsStep spec l lines old new end) same (subst (IsStep spec its lines old new) ends is)
 
 -- a group stands in the script
 pub group_at :

@@ -1,7 +1,6 @@
 // An image is edited as a script says.
 ghost use Rattle.std.specs.Prelude.{◌≡◌, ◌<◌, ◌^◌, IfOk, MatchOption, Some, length, map, slice_get};
 ghost use Rattle.dsr_command_edit.specs.Edited.{IsEditOf};
-ghost use Rattle.dsr_command_edit.specs.Edited as says;
 ghost use Rattle.dsr_command_edit.specs.Ends.{IsJudgement, IsOutcome, IsStep, TellsFault, ending_of};
 ghost use Rattle.dsr_command_edit.specs.Named.{AreWritesOf, CanBeMade, IsWriteOf};
 ghost use Rattle.dsr_edit.specs.Edits.{MayWriteSome};
@@ -16,7 +15,7 @@ use crate::ready::Ready;
 use crate::texts::{broken_told, edited_told, unread_told, unwritable_told};
 use dsr_edit::{CellWrite, EditFault, Session};
 use dsr_edit_text::{ScriptFault, SetLine, read};
-use dsr_ir::{Binding, NoMemory};
+use dsr_ir::{Binding, NoMemory, Spec};
 use dsr_script::Told;
 use std::alloc::Global;
 
@@ -60,13 +59,14 @@ enum Outcome {
 }
 
 // The write that the line names, where it can be made.
-fn writable(session: &Session, set: &SetLine) -> Option<CellWrite>
-    requires typed { IsTyped session.now.0 }
-    ensures { MatchOption result (CanBeMade session.now.0 session.now.1 (shown set.now) → ⊥)
-        (λ write. IsWriteOf session.now.0 (shown set.now) write
-        × MayWriteSome session.now.0 session.now.1 write) }
+fn writable(session: &Session, spec: &Spec, set: &SetLine) -> Option<CellWrite>
+    requires spec { session.now.0 ≡ spec.now }
+    requires typed { IsTyped spec.now }
+    ensures { MatchOption result (CanBeMade spec.now session.now.1 (shown set.now) → ⊥)
+        (λ write. IsWriteOf spec.now (shown set.now) write
+        × MayWriteSome spec.now session.now.1 write) }
 {
-    let Some(write) = write_of(session.spec(), set) else {
+    let Some(write) = write_of(spec, set) else {
         return None;
     };
     if !session.may_write(&write) {
@@ -84,14 +84,20 @@ fn line_at<'a>(group: &[SetLine<'a>], place: usize) -> SetLine<'a>
 }
 
 // Judges the lines of a group.
-fn judge(alloc: Global, session: &Session, group: &[SetLine]) -> Result<Judgement, NoMemory>
-    requires typed { IsTyped session.now.0 }
-    ensures { IfOk result (IsJudgement session.now.0 session.now.1 (map shown group.now)) }
+fn judge(
+    alloc: Global,
+    session: &Session,
+    spec: &Spec,
+    group: &[SetLine],
+) -> Result<Judgement, NoMemory>
+    requires spec { session.now.0 ≡ spec.now }
+    requires typed { IsTyped spec.now }
+    ensures { IfOk result (IsJudgement spec.now session.now.1 (map shown group.now)) }
 {
     let mut writes = Vec::with_capacity(alloc, group.len())?;
     for place in 0..group.len() {
         let set = line_at(group, place);
-        let Some(write) = writable(session, &set) else {
+        let Some(write) = writable(session, spec, &set) else {
             return Ok(Judgement::Unwritable(place as u64));
         };
         writes.push(write)?;
@@ -114,16 +120,18 @@ fn refused(fault: EditFault) -> Result<Step, NoMemory>
 fn make(
     alloc: Global,
     session: &mut Session,
+    spec: &Spec,
     group: &[SetLine],
     writes: &[CellWrite],
 ) -> Result<Step, NoMemory>
-    requires writes { AreWritesOf session.old.0 (map shown group.now) writes.now }
+    requires spec { session.old.0 ≡ spec.now }
+    requires writes { AreWritesOf spec.now (map shown group.now) writes.now }
     requires may { (write : places.CellWrite) → IsIn write writes.now
-        → MayWriteSome session.old.0 session.old.1 write }
+        → MayWriteSome spec.now session.old.1 write }
     ensures spec { session.new.0 ≡ session.old.0 }
     ensures layout { session.new.1 ≡ session.old.1 }
-    ensures step { IfOk result (IsStep session.old.0 session.old.1 (map shown group.now)
-        session.old.2 session.new.2) }
+    ensures step { IfOk result (IsStep spec.now session.old.1 (map shown group.now) session.old.2
+        session.new.2) }
 {
     match session.edit(alloc, writes) {
         Ok(()) => Ok(Step::Made),
@@ -135,16 +143,18 @@ fn make(
 fn edit_group(
     alloc: Global,
     session: &mut Session,
+    spec: &Spec,
     group: &[SetLine],
 ) -> Result<Step, NoMemory>
-    requires typed { IsTyped session.old.0 }
+    requires spec { session.old.0 ≡ spec.now }
+    requires typed { IsTyped spec.now }
     ensures spec { session.new.0 ≡ session.old.0 }
     ensures layout { session.new.1 ≡ session.old.1 }
-    ensures step { IfOk result (IsStep session.old.0 session.old.1 (map shown group.now)
-        session.old.2 session.new.2) }
+    ensures step { IfOk result (IsStep spec.now session.old.1 (map shown group.now) session.old.2
+        session.new.2) }
 {
-    match judge(alloc, session, group)? {
-        Judgement::Writes(writes) => make(alloc, session, group, &writes),
+    match judge(alloc, session, spec, group)? {
+        Judgement::Writes(writes) => make(alloc, session, spec, group, &writes),
         Judgement::Unwritable(place) => Ok(Step::Unwritable(place)),
     }
 }
@@ -153,17 +163,19 @@ fn edit_group(
 fn edit_groups(
     alloc: Global,
     session: &mut Session,
+    spec: &Spec,
     groups: &[Vec<SetLine>],
 ) -> Result<Outcome, NoMemory>
-    requires typed { IsTyped session.old.0 }
+    requires spec { session.old.0 ≡ spec.now }
+    requires typed { IsTyped spec.now }
     requires few { length (script_texts (shown_groups groups.now)) < 2 ^ 63 }
-    ensures spec { session.new.0 ≡ session.old.0 }
-    ensures outcome { IfOk result (IsOutcome session.old.0 session.old.1 (shown_groups groups.now)
+    ensures same { session.new.1 ≡ session.old.1 }
+    ensures outcome { IfOk result (IsOutcome spec.now session.old.1 (shown_groups groups.now)
         session.old.2 session.new.2) }
 {
     let mut line = 1;
     for (number, group) in groups.iter().enumerate() {
-        match edit_group(alloc, session, group)? {
+        match edit_group(alloc, session, spec, group)? {
             Step::Made => line += group.len() as u64 + 1,
             Step::Unwritable(place) => return Ok(Outcome::Unwritable(line + place)),
             Step::Broken(constraint, binding) => {
@@ -174,35 +186,29 @@ fn edit_groups(
     Ok(Outcome::Made)
 }
 
-// Whether names are those of a specification of version 2.
-fn is_second(session: &Session) -> bool
-    ensures { result ≡ says.is_second session.now.0 }
-{
-    session.spec().base.version == 2
-}
-
 /// Edits an image as a script says: all of its groups are made, or nothing is saved.
 pub fn edit(alloc: Global, ready: Ready, script: &[u8]) -> Result<Edited, NoMemory>
     ensures { IfOk result (λ edited. IsEditOf ready.0 ready.1 script.now (ending_of edited)) }
 {
-    let Ready { mut session } = ready;
-    let groups = match read(alloc, is_second(&session), script) {
+    let Ready {
+        spec,
+        layout,
+        paused,
+    } = ready;
+    let groups = match read(alloc, spec.base.version == 2, script) {
         Ok(groups) => groups,
         Err(ScriptFault::Line(line)) => return Ok(Edited::Unsaved(unread_told(alloc, line)?)),
         Err(ScriptFault::NoMemory) => return Err(NoMemory),
     };
-    match edit_groups(alloc, &mut session, &groups)? {
+    let mut session = Session::resume(&spec, &layout, paused);
+    match edit_groups(alloc, &mut session, &spec, &groups)? {
         Outcome::Made => {
             let told = edited_told(alloc, groups.len() as u64)?;
             Ok(Edited::Saved(session.into_bytes(), told))
         }
         Outcome::Unwritable(line) => Ok(Edited::Unsaved(unwritable_told(alloc, line)?)),
         Outcome::Broken(group, constraint, binding) => Ok(Edited::Unsaved(broken_told(
-            alloc,
-            session.spec(),
-            group,
-            constraint,
-            &binding,
+            alloc, &spec, group, constraint, &binding,
         )?)),
     }
 }

@@ -34,13 +34,10 @@ fn slot_of(pool: u32, slot: u64) -> Option<Element>
     ensures { MatchOption result (2 ^ 32 ≤ slot)
         (λ elem. (slot < 2 ^ 32) × (elem ≡ record { pool = pool; slot = slot })) }
 {
-    if slot > 4_294_967_295 {
+    let Ok(slot) = u32::try_from(slot) else {
         return None;
-    }
-    Some(Element {
-        pool,
-        slot: slot as u32,
-    })
+    };
+    Some(Element { pool, slot })
 }
 
 // The record that the line names.

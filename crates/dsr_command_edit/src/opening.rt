@@ -34,11 +34,12 @@ pub fn open(alloc: Global, spec: Spec, image: Vec<u8>) -> Result<Opened, NoMemor
         Ok(layout) => layout,
         Err(fault) => return Ok(Opened::Refused(layout_refused(alloc, &spec, fault)?)),
     };
-    match Session::begin(alloc, spec, layout, Whole::new(image)) {
-        Ok(session) => Ok(Opened::Ready(Ready::new(session))),
-        Err(OpenFault::Violated(spec, found)) => {
-            Ok(Opened::Refused(verdict(alloc, &spec, &found)?))
+    let paused = match Session::begin(alloc, &spec, &layout, Whole::new(image)) {
+        Ok(session) => session.pause(),
+        Err(OpenFault::Violated(found)) => {
+            return Ok(Opened::Refused(verdict(alloc, &spec, &found)?));
         }
-        Err(OpenFault::NoMemory) => Err(NoMemory),
-    }
+        Err(OpenFault::NoMemory) => return Err(NoMemory),
+    };
+    Ok(Opened::Ready(Ready::new(spec, layout, paused)))
 }

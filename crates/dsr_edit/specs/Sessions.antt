@@ -1,5 +1,6 @@
 -- What a session keeps.
 use Rattle.std.specs.Prelude.{ℕ, List}
+use Rattle.dsr_edit.specs.declared.session.Paused.{Paused}
 use Rattle.dsr_fixpoint.specs.Models.{IsModelOf, IsPreparedFor}
 use Rattle.dsr_ir.specs.declared.declarations.Spec.{Spec}
 use Rattle.dsr_ir.specs.declared.layouts.Layout.{Layout}
@@ -17,3 +18,7 @@ pub record IsSession (spec : Spec) (layout : Layout) (resolved : List Resolved) 
   pub rules : AreResolved spec layout resolved
   pub prepared : IsPreparedFor spec layout view
   pub model : IsModelOf spec layout bytes view
+
+-- what was put aside is all that a session of this specification and layout has
+abbrev pub IsPaused : Spec → Layout → Paused → Type 0
+IsPaused spec layout paused = IsSession spec layout paused.rules paused.image paused.model

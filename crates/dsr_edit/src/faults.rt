@@ -1,16 +1,15 @@
 // Why an image can't be edited, or a group of writes isn't made.
 ghost use Rattle.std.specs.Prelude.{◌≡◌};
 
-use dsr_ir::{Binding, NoMemory, Spec};
+use dsr_ir::{Binding, NoMemory};
 use std::alloc::{AllocError, AllocFailed};
 
 /// Why no session begins.
 #[derive(Drop)]
 pub enum OpenFault {
-    /// The image isn't consistent: the specification comes back, with all violated bindings, each with
-    /// the number of its constraint, constraints in order of declaration and the bindings of each least
-    /// first.
-    Violated(Spec, Vec<(u32, Binding)>),
+    /// The image isn't consistent: all its violated bindings, each with the number of its constraint,
+    /// constraints in order of declaration and the bindings of each least first.
+    Violated(Vec<(u32, Binding)>),
     /// The allocator had no memory left.
     NoMemory,
 }

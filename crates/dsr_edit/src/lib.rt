@@ -13,4 +13,4 @@ mod updates;
 
 pub use faults::{EditFault, OpenFault};
 pub use groups::CellWrite;
-pub use session::Session;
+pub use session::{Paused, Session};

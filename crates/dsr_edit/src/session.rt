@@ -2,6 +2,7 @@
 ghost use Rattle.std.specs.Prelude.{◌≡◌, nat_eq, length, Decides, IfErr, IfOk};
 ghost use Rattle.dsr_edit.specs.Edits.{IsEditFault, IsEdited, MayWriteSome};
 ghost use Rattle.dsr_edit.specs.Opened.{IsOpenFault};
+ghost use Rattle.dsr_edit.specs.Sessions.{IsPaused};
 ghost use Rattle.dsr_meaning.specs.Consistency.{IsConsistent};
 ghost use Rattle.dsr_step_theory.specs.Images.{IsImageOf};
 
@@ -26,18 +27,29 @@ fn is_none(found: &[(u32, Binding)]) -> bool
     found.is_empty()
 }
 
+/// A session that is put aside: all that it has beside its specification and layout.
+#[derive(Drop)]
+pub struct Paused {
+    /// The rules, resolved for the layout.
+    pub rules: ResolvedRules,
+    /// The image.
+    pub image: Whole,
+    /// The model of the image.
+    pub model: Model,
+}
+
 /// An image that is consistent under a specification and its layout, and stays so whatever is edited.
 #[derive(Drop)]
-pub struct Session {
-    spec: Spec,
-    layout: Layout,
+pub struct Session<'a> {
+    spec: &'a Spec,
+    layout: &'a Layout,
     rules: ResolvedRules,
     image: Whole,
     /// The model of the image.
     model: Model,
 }
 
-impl marker::Model for Session {
+impl<'a> marker::Model for Session<'a> {
     ghost use Rattle.std.specs.Coded.{codes};
     ghost use Rattle.std.specs.Prelude.{ℕ, List};
     ghost use Rattle.dsr_ir.specs.Exprs.{shape_code};
@@ -49,30 +61,30 @@ impl marker::Model for Session {
 
     ghost coded = { Prim.hlevel (codes, shape_code) };
 
-    ghost view = { λ s. (s.spec, s.layout, s.image) };
+    ghost view = { λ s. (s.spec.now, s.layout.now, s.image) };
 
-    ghost invariant = { λ s. IsSession s.spec s.layout s.rules s.image s.model };
+    ghost invariant = { λ s. IsSession s.spec.now s.layout.now s.rules s.image s.model };
 }
 
-impl Session {
+impl<'a> Session<'a> {
     /// A session on an image of which this is the layout. After a refusal the image is given up.
     pub fn begin(
         alloc: Global,
-        spec: Spec,
-        layout: Layout,
+        spec: &'a Spec,
+        layout: &'a Layout,
         image: Whole,
-    ) -> Result<Session, OpenFault>
-        requires image { IsImageOf spec layout image }
-        ensures begun { IfOk result (λ session. session ≡ (spec, layout, image)) }
-        ensures consistent { IfOk result (λ _. IsConsistent spec layout image) }
-        ensures refused { IfErr result (IsOpenFault spec layout image) }
+    ) -> Result<Session<'a>, OpenFault>
+        requires image { IsImageOf spec.now layout.now image }
+        ensures begun { IfOk result (λ session. session ≡ (spec.now, layout.now, image)) }
+        ensures consistent { IfOk result (λ _. IsConsistent spec.now layout.now image) }
+        ensures refused { IfErr result (IsOpenFault spec.now layout.now image) }
     {
-        let rules = ResolvedRules::new(alloc, &spec, &layout)?;
-        let mut model = Model::prepare(alloc, &spec, &layout)?;
-        rebuild(&mut model, &spec, &layout, &rules, &image);
-        let found = violations(alloc, &model, &spec)?;
+        let rules = ResolvedRules::new(alloc, spec, layout)?;
+        let mut model = Model::prepare(alloc, spec, layout)?;
+        rebuild(&mut model, spec, layout, &rules, &image);
+        let found = violations(alloc, &model, spec)?;
         if !is_none(&found) {
-            return Err(OpenFault::Violated(spec, found));
+            return Err(OpenFault::Violated(found));
         }
         Ok(Session {
             spec,
@@ -83,18 +95,37 @@ impl Session {
         })
     }
 
-    /// The specification under which the image is consistent.
-    pub fn spec(&self) -> &Spec
-        ensures { result.now ≡ self.now.0 }
+    /// Puts the session aside, so that its specification and layout are free.
+    pub fn pause(self) -> Paused
+        ensures paused { IsPaused self.entry.0 self.entry.1 result }
+        ensures bytes { result.image ≡ self.entry.2 }
     {
-        &self.spec
+        Paused {
+            rules: self.rules,
+            image: self.image,
+            model: self.model,
+        }
+    }
+
+    /// Goes on with a session of this specification and layout that was put aside.
+    pub fn resume(spec: &'a Spec, layout: &'a Layout, paused: Paused) -> Session<'a>
+        requires paused { IsPaused spec.now layout.now paused }
+        ensures { result ≡ (spec.now, layout.now, paused.image) }
+    {
+        Session {
+            spec,
+            layout,
+            rules: paused.rules,
+            image: paused.image,
+            model: paused.model,
+        }
     }
 
     /// Whether a write names a cell of a field that isn't fixed, and its value fits.
     pub fn may_write(&self, write: &CellWrite) -> bool
         ensures { Decides result (MayWriteSome self.now.0 self.now.1 write.now) }
     {
-        can_write(&self.spec, &self.layout, write)
+        can_write(self.spec, self.layout, write)
     }
 
     /// Makes the writes of a group, in order, where each of them can be made and the image is consistent
@@ -109,8 +140,8 @@ impl Session {
     {
         edit_group(
             alloc,
-            &self.spec,
-            &self.layout,
+            self.spec,
+            self.layout,
             &self.rules,
             &mut self.image,
             &mut self.model,

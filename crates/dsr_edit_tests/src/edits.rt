@@ -3,6 +3,7 @@ ghost use Rattle.std.specs.Prelude.{IfOk};
 ghost use Rattle.dsr_meaning.specs.Typed.{IsTyped};
 
 use crate::fields::add_fields;
+use crate::sessions::add_session;
 use anyhow::bail;
 use dsr_command_edit::{Edited, Opened, Ready, edit, open};
 use dsr_ir::{NoMemory, Spec};
@@ -64,6 +65,7 @@ pub fn add_edits(
         bail!("too many bytes");
     }
     add_fields(text, alloc, &spec)?;
+    add_session(text, alloc, &spec, &image)?;
     match open(alloc, spec, image) {
         Ok(Opened::Refused(told)) => add_told(text, &told),
         Ok(Opened::Ready(ready)) => add_edited(text, alloc, ready, script),

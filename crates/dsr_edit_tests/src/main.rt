@@ -4,12 +4,14 @@
 //! A line `=== NAME HEX` begins a case, with the bytes of its image; the next line is the text of
 //! its specification, and the lines behind that, up to the next `===`, are a script of edits. Of
 //! each case it prints `affected FIELD` with the symbols that a write of the field affects, for each
-//! field, then the answer to the edits with the number of its status, and `saved HEX` where bytes
-//! are saved.
+//! field, then `held HEX`, the bytes of a session on the image, or `not held` with the number of
+//! bindings that are violated, then the answer to the edits with the number of its status, and
+//! `saved HEX` where bytes are saved.
 #![tactic(auto)]
 
 mod edits;
 mod fields;
+mod sessions;
 
 use anyhow::bail;
 use std::alloc::Global;

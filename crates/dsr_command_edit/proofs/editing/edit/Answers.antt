@@ -22,8 +22,8 @@ returns-in-Made c =
     edited_told c.args.ready spec image c.args.script.now c.ready.view_is layout (opened spec layout c.ready.inside.paused c.ready.invariant) (shown_groups groups) c.in-Ok.ensures.read
     new c.into_bytes.result.items c.len.result (shown c.in_ok-told-in-Made.told) c.into_bytes.ensures.bytes
     (groups_many groups c.deref.result.now c.len.result c.deref.ensures.value (omega (arith, count, whole))) c.in_ok-told-in-Made.ensures
-    (outcome_of spec layout image new c.resume.result groups c.deref.result.now c.in_ok-edit_groups.field-0 outcomes.Made
-    c.deref.ensures.value c.resume.ensures c.in-Made.is c.in_ok-edit_groups.ensures.outcome)
+    (outcome_of spec layout image new c.resume-session.result groups c.deref.result.now c.in_ok-edit_groups.field-0 outcomes.Made
+    c.deref.ensures.value c.resume-session.ensures c.in-Made.is c.in_ok-edit_groups.ensures.outcome)
 
 pub returns-in-Unwritable : goal.returns-in-Unwritable
 returns-in-Unwritable c =
@@ -33,8 +33,8 @@ returns-in-Unwritable c =
     let groups = c.in-Ok.groups.items in
     unwritable_told c.args.ready spec image c.args.script.now c.ready.view_is layout (opened spec layout c.ready.inside.paused c.ready.invariant) (shown_groups groups) c.in-Ok.ensures.read
     c.in-Unwritable.line (shown c.in_ok-unwritable_told-in-Unwritable.field-0) c.in_ok-unwritable_told-in-Unwritable.ensures
-    (outcome_of spec layout image c.edit_groups.new.session.2 c.resume.result groups c.deref.result.now c.in_ok-edit_groups.field-0
-    (outcomes.Unwritable c.in-Unwritable.line) c.deref.ensures.value c.resume.ensures c.in-Unwritable.is c.in_ok-edit_groups.ensures.outcome)
+    (outcome_of spec layout image c.edit_groups.new.session.2 c.resume-session.result groups c.deref.result.now c.in_ok-edit_groups.field-0
+    (outcomes.Unwritable c.in-Unwritable.line) c.deref.ensures.value c.resume-session.ensures c.in-Unwritable.is c.in_ok-edit_groups.ensures.outcome)
 
 pub returns : goal.returns
 returns c =
@@ -44,5 +44,5 @@ returns c =
     let groups = c.in-Ok.groups.items in
     broken_told c.args.ready spec image c.args.script.now c.ready.view_is layout (opened spec layout c.ready.inside.paused c.ready.invariant) (shown_groups groups) c.in-Ok.ensures.read
     c.in-Broken.group (record { constraint = c.in-Broken.constraint; binding = c.in-Broken.binding }) (shown c.in_ok-broken_told-in-Broken.field-0) c.in_ok-broken_told-in-Broken.ensures
-    (outcome_of spec layout image c.edit_groups.new.session.2 c.resume.result groups c.deref.result.now c.in_ok-edit_groups.field-0
-    (outcomes.Broken c.in-Broken.group c.in-Broken.constraint c.in-Broken.binding) c.deref.ensures.value c.resume.ensures c.in-Broken.is c.in_ok-edit_groups.ensures.outcome)
+    (outcome_of spec layout image c.edit_groups.new.session.2 c.resume-session.result groups c.deref.result.now c.in_ok-edit_groups.field-0
+    (outcomes.Broken c.in-Broken.group c.in-Broken.constraint c.in-Broken.binding) c.deref.ensures.value c.resume-session.ensures c.in-Broken.is c.in_ok-edit_groups.ensures.outcome)

@@ -1,4 +1,4 @@
-use Rattle.std.proofs.Common.{◌∙◌, ℕ, List, ap, map, subst, sym}
+use Rattle.std.proofs.Common.{◌∙◌, ℕ, List, ap, map, subst}
 use Rattle.dsr_answers.specs.Texts.{verdict_answer}
 use Rattle.dsr_command_edit.proofs.Unopened.{unlaid_told, violated_told}
 use Rattle.dsr_command_edit.specs.Opened.IsOpening.{open_to}
@@ -23,9 +23,10 @@ returns-in-Err-Violated-clause-opened c =
     c.new.ensures (subst (λ b. IsLayoutOf c.args.spec b c.in-Ok.layout) c.deref.ensures.value c.in-Ok.ensures.image.layout_is) its.0 its.1
     (c.in_ok-verdict-in-Err-Violated.ensures ∙ ap (λ vs. verdict_answer c.args.spec (map bound_constraint vs)) c.deref-in-Err-Violated.ensures.value)
 
-pub new-requires-2-clause-paused : goal.new-requires-2-clause-paused
-new-requires-2-clause-paused c =
-    subst (λ (s : Spec × Layout × List ℕ). IsPaused s.0 s.1 c.pause-paused.result) c.in-Ok-begin.ensures.begun c.pause-paused.ensures.paused
+pub new-requires-2 : goal.new-requires-2
+new-requires-2 c = record {
+  paused = subst (λ (s : Spec × Layout × List ℕ). IsPaused s.0 s.1 c.pause-paused.result) c.in-Ok-begin.ensures.begun c.pause-paused.ensures.paused;
+}
 
 pub returns-clause-opened : goal.returns-clause-opened
 returns-clause-opened c = open_to c.in-Ok.layout (record {

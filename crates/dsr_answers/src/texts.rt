@@ -7,7 +7,8 @@ use dsr_script::{Told, Verdict};
 use itoa::Buffer;
 use std::alloc::Global;
 
-/// Appends a piece.
+/// Appends a piece. Most are a few constant bytes, which the caller then writes by itself.
+#[inline(always)]
 pub fn push(text: &mut Vec<u8>, piece: &[u8]) -> Result<(), NoMemory>
     ensures { OnOk result (text.new.items ≡ text.old.items ++ piece.now) }
 {
@@ -23,11 +24,23 @@ pub fn push_named(text: &mut Vec<u8>, word: &[u8], name: &[u8]) -> Result<(), No
     push(text, name)
 }
 
-/// Appends a number in decimal.
-pub fn push_number(text: &mut Vec<u8>, number: u64) -> Result<(), NoMemory>
+// Appends a number in decimal, of however many digits.
+#[inline(never)]
+fn push_digits(text: &mut Vec<u8>, number: u64) -> Result<(), NoMemory>
     ensures { OnOk result (text.new.items ≡ text.old.items ++ decimal number) }
 {
     push(text, Buffer::new().format(number).as_bytes())
+}
+
+/// Appends a number in decimal. Most have one digit.
+#[inline(always)]
+pub fn push_number(text: &mut Vec<u8>, number: u64) -> Result<(), NoMemory>
+    ensures { OnOk result (text.new.items ≡ text.old.items ++ decimal number) }
+{
+    if number < 10 {
+        return push(text, &[b'0' + number as u8]);
+    }
+    push_digits(text, number)
 }
 
 /// The answer with this verdict and this text.

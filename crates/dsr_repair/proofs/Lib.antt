@@ -19,3 +19,4 @@ pub mod Moved
 pub mod RunOn
 pub mod StepMade
 pub mod Renewed
+pub mod Filled

@@ -85,8 +85,8 @@ module _ (P : Element → Type 0) (pool last : ℕ) (within : (e : Element) → 
     | inr none ↦
         let one : Element = record { pool = pool; slot = k } in
         let more : suc (length many.things) ≤ length (slots pool (last + 1)) =
-            no_more (one ∷ many.things) (slots pool (last + 1)) ((λ i. none one i refl), many.enumerated.distinct)
-            (among many.things many.enumerated.only k below) in
+        no_more (one ∷ many.things) (slots pool (last + 1)) ((λ i. none one i refl), many.enumerated.distinct)
+        (among many.things many.enumerated.only k below) in
         let all = slot_count pool (last + 1) in
         let counted = many.counted in
         absurd (omega (arith, more, counted, all))
@@ -107,11 +107,13 @@ module _ (m : ModelView) (set pool : ℕ) where
       let g = subst (IsGreatestFact (λ f. IsCounted Once (Whole set) f × IsInModel m f)) is greatest in
       let own = kinds (Member set (record { pool = pool; slot = last })) (refl, g.of_kind.1) in
       let others = kinds (Member set e) (refl, member) in
-      let of : e.pool ≡ pool = others.1 ∙ sym own.1 in
-      (of, elim (cases_lt last e.slot) [
-        | inl past ↦ absurd (g.none_after (Member set e) (refl, member) (inr (refl, inr (sym of, past))))
-        | inr within ↦ within
-      ])
+      let of : e.pool ≡ pool = others.1 ∙ sym own.1 in (
+        of,
+        elim (cases_lt last e.slot) [
+          | inl past ↦ absurd (g.none_after (Member set e) (refl, member) (inr (refl, inr (sym of, past))))
+          | inr within ↦ within
+        ],
+      )
 
   pub last_within : (fact : Fact) (answer : Option ℕ) → IfSome answer (λ slot. fact ≡ Member set (record { pool = pool; slot = slot }))
       → IsGreatestFact (λ f. IsCounted Once (Whole set) f × IsInModel m f) fact

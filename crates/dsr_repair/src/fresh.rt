@@ -28,7 +28,8 @@ fn is_taken(model: &Model, sets: &[u32], elem: Element) -> bool
 
 // The slot of a fact that is a member of the set in the pool.
 fn slot_in(fact: Fact, set: u32, pool: u32) -> Option<u32>
-    ensures { IfSome result (λ slot. fact ≡ facts.Member set (record { pool = pool; slot = slot })) }
+    ensures { IfSome result
+        (λ slot. fact ≡ facts.Member set (record { pool = pool; slot = slot })) }
 {
     let slot = match fact {
         Fact::Member(_, elem) => elem.slot,
@@ -54,16 +55,33 @@ fn last_slot(model: &Model, set: u32, pool: u32) -> Option<u32>
     slot_in(greatest, set, pool)
 }
 
+// Whether the slot with this number is a member of the set.
+fn has_slot(model: &Model, set: u32, pool: u32, slot: u64) -> bool
+    requires ordered { model.now.ordered ≡ true }
+{
+    let Ok(slot) = u32::try_from(slot) else {
+        return false;
+    };
+    model.has(&Fact::Member(set, Element { pool, slot }))
+}
+
 // A number below which all slots of the pool are members of the set: how many it has, where they
-// are as many as the slots up to its greatest one. Where it has few it isn't asked for that one,
-// which is looked for from the pool's last slot down.
+// are as many as the slots up to its greatest one. That one is looked for from the pool's last slot
+// down, so it isn't asked for where the set has few members, lacks the first slot, or has a member
+// behind as many slots as it has members.
 fn filled_to(model: &Model, set: u32, pool: u32, slots: u64) -> u64
     requires ordered { model.now.ordered ≡ true }
     ensures { (k : ℕ) → k < result
         → IsInModel model.now (facts.Member set (record { pool = pool; slot = k })) }
 {
+    if !has_slot(model, set, pool, 0) {
+        return 0;
+    }
     let members = model.size(&Measure::Whole(set), &Binding::Once);
     if members < slots / 64 {
+        return 0;
+    }
+    if has_slot(model, set, pool, members) {
         return 0;
     }
     let Some(last) = last_slot(model, set, pool) else {

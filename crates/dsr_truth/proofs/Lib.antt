@@ -1,3 +1,4 @@
+pub mod Alone
 pub mod Compared
 pub mod Finding
 pub mod Ordering

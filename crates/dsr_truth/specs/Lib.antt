@@ -1,2 +1,3 @@
+pub mod Only
 pub mod Values
 pub mod Walks

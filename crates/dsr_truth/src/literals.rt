@@ -7,6 +7,7 @@ ghost use Rattle.dsr_meaning.specs.Consistency.{ConjHolds};
 ghost use Rattle.dsr_meaning.specs.Instances.{Compares};
 ghost use Rattle.dsr_meaning.specs.Truth.{AtomHolds, HasBound, HasSize, LiteralHolds};
 ghost use Rattle.dsr_model.specs.Facts.{IsInModel};
+ghost use Rattle.dsr_truth.specs.Only as said;
 ghost use Rattle.dsr_truth.specs.Values.{FindsGreatestValue, ReachDown, ReachUp, SomeFails};
 ghost use Rattle.dsr_truth.specs.Walks.{IsSatisfied, IsUnsatisfied};
 
@@ -17,7 +18,7 @@ use dsr_model::Model;
 use dsr_schema::{compares, element_of};
 
 // The number of what is counted; none where the binding hasn't got the variable.
-#[inline]
+#[inline(always)]
 fn size_of(model: &Model, measure: &Measure, binding: &Binding) -> Option<u64>
     requires { model.now.ordered ≡ true }
     ensures { MatchOption result ((n : ℕ) → HasSize (IsInModel model.now) binding.now measure.now n → ⊥)
@@ -148,7 +149,7 @@ fn is_pair(model: &Model, source: Option<Element>, target: Option<Element>, rel:
 }
 
 // Whether what is counted meets the comparison.
-#[inline]
+#[inline(always)]
 fn size_compares(model: &Model, measure: &Measure, op: Op, number: u64, binding: &Binding) -> bool
     requires { model.now.ordered ≡ true }
     ensures { IsTrue result ↔ AtomHolds (IsInModel model.now) binding.now (atoms.Count measure.now op number) }
@@ -182,7 +183,7 @@ fn value_compares(
 }
 
 // Whether an atom is true.
-#[inline]
+#[inline(always)]
 fn atom_holds(model: &Model, atom: &Atom, binding: &Binding) -> bool
     requires { model.now.ordered ≡ true }
     ensures { IsTrue result ↔ AtomHolds (IsInModel model.now) binding.now atom.now }
@@ -202,13 +203,21 @@ fn atom_holds(model: &Model, atom: &Atom, binding: &Binding) -> bool
     }
 }
 
-/// Whether a literal is true in a model. That it is only tested has no influence.
-#[inline]
-pub fn literal(model: &Model, literal: &Literal, binding: &Binding) -> bool
+// Whether a literal is true: `literal`, as a part of a loop.
+#[inline(always)]
+fn literal_holds(model: &Model, literal: &Literal, binding: &Binding) -> bool
     requires { model.now.ordered ≡ true }
     ensures { IsTrue result ↔ LiteralHolds (IsInModel model.now) binding.now literal.now }
 {
     atom_holds(model, &literal.atom, binding) != literal.negated
+}
+
+/// Whether a literal is true in a model. That it is only tested has no influence.
+pub fn literal(model: &Model, literal: &Literal, binding: &Binding) -> bool
+    requires { model.now.ordered ≡ true }
+    ensures { IsTrue result ↔ LiteralHolds (IsInModel model.now) binding.now literal.now }
+{
+    literal_holds(model, literal, binding)
 }
 
 // Whether all literals of a conjunction are true.
@@ -237,6 +246,45 @@ pub fn is_satisfied(model: &Model, constraint: &Constraint, binding: &Binding) -
         }
     }
     false
+}
+
+// The literal of a conjunction that has no other one.
+fn only_in(literals: &[Literal]) -> Option<Literal>
+    ensures { result ≡ said.only_in literals.now }
+{
+    match literals {
+        [literal] => Some(*literal),
+        _ => None,
+    }
+}
+
+// The literal of a constraint that has no other one.
+pub fn only_literal(constraint: &Constraint) -> Option<Literal>
+    ensures { result ≡ said.only_literal constraint.now }
+{
+    match constraint.conjs.items() {
+        [conj] => only_in(conj.literals.items()),
+        _ => None,
+    }
+}
+
+// As `is_satisfied`, at once where the only literal of the constraint, if it has but one, is known.
+#[inline(always)]
+pub fn is_met(
+    model: &Model,
+    constraint: &Constraint,
+    only: Option<Literal>,
+    binding: &Binding,
+) -> bool
+    requires ordered { model.now.ordered ≡ true }
+    requires only { only ≡ said.only_literal constraint.now }
+    ensures { MatchBool result (IsSatisfied (IsInModel model.now) binding.now constraint.now)
+        (IsUnsatisfied (IsInModel model.now) binding.now constraint.now) }
+{
+    match only {
+        Some(alone) => literal_holds(model, &alone, binding),
+        None => is_satisfied(model, constraint, binding),
+    }
 }
 
 /// Whether a binding of a constraint, by its number, satisfies it: some conjunction has all its

@@ -5,11 +5,38 @@ ghost use Rattle.dsr_model.specs.Facts.{IsInModel};
 ghost use Rattle.dsr_truth.specs.Walks.{AreFound, FindsLeastBinding, IsLaterViolated, IsViolatedAt, IsViolatedFrom, IsViolatedOf, MayBind};
 ghost use Rattle.dsr_meaning.specs.Limits.{most_constraints};
 
-use crate::literals::is_satisfied;
+use crate::literals::{is_met, is_satisfied, only_literal};
 use crate::walks::{is_binding, next_binding};
-use dsr_ir::{Binding, Constraint, NoMemory, Spec};
+use dsr_ir::{Binding, Constraint, NoMemory, Quant, Spec};
 use dsr_model::Model;
 use std::alloc::Global;
+
+// The least violated binding of a constraint that comes after another one, or the least of all. The
+// quantifier is the constraint's; where its kind is known, the walk is a loop of that kind alone.
+#[inline(always)]
+fn next_violated_over(
+    model: &Model,
+    constraint: &Constraint,
+    quant: Quant,
+    before: Option<Binding>,
+) -> Option<Binding>
+    requires ordered { model.now.ordered ≡ true }
+    requires own { constraint.now.quant ≡ quant }
+    requires kind { IfSome before (MayBind model.now constraint.now.quant) }
+    ensures { FindsLeastBinding (IsLaterViolated (IsInModel model.now) constraint.now before) result }
+{
+    let only = only_literal(constraint);
+    let mut last = before;
+    let mut near = 0;
+    while let Some(binding) = next_binding(model, quant, last, near) {
+        if !is_met(model, constraint, only, &binding) {
+            return Some(binding);
+        }
+        near = near.saturating_add(usize::from(last.is_some()));
+        last = Some(binding);
+    }
+    None
+}
 
 // The least violated binding of a constraint that comes after another one, or the least of all.
 fn next_violated(model: &Model, constraint: &Constraint, before: Option<Binding>) -> Option<Binding>
@@ -17,16 +44,43 @@ fn next_violated(model: &Model, constraint: &Constraint, before: Option<Binding>
     requires kind { IfSome before (MayBind model.now constraint.now.quant) }
     ensures { FindsLeastBinding (IsLaterViolated (IsInModel model.now) constraint.now before) result }
 {
-    let mut last = before;
+    match constraint.quant {
+        Quant::Once => next_violated_over(model, constraint, Quant::Once, before),
+        Quant::Each(set) => next_violated_over(model, constraint, Quant::Each(set), before),
+        Quant::Pairs(rel) => next_violated_over(model, constraint, Quant::Pairs(rel), before),
+    }
+}
+
+// Appends the violated bindings of the constraint that has this number. The quantifier is the
+// constraint's; where its kind is known, the walk is a loop of that kind alone.
+#[inline(always)]
+fn violations_over(
+    model: &Model,
+    spec: &Spec,
+    number: u32,
+    constraint: &Constraint,
+    quant: Quant,
+    found: &mut Vec<(u32, Binding)>,
+) -> Result<(), NoMemory>
+    requires ordered { model.now.ordered ≡ true }
+    requires declared { slice_get spec.now.constraints number ≡ Some constraint.now }
+    requires own { constraint.now.quant ≡ quant }
+    requires before { AreFound (IsInModel model.now) spec.now number None
+        (map bound_constraint found.old.items) }
+    ensures { IfOk result (λ _. AreFound (IsInModel model.now) spec.now (number + 1) None
+        (map bound_constraint found.new.items)) }
+{
+    let only = only_literal(constraint);
+    let mut last = None;
     let mut near = 0;
-    while let Some(binding) = next_binding(model, constraint.quant, last, near) {
-        if !is_satisfied(model, constraint, &binding) {
-            return Some(binding);
+    while let Some(binding) = next_binding(model, quant, last, near) {
+        if !is_met(model, constraint, only, &binding) {
+            found.push((number, binding))?;
         }
         near = near.saturating_add(usize::from(last.is_some()));
         last = Some(binding);
     }
-    None
+    Ok(())
 }
 
 // Appends the violated bindings of the constraint that has this number.
@@ -44,16 +98,15 @@ fn constraint_violations(
     ensures { IfOk result (λ _. AreFound (IsInModel model.now) spec.now (number + 1) None
         (map bound_constraint found.new.items)) }
 {
-    let mut last = None;
-    let mut near = 0;
-    while let Some(binding) = next_binding(model, constraint.quant, last, near) {
-        if !is_satisfied(model, constraint, &binding) {
-            found.push((number, binding))?;
+    match constraint.quant {
+        Quant::Once => { violations_over(model, spec, number, constraint, Quant::Once, found) }
+        Quant::Each(set) => {
+            violations_over(model, spec, number, constraint, Quant::Each(set), found)
         }
-        near = near.saturating_add(usize::from(last.is_some()));
-        last = Some(binding);
+        Quant::Pairs(rel) => {
+            violations_over(model, spec, number, constraint, Quant::Pairs(rel), found)
+        }
     }
-    Ok(())
 }
 
 /// All violated bindings, each with the number of its constraint: constraints in order of

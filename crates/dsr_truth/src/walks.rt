@@ -33,7 +33,7 @@ fn pair_fact(rel: u32, pair: Option<(Element, Element)>) -> Option<Fact>
 }
 
 // The next member of a set.
-#[inline]
+#[inline(always)]
 fn next_each(model: &Model, set: u32, before: Option<Element>) -> Option<Binding>
     requires ordered { model.now.ordered ≡ true }
     requires kind { IfSome before (λ e. MayBind model.now (quants.Each set) (each e)) }
@@ -52,7 +52,7 @@ fn next_each(model: &Model, set: u32, before: Option<Element>) -> Option<Binding
 }
 
 // The next pair of records of a relation.
-#[inline]
+#[inline(always)]
 fn next_pair(
     model: &Model,
     rel: u32,
@@ -79,6 +79,7 @@ fn next_pair(
 }
 
 // The least binding of a quantifier.
+#[inline(always)]
 fn first_binding(model: &Model, quant: Quant) -> Option<Binding>
     requires ordered { model.now.ordered ≡ true }
     ensures next { FindsLeastBinding (IsLaterBinding (IsInModel model.now) quant None) result }
@@ -94,7 +95,7 @@ fn first_binding(model: &Model, quant: Quant) -> Option<Binding>
 }
 
 // The least binding of a quantifier that comes after another one.
-#[inline]
+#[inline(always)]
 fn later_binding(model: &Model, quant: Quant, last: Binding, near: usize) -> Option<Binding>
     requires ordered { model.now.ordered ≡ true }
     requires kind { MayBind model.now quant last }
@@ -114,7 +115,7 @@ fn later_binding(model: &Model, quant: Quant, last: Binding, near: usize) -> Opt
 
 /// The least binding of a quantifier that comes after another one, or the least of all, found at
 /// once where the other one has the number `near` among all bindings.
-#[inline]
+#[inline(always)]
 pub fn next_binding(
     model: &Model,
     quant: Quant,

@@ -1,5 +1,6 @@
 // The numbers of a layout as far as they are known: what a refusal is told with.
 use dsr_ir::{Cell, Expr, ExprNode, Field, NoMemory, Order, Pool, Spec, Structure, Width};
+use dsr_layout::is_bytewise;
 use dsr_meaning::value_of_cell;
 use dsr_schema::width_bits;
 use std::alloc::Global;
@@ -105,17 +106,15 @@ fn ends_of(
     Ok(ends)
 }
 
-// Whether an entry of this width is read byte by byte.
-fn is_bytewise(width: Width) -> bool {
-    !matches!(width, Width::Bits(_))
-}
-
 // The value of a scalar that begins at a bit; none where the image ends before.
 fn value_at(bytes: &[u8], order: Order, bit: u64, width: Width) -> Option<u64> {
     let length = bytes.len() as u64;
     let bits = width_bits(width);
+    if length > MOST || bits > 64 {
+        return None;
+    }
     let end = bit.checked_add(bits)?;
-    if length > MOST || bits > 64 || end > 8 * length {
+    if end > 8 * length {
         return None;
     }
     let cell = Cell {

@@ -1,9 +1,9 @@
 // Why an image has no layout, in words.
 use crate::extents::{Extents, PoolExtent, extents_of};
 use dsr_answers::{constraint_name, field_name, pool_name};
-use dsr_ir::{Field, NoMemory, Spec};
+use dsr_ir::{FieldRef, NoMemory, Spec};
 use dsr_layout::LayoutFault;
-use dsr_schema::{pool_at, width_bits};
+use dsr_schema::{declared_field, pool_at, width_bits};
 use dsr_wording::{numbered, push_grouped, text_of};
 use std::alloc::Global;
 use std::fmt::Write;
@@ -155,12 +155,6 @@ fn push_none_code(text: &mut String, spec: &Spec, bytes: &[u8], pool: u32) -> Re
     Ok(())
 }
 
-// The field of a structure.
-fn field_at(spec: &Spec, structure: u32, field: u32) -> Option<&Field> {
-    let declared = spec.base.structures.items().get(structure as usize)?;
-    declared.fields.items().get(field as usize)
-}
-
 // That a code doesn't fit a reference.
 fn push_code(
     text: &mut String,
@@ -174,7 +168,7 @@ fn push_code(
     let pool_text = text_of(pool_name(spec, pool));
     let owner = structure_name(spec, structure);
     let name = text_of(field_name(spec, structure, field));
-    let bits = match field_at(spec, structure, field) {
+    let bits = match declared_field(&spec.base, FieldRef { structure, field }) {
         Some(field) => width_bits(field.width),
         None => 0,
     };

@@ -1,4 +1,6 @@
 // The tokens round a place of a text.
+ghost use Rattle.std.specs.Prelude.{◌≡◌, ◌≤◌, ◌<◌, ◌-◌, [], drop, length, take};
+
 use dsr_lexer::{keyword_bytes, sign_bytes};
 use dsr_tree::{Keyword, Lexeme, Sign, Token};
 
@@ -25,9 +27,21 @@ pub struct Scene<'a> {
     pub at: usize,
 }
 
-/// The bytes of a text from one place to another, where they are.
-pub fn part(text: &[u8], from: usize, to: usize) -> &[u8] {
-    text.get(from..to).unwrap_or(b"")
+/// The bytes of a text from one place to another; none where the text ends before, or the second
+/// place stands before the first one.
+pub fn part(text: &[u8], from: usize, to: usize) -> &[u8]
+    ensures within { from ≤ to → to ≤ length text.now
+        → result.now ≡ take (to - from) (drop from text.now) }
+    ensures before { to < from → result.now ≡ [] }
+    ensures behind { length text.now < to → result.now ≡ [] }
+{
+    if to < from {
+        return b"";
+    }
+    if text.len() < to {
+        return b"";
+    }
+    &text[from..to]
 }
 
 /// The bytes as a text; a question mark where they are none.

@@ -162,21 +162,37 @@ fn completions(alloc: Global) -> Result<Command<'static>, AllocError> {
     with_files(alloc, "completions", about, &["SHELL"])
 }
 
-// The commands of `dsr`.
-fn with_dsr<'a>(alloc: Global, command: Command<'a>) -> Result<Command<'a>, AllocError> {
+// The commands of `dsr` on images.
+fn with_images<'a>(alloc: Global, command: Command<'a>) -> Result<Command<'a>, AllocError> {
     command
         .subcommand(check(alloc)?)?
-        .subcommand(plan(alloc)?)?
         .subcommand(repair(alloc)?)?
         .subcommand(undo(alloc)?)?
         .subcommand(audit(alloc)?)?
         .subcommand(edit(alloc)?)?
         .subcommand(why(alloc)?)?
-        .subcommand(lost(alloc)?)?
+        .subcommand(lost(alloc)?)
+}
+
+// The other commands of `dsr`.
+fn with_plans<'a>(alloc: Global, command: Command<'a>) -> Result<Command<'a>, AllocError> {
+    command
+        .subcommand(plan(alloc)?)?
         .subcommand(certify(alloc)?)?
         .subcommand(verify(alloc)?)?
         .subcommand(text(alloc)?)?
         .subcommand(trial(alloc)?)
+}
+
+// The commands that are of this program alone.
+fn with_own<'a>(alloc: Global, command: Command<'a>) -> Result<Command<'a>, AllocError> {
+    command
+        .subcommand(show(alloc)?)?
+        .subcommand(ways(alloc)?)?
+        .subcommand(lint(alloc)?)?
+        .subcommand(graph(alloc)?)?
+        .subcommand(from_c(alloc)?)?
+        .subcommand(completions(alloc)?)
 }
 
 /// The whole command line.
@@ -192,11 +208,6 @@ pub fn commands(alloc: Global) -> Result<Command<'static>, AllocError> {
         .after_help(AFTER)
         .subcommand_required(true)
         .arg(json)?;
-    with_dsr(alloc, command)?
-        .subcommand(show(alloc)?)?
-        .subcommand(ways(alloc)?)?
-        .subcommand(lint(alloc)?)?
-        .subcommand(graph(alloc)?)?
-        .subcommand(from_c(alloc)?)?
-        .subcommand(completions(alloc)?)
+    let command = with_plans(alloc, with_images(alloc, command)?)?;
+    with_own(alloc, command)
 }

@@ -3,7 +3,7 @@
 ghost use Rattle.std.specs.Prelude.{◌≤◌, IfOk, None, vec_len};
 
 use dsr_store::{FileShelf, Missed, Shelf, ShelfFault};
-use std::alloc::Global;
+use std::alloc::{AllocError, Global};
 use std::fs;
 use std::rt::Files;
 
@@ -46,13 +46,13 @@ fn kept_of<'a>(kept: &'a [Kept], name: &str) -> Option<&'a [u8]> {
 }
 
 // The first bytes of what was kept.
-fn front_of(alloc: Global, kept: &[u8], cap: u64) -> Result<Vec<u8>, ShelfFault>
+fn front_of(alloc: Global, kept: &[u8], cap: u64) -> Result<Vec<u8>, AllocError>
     ensures { IfOk result (λ bytes. vec_len bytes ≤ cap) }
 {
     if cap < kept.len() as u64 {
-        Ok(Vec::from_slice(alloc, &kept[..cap as usize])?)
+        Vec::from_slice(alloc, &kept[..cap as usize])
     } else {
-        Ok(Vec::from_slice(alloc, kept)?)
+        Vec::from_slice(alloc, kept)
     }
 }
 
@@ -84,7 +84,7 @@ impl<'a, R: Files> Shelf for InputShelf<'a, R> {
 
     fn load(&mut self, alloc: Global, name: &str, cap: u64) -> Result<Vec<u8>, ShelfFault> {
         if let Some(bytes) = kept_of(&self.kept, name) {
-            return front_of(alloc, bytes, cap);
+            return Ok(front_of(alloc, bytes, cap)?);
         }
         if !is_special(self.files.rt, name) {
             return self.files.load(alloc, name, cap);

@@ -13,7 +13,7 @@ use dsr_diagnosis::shown;
 use dsr_ir::NoMemory;
 use dsr_layout::LayoutFault;
 use dsr_script::{Status, Verdict};
-use dsr_show::image_model;
+use dsr_show::{ImageModel, image_model};
 use dsr_store::Shelf;
 use dsr_wording::text_of;
 use std::alloc::Global;
@@ -105,6 +105,24 @@ fn plan_refused<F: Shelf>(
     Ok(text)
 }
 
+// What a specification says of an image; nothing where it has no layout.
+fn known_model<'a>(
+    alloc: Global,
+    meaning: &'a Meaning,
+    bytes: Vec<u8>,
+) -> Result<Option<ImageModel<'a>>, NoMemory>
+    requires { IsTyped meaning.now.spec }
+{
+    if bytes.len() as u64 > IMAGE_LIMIT {
+        return Ok(None);
+    }
+    match image_model(alloc, &meaning.spec, bytes) {
+        Ok(image) => Ok(Some(image)),
+        Err(LayoutFault::NoMemory) => Err(NoMemory),
+        Err(_) => Ok(None),
+    }
+}
+
 // Which records are members after a repair, and weren't before, or the other way round.
 fn push_members(
     alloc: Global,
@@ -115,13 +133,10 @@ fn push_members(
 ) -> Result<(), NoMemory>
     requires { IsTyped meaning.now.spec }
 {
-    if before.len() as u64 > IMAGE_LIMIT || after.len() as u64 > IMAGE_LIMIT {
-        return Ok(());
-    }
-    let Ok(before) = image_model(alloc, &meaning.spec, before) else {
+    let Some(before) = known_model(alloc, meaning, before)? else {
         return Ok(());
     };
-    let Ok(after) = image_model(alloc, &meaning.spec, after) else {
+    let Some(after) = known_model(alloc, meaning, after)? else {
         return Ok(());
     };
     members_told(text, &before, &after)

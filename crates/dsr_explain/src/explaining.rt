@@ -1,4 +1,5 @@
 // What an answer of `dsr` means, in words.
+ghost use Rattle.std.specs.Prelude.{◌≡◌};
 ghost use Rattle.dsr_meaning.specs.Typed.{IsTyped};
 
 use crate::chains::chain_told;
@@ -28,7 +29,9 @@ fn word(words: &[String], place: usize) -> &str {
 }
 
 // What is wrong with a specification.
-fn spec_refused<F: Shelf>(alloc: Global, shelf: &mut F, name: &str) -> Result<String, NoMemory> {
+fn spec_refused<F: Shelf>(alloc: Global, shelf: &mut F, name: &str) -> Result<String, NoMemory>
+    ensures held { F.held shelf.new ≡ F.held shelf.old }
+{
     match read_spec(alloc, shelf, name)? {
         SpecRead::Refused(text, diagnosis) => shown(alloc, name, &text, &diagnosis),
         _ => Ok(String::new(alloc)),
@@ -73,7 +76,9 @@ fn image_refused<F: Shelf>(
     shelf: &mut F,
     spec: &str,
     name: &str,
-) -> Result<String, NoMemory> {
+) -> Result<String, NoMemory>
+    ensures held { F.held shelf.new ≡ F.held shelf.old }
+{
     let SpecRead::Means(meaning) = read_spec(alloc, shelf, spec)? else {
         return Ok(String::new(alloc));
     };
@@ -89,7 +94,9 @@ fn plan_refused<F: Shelf>(
     shelf: &mut F,
     name: &str,
     out: &[u8],
-) -> Result<String, NoMemory> {
+) -> Result<String, NoMemory>
+    ensures held { F.held shelf.new ≡ F.held shelf.old }
+{
     let SpecRead::Means(meaning) = read_spec(alloc, shelf, name)? else {
         return Ok(String::new(alloc));
     };
@@ -148,7 +155,9 @@ fn repaired<F: Shelf>(
     shelf: &mut F,
     words: &[String],
     out: &[u8],
-) -> Result<String, NoMemory> {
+) -> Result<String, NoMemory>
+    ensures held { F.held shelf.new ≡ F.held shelf.old }
+{
     let mut text = String::new(alloc);
     report_told(&mut text, text_of(out))?;
     let (image, saved) = (word(words, 2), word(words, 3));
@@ -173,7 +182,9 @@ fn chain_found<F: Shelf>(
     shelf: &mut F,
     name: &str,
     out: &[u8],
-) -> Result<String, NoMemory> {
+) -> Result<String, NoMemory>
+    ensures held { F.held shelf.new ≡ F.held shelf.old }
+{
     let SpecRead::Means(meaning) = read_spec(alloc, shelf, name)? else {
         return Ok(String::new(alloc));
     };
@@ -217,7 +228,9 @@ fn done<F: Shelf>(
     shelf: &mut F,
     words: &[String],
     out: &[u8],
-) -> Result<String, NoMemory> {
+) -> Result<String, NoMemory>
+    ensures held { F.held shelf.new ≡ F.held shelf.old }
+{
     match word(words, 0) {
         "repair" => repaired(alloc, shelf, words, out),
         "why" => chain_found(alloc, shelf, word(words, 1), out),
@@ -232,7 +245,9 @@ fn said<F: Shelf>(
     words: &[String],
     verdict: Verdict,
     out: &[u8],
-) -> Result<String, NoMemory> {
+) -> Result<String, NoMemory>
+    ensures held { F.held shelf.new ≡ F.held shelf.old }
+{
     let (spec, file) = (word(words, 1), word(words, 2));
     match verdict {
         Verdict::SpecRefused => spec_refused(alloc, shelf, spec),
@@ -254,7 +269,9 @@ pub fn explained<F: Shelf>(
     words: &[String],
     status: &Status,
     out: &[u8],
-) -> Result<String, NoMemory> {
+) -> Result<String, NoMemory>
+    ensures held { F.held shelf.new ≡ F.held shelf.old }
+{
     match status {
         Status::Said(verdict) => said(alloc, shelf, words, *verdict, out),
         Status::TooLong => Ok(too_long(out).to_string(alloc)?),

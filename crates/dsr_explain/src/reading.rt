@@ -1,5 +1,5 @@
 // Files that are read: specifications and images.
-ghost use Rattle.std.specs.Prelude.{IfOk};
+ghost use Rattle.std.specs.Prelude.{◌≡◌, ◌≤◌, IfOk, IfSome, vec_len};
 ghost use Rattle.dsr_meaning.specs.Typed.{IsTyped};
 ghost use Rattle.dsr_explain.specs.Readings.{IsTypedRead};
 
@@ -50,7 +50,10 @@ pub fn loaded<F: Shelf>(
     shelf: &mut F,
     name: &str,
     cap: u64,
-) -> Result<Option<Vec<u8>>, NoMemory> {
+) -> Result<Option<Vec<u8>>, NoMemory>
+    ensures capped { IfOk result (λ found. IfSome found (λ bytes. vec_len bytes ≤ cap)) }
+    ensures held { F.held shelf.new ≡ F.held shelf.old }
+{
     match shelf.load(alloc, name, cap) {
         Ok(bytes) => Ok(Some(bytes)),
         Err(ShelfFault::Failed) => Ok(None),
@@ -76,7 +79,8 @@ fn meaning_of(alloc: Global, text: Vec<u8>) -> Result<Result<Meaning, Vec<u8>>, 
 
 /// Reads a specification.
 pub fn read_spec<F: Shelf>(alloc: Global, shelf: &mut F, name: &str) -> Result<SpecRead, NoMemory>
-    ensures { IfOk result IsTypedRead }
+    ensures held { F.held shelf.new ≡ F.held shelf.old }
+    ensures typed { IfOk result IsTypedRead }
 {
     let Some(text) = loaded(alloc, shelf, name, MORE_THAN_SPEC)? else {
         return Ok(SpecRead::Missed);

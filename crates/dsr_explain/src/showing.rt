@@ -1,5 +1,5 @@
 // The command `show`.
-ghost use Rattle.std.specs.Prelude.{IfOk};
+ghost use Rattle.std.specs.Prelude.{◌≡◌, IfOk};
 ghost use Rattle.dsr_meaning.specs.Typed.{IsTyped};
 
 use crate::layouts::layout_told;
@@ -177,7 +177,8 @@ pub fn meaning_or_told<F: Shelf>(
     shelf: &mut F,
     name: &str,
 ) -> Result<Result<Meaning, Shown>, NoMemory>
-    ensures { IfOk result (λ found. IfOk found (λ meaning. IsTyped meaning.spec)) }
+    ensures held { F.held shelf.new ≡ F.held shelf.old }
+    ensures typed { IfOk result (λ found. IfOk found (λ meaning. IsTyped meaning.spec)) }
 {
     match read_spec(alloc, shelf, name)? {
         SpecRead::Means(meaning) => Ok(Ok(meaning)),
@@ -200,7 +201,9 @@ fn show_asked<F: Shelf>(
     spec: &str,
     image: &str,
     asked: Asked<'_>,
-) -> Result<Shown, NoMemory> {
+) -> Result<Shown, NoMemory>
+    ensures held { F.held shelf.new ≡ F.held shelf.old }
+{
     let meaning = match meaning_or_told(alloc, shelf, spec)? {
         Ok(meaning) => meaning,
         Err(told) => return Ok(told),
@@ -218,7 +221,9 @@ pub fn show<F: Shelf>(
     spec: &str,
     image: &str,
     what: &str,
-) -> Result<Shown, NoMemory> {
+) -> Result<Shown, NoMemory>
+    ensures held { F.held shelf.new ≡ F.held shelf.old }
+{
     show_asked(alloc, shelf, spec, image, Asked::What(what))
 }
 
@@ -228,6 +233,8 @@ pub fn draw<F: Shelf>(
     shelf: &mut F,
     spec: &str,
     image: &str,
-) -> Result<Shown, NoMemory> {
+) -> Result<Shown, NoMemory>
+    ensures held { F.held shelf.new ≡ F.held shelf.old }
+{
     show_asked(alloc, shelf, spec, image, Asked::Picture)
 }

@@ -1,4 +1,5 @@
 // The commands that tell something of a specification alone.
+ghost use Rattle.std.specs.Prelude.{◌≡◌};
 ghost use Rattle.dsr_meaning.specs.Typed.{IsTyped};
 
 use crate::reading::Meaning;
@@ -37,7 +38,9 @@ pub fn tell<F: Shelf>(
     shelf: &mut F,
     name: &str,
     telling: Telling,
-) -> Result<Shown, NoMemory> {
+) -> Result<Shown, NoMemory>
+    ensures held { F.held shelf.new ≡ F.held shelf.old }
+{
     match meaning_or_told(alloc, shelf, name)? {
         Ok(meaning) => Ok(Shown {
             status: 0,

@@ -1,8 +1,8 @@
 // The system's files. What is no plain file, as the standard input or a pipe, can be read once
 // alone, and what was saved to it can't be read at all: so such bytes are kept.
-ghost use Rattle.std.specs.Prelude.{◌≤◌, IfOk, None, vec_len};
+ghost use Rattle.std.specs.Prelude.{◌≡◌, ◌≤◌, IfOk, None, vec_len};
 
-use dsr_store::{FileShelf, Missed, Shelf, ShelfFault};
+use dsr_store::{FileShelf, Label, Missed, Shelf, ShelfFault};
 use std::alloc::{AllocError, Global};
 use std::fs;
 use std::rt::Files;
@@ -23,8 +23,12 @@ pub struct Kept {
 /// The system's files, with the bytes of those that can't be read again.
 #[derive(Drop)]
 pub struct InputShelf<'a, R: Files> {
-    pub files: FileShelf<'a, R>,
-    pub kept: Vec<Kept>,
+    rt: &'a R,
+    kept: Vec<Kept>,
+    // How many calls failed; it stays at its last value.
+    faults: u64,
+    // The last call that failed.
+    last: Option<Missed>,
 }
 
 // Whether there is something of this name that is no plain file.
@@ -56,58 +60,118 @@ fn front_of(alloc: Global, kept: &[u8], cap: u64) -> Result<Vec<u8>, AllocError>
     }
 }
 
+// The call of a file, as it is told where it fails.
+fn call_of(alloc: Global, saving: bool, name: &str) -> Result<Missed, AllocError>
+    ensures { IfOk result (λ call. call ≡ record { saving = saving; name = name.now }) }
+{
+    let name = Label::new(Vec::from_slice(alloc, name.as_bytes())?);
+    Ok(Missed { saving, name })
+}
+
+// The system's files, before any call.
+fn files_of<R: Files>(rt: &R) -> FileShelf<'_, R> {
+    FileShelf {
+        rt,
+        faults: 0,
+        last: None,
+    }
+}
+
+// The first bytes of a file. Those of what is no plain file are kept.
+fn load_or_kept<R: Files>(
+    rt: &R,
+    kept: &mut Vec<Kept>,
+    alloc: Global,
+    name: &str,
+    cap: u64,
+) -> Result<Vec<u8>, ShelfFault>
+    ensures { IfOk result (λ bytes. vec_len bytes ≤ cap) }
+{
+    if let Some(bytes) = kept_of(kept, name) {
+        return Ok(front_of(alloc, bytes, cap)?);
+    }
+    let mut files = files_of(rt);
+    if !is_special(rt, name) {
+        return files.load(alloc, name, cap);
+    }
+    let whole = files.load(alloc, name, MOST)?;
+    let front = front_of(alloc, &whole, cap)?;
+    kept.push(Kept {
+        name: name.to_string(alloc)?,
+        bytes: whole,
+    })?;
+    Ok(front)
+}
+
+// Saves a file. What was saved to no plain file is kept.
+fn save_and_keep<R: Files>(
+    rt: &R,
+    kept: &mut Vec<Kept>,
+    alloc: Global,
+    name: &str,
+    bytes: &[u8],
+) -> Result<(), ShelfFault> {
+    let mut files = files_of(rt);
+    if !is_special(rt, name) {
+        return files.save(alloc, name, bytes);
+    }
+    // What may fail comes before the save.
+    kept.reserve(1)?;
+    let (label, copy) = (name.to_string(alloc)?, Vec::from_slice(alloc, bytes)?);
+    files.save(alloc, name, bytes)?;
+    kept.push(Kept {
+        name: label,
+        bytes: copy,
+    })?;
+    Ok(())
+}
+
 impl<'a, R: Files> InputShelf<'a, R> {
     /// No file has failed yet.
     pub fn new(rt: &'a R, alloc: Global) -> InputShelf<'a, R> {
         InputShelf {
-            files: FileShelf {
-                rt,
-                faults: 0,
-                last: None,
-            },
+            rt,
             kept: Vec::new(alloc),
+            faults: 0,
+            last: None,
         }
     }
 
     /// The last call that failed.
     pub fn missed(&self) -> &Option<Missed> {
-        &self.files.last
+        &self.last
     }
 }
 
 impl<'a, R: Files> Shelf for InputShelf<'a, R> {
     ghost held = { λ _. None };
 
-    ghost faults = { λ shelf. shelf.files.faults };
+    ghost faults = { λ shelf. shelf.faults };
 
-    ghost last = { λ shelf. shelf.files.last };
+    ghost last = { λ shelf. shelf.last };
 
     fn load(&mut self, alloc: Global, name: &str, cap: u64) -> Result<Vec<u8>, ShelfFault> {
-        if let Some(bytes) = kept_of(&self.kept, name) {
-            return Ok(front_of(alloc, bytes, cap)?);
+        let missed = call_of(alloc, false, name)?;
+        match load_or_kept(self.rt, &mut self.kept, alloc, name, cap) {
+            Ok(bytes) => Ok(bytes),
+            Err(ShelfFault::NoMemory) => Err(ShelfFault::NoMemory),
+            Err(ShelfFault::Failed) => {
+                self.faults = self.faults.saturating_add(1);
+                self.last = Some(missed);
+                Err(ShelfFault::Failed)
+            }
         }
-        if !is_special(self.files.rt, name) {
-            return self.files.load(alloc, name, cap);
-        }
-        let whole = self.files.load(alloc, name, MOST)?;
-        let front = front_of(alloc, &whole, cap)?;
-        let name = name.to_string(alloc)?;
-        self.kept.push(Kept { name, bytes: whole })?;
-        Ok(front)
     }
 
     fn save(&mut self, alloc: Global, name: &str, bytes: &[u8]) -> Result<(), ShelfFault> {
-        if !is_special(self.files.rt, name) {
-            return self.files.save(alloc, name, bytes);
+        let missed = call_of(alloc, true, name)?;
+        match save_and_keep(self.rt, &mut self.kept, alloc, name, bytes) {
+            Err(ShelfFault::Failed) => {
+                self.faults = self.faults.saturating_add(1);
+                self.last = Some(missed);
+                Err(ShelfFault::Failed)
+            }
+            saved => saved,
         }
-        // What may fail comes before the save.
-        self.kept.reserve(1)?;
-        let (label, copy) = (name.to_string(alloc)?, Vec::from_slice(alloc, bytes)?);
-        self.files.save(alloc, name, bytes)?;
-        self.kept.push(Kept {
-            name: label,
-            bytes: copy,
-        })?;
-        Ok(())
     }
 }

@@ -49,6 +49,12 @@ fn kept_of<'a>(kept: &'a [Kept], name: &str) -> Option<&'a [u8]> {
     None
 }
 
+// Keeps the bytes of a name.
+fn keep(kept: &mut Vec<Kept>, name: String, bytes: Vec<u8>) -> Result<(), AllocError> {
+    kept.push(Kept { name, bytes })?;
+    Ok(())
+}
+
 // The first bytes of what was kept.
 fn front_of(alloc: Global, kept: &[u8], cap: u64) -> Result<Vec<u8>, AllocError>
     ensures { IfOk result (λ bytes. vec_len bytes ≤ cap) }
@@ -96,10 +102,7 @@ fn load_or_kept<R: Files>(
     }
     let whole = files.load(alloc, name, MOST)?;
     let front = front_of(alloc, &whole, cap)?;
-    kept.push(Kept {
-        name: name.to_string(alloc)?,
-        bytes: whole,
-    })?;
+    keep(kept, name.to_string(alloc)?, whole)?;
     Ok(front)
 }
 
@@ -119,10 +122,7 @@ fn save_and_keep<R: Files>(
     kept.reserve(1)?;
     let (label, copy) = (name.to_string(alloc)?, Vec::from_slice(alloc, bytes)?);
     files.save(alloc, name, bytes)?;
-    kept.push(Kept {
-        name: label,
-        bytes: copy,
-    })?;
+    keep(kept, label, copy)?;
     Ok(())
 }
 

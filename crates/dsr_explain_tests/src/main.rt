@@ -63,8 +63,9 @@ fn add_told(
     answer: &str,
 ) -> anyhow::Result<()> {
     let words = words_of(alloc, command)?;
-    let told = explained(alloc, shelf, &words, status, answer.as_bytes())
-        .map_err(|_| anyhow!("out of memory"))?;
+    let told = explained(alloc, shelf, &words, status, answer.as_bytes()).map_err(|_| anyhow!(
+        "out of memory"
+    ))?;
     text.push_str(told.as_str())?;
     Ok(())
 }

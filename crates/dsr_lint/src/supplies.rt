@@ -1,0 +1,55 @@
+// What is said of supplies of fresh records.
+use crate::uses::is_given;
+use dsr_ir::{NoMemory, Pool, Spec, Symbol};
+use dsr_wording::{numbered, text_of};
+use std::fmt::Write;
+
+// Whether each rule that gives a set gives the member of a premise that is avoided.
+fn comes_from(spec: &Spec, set: u32, avoided: &[u32]) -> bool {
+    for rule in spec.rules.items() {
+        if !rule.inc.gives(Symbol::Set(set)) {
+            continue;
+        }
+        let from_own = rule.inc.target().is_none();
+        match rule.premise {
+            Some(premise) if from_own && avoided.contains(&premise) => {}
+            _ => return false,
+        }
+    }
+    true
+}
+
+// Appends which sets of a pool its supply doesn't avoid.
+fn push_pool(text: &mut String, spec: &Spec, number: u32, pool: &Pool) -> Result<(), NoMemory> {
+    let Some(avoided) = &pool.avoid else {
+        return Ok(());
+    };
+    let name = text_of(pool.name.bytes());
+    for (place, set) in spec.base.sets.items().iter().enumerate() {
+        let which = numbered(place);
+        let is_other = set.pool != number || set.except.is_some();
+        if is_other || avoided.items().contains(&which) || !is_given(spec, Symbol::Set(which)) {
+            continue;
+        }
+        if !comes_from(spec, which, avoided.items()) {
+            let set = text_of(set.name.bytes());
+            write!(
+                text,
+                "fresh {name}: it doesn't avoid {set}, so a member of it may be reset\n"
+            )?;
+        }
+    }
+    write!(
+        text,
+        "fresh {name}: a record that nothing leads to is taken and reset, whatever it holds\n"
+    )?;
+    Ok(())
+}
+
+/// Appends what is to be said of all supplies.
+pub fn push_supplies(text: &mut String, spec: &Spec) -> Result<(), NoMemory> {
+    for (number, pool) in spec.base.pools.items().iter().enumerate() {
+        push_pool(text, spec, numbered(number).saturating_add(1), pool)?;
+    }
+    Ok(())
+}

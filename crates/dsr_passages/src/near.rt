@@ -1,0 +1,37 @@
+// Names that are close to another one.
+use crate::scene::spelled;
+use dsr_ir::NoMemory;
+use std::alloc::Global;
+use strsim::osa_distance;
+
+// How many letters may differ.
+fn leave(len: usize) -> usize {
+    match len {
+        0..=2 => 0,
+        3..=7 => 1,
+        _ => 2,
+    }
+}
+
+/// Whether one word may have been meant by the other one.
+pub fn is_near(alloc: Global, word: &[u8], meant: &[u8]) -> Result<bool, NoMemory> {
+    if word.eq_ignore_ascii_case(meant) {
+        return Ok(true);
+    }
+    let distance = osa_distance(alloc, spelled(word), spelled(meant))?;
+    Ok(distance <= leave(word.len().max(meant.len())))
+}
+
+/// The first of some words that may have been meant by another one.
+pub fn meant_by<'a>(
+    alloc: Global,
+    word: &[u8],
+    known: &[&'a [u8]],
+) -> Result<Option<&'a [u8]>, NoMemory> {
+    for meant in known {
+        if *meant != word && is_near(alloc, word, meant)? {
+            return Ok(Some(*meant));
+        }
+    }
+    Ok(None)
+}

@@ -1,0 +1,24 @@
+//! What answers mean, in words: what is wrong with a specification, what keeps an image from having a
+//! layout, with numbers, which constraints are violated, with values; and what is shown of an image.
+#![tactic(auto)]
+
+mod chains;
+mod explaining;
+mod extents;
+mod layouts;
+mod listed;
+mod needs;
+mod outcomes;
+mod plans;
+mod reading;
+mod refusals;
+mod reports;
+mod showing;
+mod sources;
+mod telling;
+mod violations;
+
+pub use explaining::explained;
+pub use reading::{Meaning, SpecRead, loaded, read_spec};
+pub use showing::{Shown, draw, refusal, show};
+pub use telling::{Telling, tell};

@@ -1,0 +1,225 @@
+// The specification of structures: a pool and a set for each, a rule for each address, and that no
+// address is illegal.
+use crate::reading::{Member, Structure};
+use crate::spelling::name_with;
+use dsr_ir::NoMemory;
+use std::alloc::Global;
+use std::fmt::Write;
+
+// Whether there is a structure of this name.
+fn is_known(structures: &[Structure], name: &str) -> bool {
+    for structure in structures {
+        if structure.name.as_str() == name {
+            return true;
+        }
+    }
+    false
+}
+
+// The structure to which a member leads, of those that are known.
+fn known_target<'a>(structures: &[Structure], member: &'a Member) -> Option<&'a str> {
+    match &member.target {
+        Some(target) if is_known(structures, target.as_str()) => Some(target.as_str()),
+        _ => None,
+    }
+}
+
+fn pool_of(alloc: Global, structure: &str) -> Result<String, NoMemory> {
+    name_with(alloc, structure, "s")
+}
+
+fn set_of(alloc: Global, structure: &str) -> Result<String, NoMemory> {
+    name_with(alloc, structure, "_set")
+}
+
+// Appends bytes that belong to no field.
+fn push_gap(text: &mut String, bytes: u64) -> Result<(), NoMemory> {
+    if bytes > 0 {
+        write!(text, "  skip {bytes};\n")?;
+    }
+    Ok(())
+}
+
+// Appends a member as a field.
+fn push_member(
+    text: &mut String,
+    structures: &[Structure],
+    member: &Member,
+) -> Result<(), NoMemory> {
+    let alloc = *text.allocator();
+    let (bits, name) = (
+        member.width.saturating_mul(8),
+        name_with(alloc, member.name.as_str(), "")?,
+    );
+    write!(text, "  u{bits} {name}")?;
+    if let Some(count) = member.count {
+        write!(text, "[{count}]")?;
+    }
+    if let Some(target) = known_target(structures, member) {
+        let pool = pool_of(alloc, target)?;
+        write!(text, " -> {pool}")?;
+    }
+    text.push_str(";\n")?;
+    Ok(())
+}
+
+// How many bytes a member has.
+fn bytes_of(member: &Member) -> u64 {
+    member.width.saturating_mul(member.count.unwrap_or(1))
+}
+
+// Appends a structure. Members that can be no fields are gaps, and so are all but the first of
+// those that share bytes.
+fn push_structure(
+    text: &mut String,
+    structures: &[Structure],
+    structure: &Structure,
+) -> Result<(), NoMemory> {
+    let name = name_with(*text.allocator(), structure.name.as_str(), "")?;
+    write!(text, "structure {name} {{\n")?;
+    let mut end = 0u64;
+    for member in &structure.members {
+        if member.start >= end {
+            push_gap(text, member.start.saturating_sub(end))?;
+            push_member(text, structures, member)?;
+            end = member.start.saturating_add(bytes_of(member));
+        }
+    }
+    push_gap(text, structure.size.saturating_sub(end))?;
+    text.push_str("}\n")?;
+    Ok(())
+}
+
+// How many bytes the head has before the first pool.
+const HEAD: u64 = 8;
+
+// Appends the pools, one record each, one behind the other.
+fn push_pools(text: &mut String, structures: &[Structure]) -> Result<(), NoMemory> {
+    let alloc = *text.allocator();
+    let mut start = HEAD;
+    for structure in structures {
+        let name = name_with(alloc, structure.name.as_str(), "")?;
+        let pool = pool_of(alloc, structure.name.as_str())?;
+        let size = structure.size;
+        write!(
+            text,
+            "pool {pool} : {name}[1] at {start} codes {start} step {size} none 0;\n"
+        )?;
+        start = start.saturating_add(size);
+    }
+    Ok(())
+}
+
+// Appends the sets: the records of each structure, and those with an illegal address.
+fn push_sets(text: &mut String, structures: &[Structure]) -> Result<(), NoMemory> {
+    let alloc = *text.allocator();
+    for structure in structures {
+        let pool = pool_of(alloc, structure.name.as_str())?;
+        let set = set_of(alloc, structure.name.as_str())?;
+        let astray = name_with(alloc, structure.name.as_str(), "_astray")?;
+        write!(text, "set {set} of {pool};\nset {astray} of {pool};\n")?;
+    }
+    Ok(())
+}
+
+// Appends the rules of an address of a structure.
+fn push_address(
+    text: &mut String,
+    structure: &Structure,
+    member: &Member,
+    target: &str,
+) -> Result<(), NoMemory> {
+    let alloc = *text.allocator();
+    let source = set_of(alloc, structure.name.as_str())?;
+    let astray = name_with(alloc, structure.name.as_str(), "_astray")?;
+    let target = set_of(alloc, target)?;
+    let field = name_with(alloc, member.name.as_str(), "")?;
+    let (index, entry) = match member.count {
+        Some(_) => (format!(in alloc; ", k in {field}")?, "[k]"),
+        None => (String::new(alloc), ""),
+    };
+    write!(
+        text,
+        "rule x in {source}{index} => x.{field}{entry} in {target};\n"
+    )?;
+    write!(
+        text,
+        "rule x in {source}{index} when illegal(x.{field}{entry}) => x in {astray};\n"
+    )?;
+    Ok(())
+}
+
+// Appends the rules of a structure.
+fn push_rules(
+    text: &mut String,
+    structures: &[Structure],
+    structure: &Structure,
+) -> Result<(), NoMemory> {
+    for member in &structure.members {
+        if let Some(target) = known_target(structures, member) {
+            push_address(text, structure, member, target)?;
+        }
+    }
+    Ok(())
+}
+
+// Appends the constraint that no address of a structure is illegal.
+fn push_legal(text: &mut String, number: usize, structure: &Structure) -> Result<(), NoMemory> {
+    let astray = name_with(*text.allocator(), structure.name.as_str(), "_astray")?;
+    write!(
+        text,
+        "constraint legal_{number} : forall x in {astray} : not x in {astray};\n"
+    )?;
+    Ok(())
+}
+
+const HEADING: &str = "\
+# From what gdb printed. Of each pool set three numbers: how many records there are, behind `at` the
+# byte of the image at which the first one begins, and behind `codes` its address in the program.
+# Describe in `Head` what stands at byte 0 of the image. Then say what else has to hold.
+version 2;
+order little;
+";
+
+// Appends the head: an address of the first structure.
+fn push_head(text: &mut String, first: &Structure) -> Result<(), NoMemory> {
+    let pool = pool_of(*text.allocator(), first.name.as_str())?;
+    write!(text, "structure Head {{\n  u64 first -> {pool};\n}}\n")?;
+    Ok(())
+}
+
+// Appends all declarations, where there is a first structure.
+fn push_all(
+    text: &mut String,
+    structures: &[Structure],
+    first: &Structure,
+) -> Result<(), NoMemory> {
+    push_head(text, first)?;
+    for structure in structures {
+        push_structure(text, structures, structure)?;
+    }
+    push_pools(text, structures)?;
+    push_sets(text, structures)?;
+    let set = set_of(*text.allocator(), first.name.as_str())?;
+    write!(text, "rule head => head.first in {set};\n")?;
+    for structure in structures {
+        push_rules(text, structures, structure)?;
+    }
+    for (number, structure) in structures.iter().enumerate() {
+        push_legal(text, number.saturating_add(1), structure)?;
+    }
+    Ok(())
+}
+
+/// A first specification of structures; none where there are none.
+pub fn specification_of(
+    alloc: Global,
+    structures: &[Structure],
+) -> Result<Option<String>, NoMemory> {
+    let Some(first) = structures.first() else {
+        return Ok(None);
+    };
+    let mut text = String::from_str(alloc, HEADING)?;
+    push_all(&mut text, structures, first)?;
+    Ok(Some(text))
+}

@@ -1,0 +1,24 @@
+//! Images told to a person: records by their fields, sets and relations by what is in them, and
+//! violated constraints with the truth of each of their literals.
+#![tactic(auto)]
+
+mod atoms;
+mod facts;
+mod images;
+mod listing;
+mod names;
+mod pairs;
+mod pictures;
+mod records;
+mod values;
+mod violated;
+
+pub use atoms::{push_literal, push_values};
+pub use images::{ImageModel, image_model};
+pub use listing::{push_set, push_summary};
+pub use names::{push_binding, push_element};
+pub use pairs::push_relation;
+pub use pictures::push_picture;
+pub use records::{push_record, record_structure};
+pub use values::{field_value, is_member, is_pair, value_after};
+pub use violated::push_violation;

@@ -1,0 +1,78 @@
+// The dependence graph for Graphviz.
+ghost use Rattle.dsr_meaning.specs.Typed.{IsTyped};
+
+use dsr_graph::{Graph, Position, breaks, graph, relies, ways};
+use dsr_ir::{Constraint, NoMemory, Spec};
+use dsr_wording::{numbered, text_of};
+use std::alloc::Global;
+use std::fmt::Write;
+
+// Whether some template of a literal breaks another constraint.
+fn literal_breaks(graph: &Graph, at: Position, other: u32) -> bool {
+    for (way, _template) in ways(graph, at).iter().enumerate() {
+        if breaks(graph, at, numbered(way), other).is_some() {
+            return true;
+        }
+    }
+    false
+}
+
+// Whether some template of a constraint breaks another one.
+fn may_break(graph: &Graph, number: u32, constraint: &Constraint, other: u32) -> bool {
+    for (conj, literals) in constraint.conjs.items().iter().enumerate() {
+        for (literal, _literal) in literals.literals.items().iter().enumerate() {
+            let at = Position {
+                constraint: number,
+                conj: numbered(conj),
+                literal: numbered(literal),
+            };
+            if literal_breaks(graph, at, other) {
+                return true;
+            }
+        }
+    }
+    false
+}
+
+// Appends the edges from a constraint.
+fn push_edges(
+    text: &mut String,
+    spec: &Spec,
+    graph: &Graph,
+    number: u32,
+    constraint: &Constraint,
+) -> Result<(), NoMemory> {
+    let name = text_of(constraint.name.bytes());
+    for (other, its) in spec.constraints.items().iter().enumerate() {
+        let other_name = text_of(its.name.bytes());
+        if may_break(graph, number, constraint, numbered(other)) {
+            write!(
+                text,
+                "  \"{name}\" -> \"{other_name}\" [label=\"may break\"];\n"
+            )?;
+        }
+        if relies(graph, number, numbered(other)) {
+            write!(
+                text,
+                "  \"{name}\" -> \"{other_name}\" [label=\"relies on\", style=dashed];\n"
+            )?;
+        }
+    }
+    Ok(())
+}
+
+/// The dependence graph of a specification for Graphviz: an edge from each constraint to those that
+/// its templates may break, and a dashed one to those on which it relies.
+pub fn dependence_graph(alloc: Global, spec: &Spec) -> Result<String, NoMemory>
+    requires { IsTyped spec.now }
+{
+    let graph = graph(alloc, spec)?;
+    let mut text = String::from_str(alloc, "digraph repairs {\n")?;
+    for (number, constraint) in spec.constraints.items().iter().enumerate() {
+        let name = text_of(constraint.name.bytes());
+        write!(text, "  \"{name}\" [shape=box];\n")?;
+        push_edges(&mut text, spec, &graph, numbered(number), constraint)?;
+    }
+    text.push_str("}\n")?;
+    Ok(text)
+}

@@ -1,0 +1,13 @@
+//! How each constraint of a specification would be repaired: its level, and for each literal the
+//! templates that are listed for it, which of them the plan takes, and what each breaks; and the
+//! same as a graph for Graphviz.
+#![tactic(auto)]
+
+mod dot;
+mod literals;
+mod templates;
+mod ways;
+
+pub use dot::dependence_graph;
+pub use literals::{Variables, push_literal, variables_of};
+pub use ways::ways_told;

@@ -1,0 +1,47 @@
+//! The front end for people: the commands of `dsr`, with what their answers mean on the standard
+//! error, and commands that show what a specification says of an image.
+#![tactic(auto)]
+
+mod answers;
+mod asking;
+mod colours;
+mod commands;
+mod completions;
+mod converting;
+mod input;
+mod putting;
+mod reasons;
+mod running;
+
+use crate::answers::answer;
+use std::alloc::{AllocError, Global};
+use std::env::{self, Args};
+use std::io::{self, IsTerminal};
+use std::process::ExitCode;
+
+// The status of want of memory, as that of `dsr`.
+const NO_MEMORY: u8 = 10;
+
+// The words, with the program's name. Words that the system can't give as text ask for nothing.
+fn words_of(alloc: Global, given: io::Result<Args>) -> Result<Vec<String>, AllocError> {
+    match given {
+        Ok(given) => given.collect(alloc),
+        Err(_) => Ok(Vec::new(alloc)),
+    }
+}
+
+fn main(rt: HostRuntime) -> ExitCode {
+    let alloc = rt.alloc();
+    let words = match words_of(alloc, env::args(&rt)) {
+        Ok(words) => words,
+        Err(_) => return ExitCode::from(NO_MEMORY),
+    };
+    let coloured = rt.stderr().is_terminal();
+    match answer(&rt, alloc, &words, coloured) {
+        Ok(status) => ExitCode::from(status),
+        Err(_) => {
+            let _ = eprintln!(rt; "jumshido: there is not enough memory");
+            ExitCode::from(NO_MEMORY)
+        }
+    }
+}

@@ -1,0 +1,235 @@
+// Commands that are run, each to its status.
+use crate::asking::{file_of, value_of, with_file};
+use crate::converting::from_c;
+use crate::input::InputShelf;
+use crate::putting::{Manner, missed_told, put, tell};
+use clap::ArgMatches;
+use dsr_cli::run;
+use dsr_explain::{Shown, Telling, draw, explained, show, tell as tell_spec};
+use dsr_ir::NoMemory;
+use dsr_json::document;
+use dsr_script::Status;
+use dsr_store::SureSink;
+use std::alloc::Global;
+use std::rt::Files;
+
+// The status of a file that can't be read, as that of `dsr`.
+const STORE_FAILED: u8 = 7;
+
+// How a command of `dsr` ended, with its answer.
+#[derive(Drop)]
+struct Ran {
+    status: Status,
+    answer: Vec<u8>,
+}
+
+// Runs a command of `dsr`.
+fn ran<R: Files>(
+    alloc: Global,
+    words: &Vec<String>,
+    shelf: &mut InputShelf<'_, R>,
+) -> Result<Ran, NoMemory> {
+    let mut out = SureSink {
+        bytes: Vec::new(alloc),
+    };
+    let status = run(alloc, words, shelf, &mut out);
+    if matches!(status, Status::NoMemory) {
+        return Err(NoMemory);
+    }
+    Ok(Ran {
+        status,
+        answer: out.bytes,
+    })
+}
+
+// What an answer of `dsr` means.
+fn meaning_of<R: Files>(
+    rt: &R,
+    alloc: Global,
+    shelf: &mut InputShelf<'_, R>,
+    words: &[String],
+    ran: &Ran,
+) -> Result<String, NoMemory> {
+    if matches!(ran.status, Status::StoreFailed) {
+        return missed_told(rt, alloc, shelf);
+    }
+    explained(alloc, shelf, words, &ran.status, &ran.answer)
+}
+
+const NO_MORE: &str = "error: there is not enough memory to tell more\n";
+
+// Runs a command of `dsr`, puts its answer, and tells what that means.
+fn run_plain<R: Files + Print + Eprint>(
+    rt: &R,
+    alloc: Global,
+    words: &Vec<String>,
+    colours: bool,
+) -> Result<u8, NoMemory> {
+    let mut shelf = InputShelf::new(rt, alloc);
+    let ran = ran(alloc, words, &mut shelf)?;
+    let number = put(rt, alloc, &ran.answer, ran.status.number());
+    // The answer is put: what it means can't change the status.
+    match meaning_of(rt, alloc, &mut shelf, words, &ran) {
+        Ok(told) => tell(rt, alloc, told.as_str(), colours),
+        Err(_) => tell(rt, alloc, NO_MORE, colours),
+    }
+    Ok(number)
+}
+
+// Runs a command of `dsr`, and answers with a document.
+fn run_json<R: Files + Print + Eprint>(
+    rt: &R,
+    alloc: Global,
+    words: &Vec<String>,
+) -> Result<u8, NoMemory> {
+    let mut shelf = InputShelf::new(rt, alloc);
+    let ran = ran(alloc, words, &mut shelf)?;
+    let told = meaning_of(rt, alloc, &mut shelf, words, &ran)?;
+    let number = ran.status.number();
+    put_document(rt, alloc, words, number, &ran.answer, told.as_str())
+}
+
+// Puts an answer as a document.
+fn put_document<R: Print + Eprint>(
+    rt: &R,
+    alloc: Global,
+    words: &[String],
+    status: u8,
+    answer: &[u8],
+    told: &str,
+) -> Result<u8, NoMemory> {
+    let answer = String::from_utf8_lossy(alloc, answer)?;
+    let mut text = document(alloc, words, status, answer.as_str(), told)?;
+    text.push('\n')?;
+    Ok(put(rt, alloc, text.as_bytes(), status))
+}
+
+/// Runs a command of `dsr`.
+pub fn run_dsr<R: Files + Print + Eprint>(
+    rt: &R,
+    alloc: Global,
+    words: &Vec<String>,
+    manner: Manner,
+) -> Result<u8, NoMemory> {
+    if manner.json {
+        run_json(rt, alloc, words)
+    } else {
+        run_plain(rt, alloc, words, manner.colours)
+    }
+}
+
+/// Checks each image, and gives the greatest status.
+pub fn check_all<R: Files + Print + Eprint>(
+    rt: &R,
+    alloc: Global,
+    words: &[String],
+    images: &[&str],
+    manner: Manner,
+) -> Result<u8, NoMemory> {
+    let mut status = 0;
+    for image in images {
+        if images.len() > 1 && !manner.json {
+            let heading = format!(in alloc; "image {image}\n")?;
+            status = status.max(put(rt, alloc, heading.as_bytes(), 0));
+        }
+        let words = with_file(alloc, words, image)?;
+        status = status.max(run_dsr(rt, alloc, &words, manner)?);
+    }
+    Ok(status)
+}
+
+// Puts what a command of this program shows.
+fn put_shown<R: Files + Print + Eprint>(
+    rt: &R,
+    alloc: Global,
+    shelf: &InputShelf<'_, R>,
+    words: &[String],
+    shown: &Shown,
+    manner: Manner,
+) -> Result<u8, NoMemory> {
+    let missed = if shown.status == STORE_FAILED {
+        missed_told(rt, alloc, shelf)?
+    } else {
+        String::new(alloc)
+    };
+    let told = if missed.is_empty() {
+        shown.told.as_str()
+    } else {
+        missed.as_str()
+    };
+    if manner.json {
+        return put_document(rt, alloc, words, shown.status, shown.text.as_bytes(), told);
+    }
+    let number = put(rt, alloc, shown.text.as_bytes(), shown.status);
+    tell(rt, alloc, told, manner.colours);
+    Ok(number)
+}
+
+// The words of a command of this program.
+fn shown_words(alloc: Global, command: &str, files: &[&str]) -> Result<Vec<String>, NoMemory> {
+    let mut words = Vec::new(alloc);
+    words.push(command.to_string(alloc)?)?;
+    for file in files {
+        words.push(file.to_string(alloc)?)?;
+    }
+    Ok(words)
+}
+
+/// Shows what a specification says of an image.
+pub fn run_show<R: Files + Print + Eprint>(
+    rt: &R,
+    alloc: Global,
+    given: &ArgMatches<'_>,
+    manner: Manner,
+) -> Result<u8, NoMemory> {
+    let mut shelf = InputShelf::new(rt, alloc);
+    let (spec, image) = (file_of(given, "SPEC"), file_of(given, "IMAGE"));
+    let what = value_of(given, "WHAT");
+    let words = shown_words(alloc, "show", &[spec, image])?;
+    let shown = show(alloc, &mut shelf, spec, image, what)?;
+    put_shown(rt, alloc, &shelf, &words, &shown, manner)
+}
+
+/// Draws an image.
+pub fn run_draw<R: Files + Print + Eprint>(
+    rt: &R,
+    alloc: Global,
+    given: &ArgMatches<'_>,
+    manner: Manner,
+) -> Result<u8, NoMemory> {
+    let mut shelf = InputShelf::new(rt, alloc);
+    let (spec, image) = (file_of(given, "SPEC"), file_of(given, "IMAGE"));
+    let words = shown_words(alloc, "graph", &[spec, image])?;
+    let shown = draw(alloc, &mut shelf, spec, image)?;
+    put_shown(rt, alloc, &shelf, &words, &shown, manner)
+}
+
+/// Prints a first specification for structures of C.
+pub fn run_from_c<R: Files + Print + Eprint>(
+    rt: &R,
+    alloc: Global,
+    given: &ArgMatches<'_>,
+    manner: Manner,
+) -> Result<u8, NoMemory> {
+    let mut shelf = InputShelf::new(rt, alloc);
+    let name = file_of(given, "FILE");
+    let words = shown_words(alloc, "from-c", &[name])?;
+    let shown = from_c(alloc, &mut shelf, name)?;
+    put_shown(rt, alloc, &shelf, &words, &shown, manner)
+}
+
+/// Tells something of a specification alone.
+pub fn run_tell<R: Files + Print + Eprint>(
+    rt: &R,
+    alloc: Global,
+    command: &str,
+    given: &ArgMatches<'_>,
+    telling: Telling,
+    manner: Manner,
+) -> Result<u8, NoMemory> {
+    let mut shelf = InputShelf::new(rt, alloc);
+    let spec = file_of(given, "SPEC");
+    let words = shown_words(alloc, command, &[spec])?;
+    let shown = tell_spec(alloc, &mut shelf, spec, telling)?;
+    put_shown(rt, alloc, &shelf, &words, &shown, manner)
+}

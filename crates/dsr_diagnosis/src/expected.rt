@@ -1,5 +1,7 @@
 // What may stand at a place of a text. Each token is tried there, and read: it may stand there if
 // nothing is refused before what is behind it.
+ghost use Rattle.std.specs.Prelude.{◌≡◌, IfOk};
+
 use dsr_ir::NoMemory;
 use dsr_lexer::{keyword_bytes, sign_bytes};
 use dsr_parse::{SyntaxFault, parse};
@@ -103,7 +105,9 @@ fn refused_at(alloc: Global, text: &[u8]) -> Result<Option<u64>, NoMemory> {
 }
 
 // Whether a token of this spelling may stand at the end of a text, which is left as it was.
-fn may_follow(alloc: Global, text: &mut Vec<u8>, spelling: &[u8]) -> Result<bool, NoMemory> {
+fn may_follow(alloc: Global, text: &mut Vec<u8>, spelling: &[u8]) -> Result<bool, NoMemory>
+    ensures { IfOk result (λ _. text.new.items ≡ text.old.items) }
+{
     let len = text.len();
     text.extend_from_slice(spelling)?;
     let refused = refused_at(alloc, text)?;

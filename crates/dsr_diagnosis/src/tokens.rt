@@ -21,7 +21,7 @@ fn letter_at(alloc: Global, text: &[u8]) -> Result<Option<char>, NoMemory> {
     let front = part(text, 0, text.len().min(LONGEST_LETTER));
     let letters = String::from_utf8_lossy(alloc, front)?;
     match letters.as_str().chars().next() {
-        Some(char::REPLACEMENT_CHARACTER) => Ok(None),
+        Some('\u{fffd}') => Ok(None),
         letter => Ok(letter),
     }
 }

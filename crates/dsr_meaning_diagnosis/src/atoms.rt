@@ -58,10 +58,10 @@ fn atom_hint(scene: &Scene<'_>) -> &'static str {
 fn quantifier_misfit(alloc: Global, scene: &Scene<'_>, tree: &Tree) -> Result<Words, NoMemory> {
     let words = said(alloc, "`forall <x, y> in R` asks for a relation to records")?;
     let words = match relation_at(scene, tree) {
-        Some(relation) => words.with(relation_words(alloc, relation)?)?,
+        Some(relation) => words.and_hint(relation_words(alloc, relation)?)?,
         None => words,
     };
-    words.with(
+    words.and_hint(
         "of a relation to numbers write `forall x in S : x.R <= 9`, or `head.R <= 9`".to_string(
             alloc,
         )?,
@@ -79,8 +79,8 @@ pub fn atom_misfit(alloc: Global, scene: &Scene<'_>, tree: &Tree) -> Result<Word
     }
     let words = said(alloc, "pools or kinds of values disagree here")?;
     let words = match relation_at(scene, tree) {
-        Some(relation) => words.with(relation_words(alloc, relation)?)?,
+        Some(relation) => words.and_hint(relation_words(alloc, relation)?)?,
         None => words,
     };
-    words.with(atom_hint(scene).to_string(alloc)?)
+    words.and_hint(atom_hint(scene).to_string(alloc)?)
 }

@@ -41,9 +41,9 @@ fn guard_at(rule: &Rule, place: u64) -> Option<&Guard> {
 
 /// That a rule reads the head where its record is another one.
 pub fn other_head(alloc: Global, rule: &Rule) -> Result<Words, NoMemory> {
-    let record = spelled(record_name(rule));
+    let name = spelled(record_name(rule));
     let words = said(alloc, "`head` isn't the record of this rule")?;
-    words.with(format!(in alloc; "this rule reads fields of `{record}` alone, as `{record}.f`")?)
+    words.and_hint(format!(in alloc; "this rule reads fields of `{name}` alone, as `{name}.f`")?)
 }
 
 // That what a guard tests is a number.
@@ -53,7 +53,7 @@ fn tested_number(alloc: Global, path: &Path) -> Result<Words, NoMemory> {
         alloc,
         format!(in alloc; "`{field}` is a number, and no reference")?,
     );
-    words.with(
+    words.and_hint(
         "`legal`, `illegal`, `none` and `some` test references; a number is compared, as `x.f = 1`".to_string(
             alloc,
         )?,
@@ -64,7 +64,7 @@ fn tested_number(alloc: Global, path: &Path) -> Result<Words, NoMemory> {
 fn compared_reference(alloc: Global, path: &Path) -> Result<Words, NoMemory> {
     let field = spelled(path.field.name.bytes());
     let message = format!(in alloc; "`{field}` is a reference, and compared with no number")?;
-    Words::new(alloc, message).with(
+    Words::new(alloc, message).and_hint(
         "a reference is tested by `legal(x.f)`, `illegal(x.f)`, `none(x.f)` or `some(x.f)`".to_string(
             alloc,
         )?,

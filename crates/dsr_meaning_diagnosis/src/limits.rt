@@ -63,7 +63,7 @@ pub fn misplaced_fixed(alloc: Global, scene: &Scene<'_>, tree: &Tree) -> Result<
     let text = spelled(name);
     let words = Words::new(alloc, format!(in alloc; "`{text}` can't be fixed")?);
     match structure_at(tree, place_in(scene)) {
-        Some(structure) => words.with(fixed_hint(structure, name).to_string(alloc)?),
+        Some(structure) => words.and_hint(fixed_hint(structure, name).to_string(alloc)?),
         None => Ok(words),
     }
 }
@@ -76,5 +76,7 @@ pub fn late_parent(alloc: Global, scene: &Scene<'_>) -> Result<Words, NoMemory> 
     }
     let text = spelled(parent);
     let message = format!(in alloc; "the parent `{text}` is declared later")?;
-    Words::new(alloc, message).with("a parent stands before all that extend it".to_string(alloc)?)
+    Words::new(alloc, message).and_hint("a parent stands before all that extend it".to_string(
+        alloc,
+    )?)
 }

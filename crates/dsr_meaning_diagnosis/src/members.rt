@@ -15,10 +15,10 @@ pub fn field_words(
     rule: &Rule,
     name: &[u8],
 ) -> Result<Option<String>, NoMemory> {
-    let Some(record) = record_of(tree, rule) else {
+    let Some(structure) = record_of(tree, rule) else {
         return Ok(None);
     };
-    let Some(field) = field_of(tree, record, name) else {
+    let Some(field) = field_of(tree, structure, name) else {
         return Ok(None);
     };
     let name = spelled(name);
@@ -88,13 +88,13 @@ pub fn member_misfit(
     let text = spelled(set);
     let words = said(alloc, "what is given isn't of the set's pool")?;
     let words = match member_words(alloc, tree, rule, member)? {
-        Some(hint) => words.with(hint)?,
+        Some(hint) => words.and_hint(hint)?,
         None => words,
     };
     match set_named(tree, set) {
         Some(set) => {
             let pool = spelled(set.pool.name.bytes());
-            words.with(format!(in alloc; "`{text}` is a set of the pool `{pool}`")?)
+            words.and_hint(format!(in alloc; "`{text}` is a set of the pool `{pool}`")?)
         }
         None => Ok(words),
     }

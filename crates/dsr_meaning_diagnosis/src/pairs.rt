@@ -44,10 +44,10 @@ fn is_slot_alone(tree: &Tree, rule: &Rule, term: &Term, path: &Path) -> bool {
     else {
         return false;
     };
-    let Some(record) = record_of(tree, rule) else {
+    let Some(structure) = record_of(tree, rule) else {
         return false;
     };
-    match field_of(tree, record, path.field.name.bytes()) {
+    match field_of(tree, structure, path.field.name.bytes()) {
         Some(field) => path.index.is_none() && field.length.is_none(),
         None => false,
     }
@@ -96,12 +96,12 @@ pub fn pair_misfit(
     }
     let words = said(alloc, "this pair isn't one of the relation")?;
     let words = match relation_named(tree, relation) {
-        Some(relation) => words.with(relation_words(alloc, relation)?)?,
+        Some(relation) => words.and_hint(relation_words(alloc, relation)?)?,
         None => words,
     };
-    let words = words.with(source_words(alloc, tree, rule, term)?)?;
+    let words = words.and_hint(source_words(alloc, tree, rule, term)?)?;
     match field_words(alloc, tree, rule, path.field.name.bytes())? {
-        Some(hint) => words.with(hint),
+        Some(hint) => words.and_hint(hint),
         None => Ok(words),
     }
 }

@@ -195,6 +195,14 @@ pub fn in_words(role: Role) -> &'static str {
     }
 }
 
+/// One of the use, in words that leave none of it out.
+pub fn one_in_words(role: Role) -> &'static str {
+    match role {
+        Role::PlainSet => "set that is no complement",
+        _ => in_words(role),
+    }
+}
+
 /// More than one of the use, in words.
 pub fn many_in_words(role: Role) -> &'static str {
     match role {

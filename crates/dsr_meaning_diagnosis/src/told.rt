@@ -19,7 +19,7 @@ impl Words {
     }
 
     /// The same with one more hint.
-    pub fn with(mut self, hint: String) -> Result<Words, NoMemory> {
+    pub fn and_hint(mut self, hint: String) -> Result<Words, NoMemory> {
         self.hints.push(hint)?;
         Ok(self)
     }
@@ -32,5 +32,5 @@ pub fn said(alloc: Global, message: &str) -> Result<Words, NoMemory> {
 
 /// A message that is always the same, with what may help.
 pub fn said_with(alloc: Global, message: &str, hint: &str) -> Result<Words, NoMemory> {
-    said(alloc, message)?.with(hint.to_string(alloc)?)
+    said(alloc, message)?.and_hint(hint.to_string(alloc)?)
 }

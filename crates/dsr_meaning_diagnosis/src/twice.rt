@@ -115,7 +115,7 @@ fn name_twice(
     match earlier(&rivals, name, place_in(scene)) {
         Some(place) => {
             let line = line_of(scene.text, place);
-            words.with(format!(in alloc; "it is declared first in line {line}")?)
+            words.and_hint(format!(in alloc; "it is declared first in line {line}")?)
         }
         None => Ok(words),
     }
@@ -125,7 +125,7 @@ fn name_twice(
 fn variable_twice(alloc: Global, name: &[u8]) -> Result<Words, NoMemory> {
     let text = spelled(name);
     let message = format!(in alloc; "both variables are called `{text}`")?;
-    Words::new(alloc, message).with("give each a name of its own".to_string(alloc)?)
+    Words::new(alloc, message).and_hint("give each a name of its own".to_string(alloc)?)
 }
 
 // Whether a name is one of a set and of a relation.
@@ -148,7 +148,7 @@ pub fn twice(alloc: Global, scene: &Scene<'_>, tree: &Tree) -> Result<Words, NoM
             variable_twice(alloc, name)
         }
         Declaration::Relation if is_shared(tree, name) => {
-            name_twice(alloc, scene, tree, name)?.with(
+            name_twice(alloc, scene, tree, name)?.and_hint(
                 "sets and relations share their names".to_string(alloc)?,
             )
         }

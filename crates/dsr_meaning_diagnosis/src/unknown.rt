@@ -1,8 +1,10 @@
 // What is told of a name that isn't declared as what it is used for.
-use crate::declared::{Declared, declared_as, head_of, own_field, owner_of, structure_named};
+use crate::declared::{
+    Declared, declared_as, head_of, own_field, owner_of, set_named, structure_named,
+};
 use crate::places::rule_at;
 use crate::records::{field_of, place_in};
-use crate::roles::{Role, candidates, in_words, many_in_words, role_of};
+use crate::roles::{Role, candidates, in_words, many_in_words, one_in_words, role_of};
 use crate::told::{Words, said, said_with};
 use dsr_ir::NoMemory;
 use dsr_passages::{Declaration, Scene, meant_by, name_in, quoted, spelled};
@@ -39,7 +41,7 @@ fn no_head(alloc: Global, tree: &Tree) -> Result<Words, NoMemory> {
     match almost_head(tree) {
         Some(name) => {
             let hint = format!(in alloc; "if `{name}` is that record, call it `Head`")?;
-            said(alloc, NO_HEAD)?.with(hint)
+            said(alloc, NO_HEAD)?.and_hint(hint)
         }
         None => said_with(alloc, NO_HEAD, EMPTY_HEAD),
     }
@@ -103,6 +105,21 @@ fn is_index(scene: &Scene<'_>, tree: &Tree, name: &[u8]) -> bool {
     }
 }
 
+// Whether a complement stands where none may.
+fn is_refused_complement(tree: &Tree, name: &[u8], role: Role) -> bool {
+    role == Role::PlainSet && set_named(tree, name).is_some()
+}
+
+// That the name isn't declared as what it is used for.
+fn message(alloc: Global, tree: &Tree, name: &[u8], role: Role) -> Result<String, NoMemory> {
+    let text = spelled(name);
+    if is_refused_complement(tree, name, role) {
+        return Ok(format!(in alloc; "`{text}` is a complement, which can't stand here")?);
+    }
+    let what = in_words(role);
+    Ok(format!(in alloc; "no {what} is called `{text}`")?)
+}
+
 // What the name is declared as in place of what it is used for.
 fn other_hint(
     alloc: Global,
@@ -112,6 +129,9 @@ fn other_hint(
     role: Role,
 ) -> Result<Option<String>, NoMemory> {
     let text = spelled(name);
+    if is_refused_complement(tree, name, role) {
+        return Ok(None);
+    }
     if is_index(scene, tree, name) {
         return Ok(Some(format!(in alloc;
             "`{text}` is the rule's index, which stands in brackets alone"
@@ -129,7 +149,7 @@ fn other_hint(
 
 // What is declared for the use.
 fn list_hint(alloc: Global, known: &[&[u8]], role: Role) -> Result<String, NoMemory> {
-    let (one, many) = (in_words(role), many_in_words(role));
+    let (one, many) = (one_in_words(role), many_in_words(role));
     if known.is_empty() {
         return Ok(format!(in alloc; "there are no {many}")?);
     }
@@ -164,13 +184,12 @@ pub fn unknown(alloc: Global, scene: &Scene<'_>, tree: &Tree) -> Result<Words, N
             "it is the record at byte 0, and no parent or structure of a pool or of a set",
         );
     }
-    let (what, text) = (in_words(role), spelled(name));
-    let words = Words::new(alloc, format!(in alloc; "no {what} is called `{text}`")?);
+    let words = Words::new(alloc, message(alloc, tree, name, role)?);
     let known = candidates(alloc, scene, tree, role)?;
     let words = match other_hint(alloc, scene, tree, name, role)? {
-        Some(hint) if known.is_empty() => return words.with(hint),
-        Some(hint) => words.with(hint)?,
+        Some(hint) if known.is_empty() => return words.and_hint(hint),
+        Some(hint) => words.and_hint(hint)?,
         None => words,
     };
-    words.with(meant_hint(alloc, name, &known, role)?)
+    words.and_hint(meant_hint(alloc, name, &known, role)?)
 }

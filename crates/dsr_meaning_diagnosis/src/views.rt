@@ -49,13 +49,13 @@ pub fn set_misfit(alloc: Global, tree: &Tree, place: u64) -> Result<Words, NoMem
                 place: _,
                 structure,
             },
-        ) => words.with(view_hint(alloc, tree, set, structure)?),
+        ) => words.and_hint(view_hint(alloc, tree, set, structure)?),
         Some(
             View::Except {
                 place: _,
                 set: base,
             },
-        ) => words.with(base_hint(alloc, tree, base)?),
+        ) => words.and_hint(base_hint(alloc, tree, base)?),
         None => Ok(words),
     }
 }
@@ -91,7 +91,7 @@ pub fn supply_misfit(alloc: Global, tree: &Tree, place: u64) -> Result<Words, No
     match other_avoided(tree, supply) {
         Some(name) => {
             let name = spelled(name.name.bytes());
-            words.with(format!(in alloc; "`{name}` is no set of the pool `{pool}`")?)
+            words.and_hint(format!(in alloc; "`{name}` is no set of the pool `{pool}`")?)
         }
         None => Ok(words),
     }

@@ -62,7 +62,7 @@ pub fn unaligned(alloc: Global, scene: &Scene<'_>, tree: &Tree) -> Result<Words,
     };
     let taken = taken_before(structure, place);
     let left = 8u64.saturating_sub(taken);
-    words.with(format!(in alloc;
+    words.and_hint(format!(in alloc;
         "the bits before it take {taken} of a byte: put a field of `bits {left}` between"
     )?)
 }
@@ -82,8 +82,8 @@ fn greatest(bits: u64) -> u64 {
 fn compared_field<'a>(scene: &Scene<'_>, tree: &'a Tree) -> Option<&'a NamedField> {
     let is_indexed = sign_in(scene.before(2)) == Some(Sign::CloseBracket);
     let name = name_in(scene.before(if is_indexed { 5 } else { 2 }))?;
-    let record = record_of(tree, rule_at(tree, place_in(scene))?)?;
-    field_of(tree, record, name)
+    let structure = record_of(tree, rule_at(tree, place_in(scene))?)?;
+    field_of(tree, structure, name)
 }
 
 // The field by which a rule gives numbers to a relation.
@@ -165,12 +165,14 @@ pub fn too_wide(alloc: Global, scene: &Scene<'_>, tree: &Tree) -> Result<Words, 
     let number = number_in(scene.found()).unwrap_or(0);
     if keyword_in(scene.before(1)) == Some(Keyword::Bits) {
         let message = format!(in alloc; "a field can't have {number} bits")?;
-        return Words::new(alloc, message).with("`bits N` takes N from 1 to 32".to_string(alloc)?);
+        return Words::new(alloc, message).and_hint("`bits N` takes N from 1 to 32".to_string(
+            alloc,
+        )?);
     }
     let message = format!(in alloc; "the constant {number} doesn't fit its field")?;
     let words = Words::new(alloc, message);
     match narrow_field(scene, tree) {
-        Some(field) => words.with(width_hint(alloc, field)?),
+        Some(field) => words.and_hint(width_hint(alloc, field)?),
         None => Ok(words),
     }
 }

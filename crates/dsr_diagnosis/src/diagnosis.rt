@@ -1,5 +1,6 @@
 // What is wrong with a text, and how it is shown.
-use crate::syntax::{no_token, over_limit, unexpected};
+use crate::tokens::{no_token, over_limit};
+use crate::unexpected::unexpected;
 use dsr_ir::NoMemory;
 use dsr_lexer::front;
 use dsr_meaning_diagnosis::refused;

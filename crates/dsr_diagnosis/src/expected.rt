@@ -1,9 +1,11 @@
 // What may stand at a place of a text. Each token is tried there, and read: it may stand there if
 // nothing is refused before what is behind it.
+ghost use Rattle.std.specs.Prelude.{◌≡◌, IfOk};
+
 use dsr_ir::NoMemory;
 use dsr_lexer::{keyword_bytes, sign_bytes};
 use dsr_parse::{SyntaxFault, parse};
-use dsr_passages::part;
+use dsr_passages::{part, spelled};
 use dsr_tree::{Keyword, Sign};
 use std::alloc::Global;
 
@@ -77,6 +79,9 @@ const SIGNS: [Sign; 22] = [
     Sign::AtLeast,
 ];
 
+// The signs of expressions.
+const OPERATORS: [Sign; 4] = [Sign::Plus, Sign::Minus, Sign::Times, Sign::Over];
+
 /// What may stand at a place.
 #[derive(Drop)]
 pub struct Expected {
@@ -100,7 +105,9 @@ fn refused_at(alloc: Global, text: &[u8]) -> Result<Option<u64>, NoMemory> {
 }
 
 // Whether a token of this spelling may stand at the end of a text, which is left as it was.
-fn may_follow(alloc: Global, text: &mut Vec<u8>, spelling: &[u8]) -> Result<bool, NoMemory> {
+fn may_follow(alloc: Global, text: &mut Vec<u8>, spelling: &[u8]) -> Result<bool, NoMemory>
+    ensures { IfOk result (λ _. text.new.items ≡ text.old.items) }
+{
     let len = text.len();
     text.extend_from_slice(spelling)?;
     let refused = refused_at(alloc, text)?;
@@ -167,4 +174,69 @@ impl Expected {
     pub fn has_keyword(&self, keyword: Keyword) -> bool {
         self.keywords.contains(&keyword)
     }
+}
+
+// Adds a word or a sign in quotes.
+fn push_quoted(alloc: Global, things: &mut Vec<String>, bytes: &[u8]) -> Result<(), NoMemory> {
+    let text = spelled(bytes);
+    things.push(format!(in alloc; "`{text}`")?)?;
+    Ok(())
+}
+
+// Adds the signs, without the four of expressions, which are told in one word.
+fn push_signs(
+    alloc: Global,
+    things: &mut Vec<String>,
+    expected: &Expected,
+) -> Result<(), NoMemory> {
+    for sign in &expected.signs {
+        if !OPERATORS.contains(sign) {
+            push_quoted(alloc, things, sign_bytes(*sign))?;
+        }
+    }
+    Ok(())
+}
+
+// What may stand at a place, each in words.
+fn things(alloc: Global, expected: &Expected) -> Result<Vec<String>, NoMemory> {
+    let mut things = Vec::new(alloc);
+    if expected.name {
+        things.push("a name".to_string(alloc)?)?;
+    }
+    if expected.number {
+        things.push("a number".to_string(alloc)?)?;
+    }
+    for keyword in &expected.keywords {
+        push_quoted(alloc, &mut things, keyword_bytes(*keyword))?;
+    }
+    push_signs(alloc, &mut things, expected)?;
+    if expected.has_sign(Sign::Plus) {
+        things.push("an operator".to_string(alloc)?)?;
+    }
+    if expected.end {
+        things.push("the end of the text".to_string(alloc)?)?;
+    }
+    Ok(things)
+}
+
+// What stands before one of so many things.
+fn before(number: usize, count: usize) -> &'static str {
+    if number == 0 {
+        return "";
+    }
+    if number.saturating_add(1) == count {
+        return " or ";
+    }
+    ", "
+}
+
+/// What may stand at a place, in words.
+pub fn in_words(alloc: Global, expected: &Expected) -> Result<String, NoMemory> {
+    let things = things(alloc, expected)?;
+    let mut text = String::from_str(alloc, "expected ")?;
+    for (number, thing) in things.iter().enumerate() {
+        text.push_str(before(number, things.len()))?;
+        text.push_str(thing.as_str())?;
+    }
+    Ok(text)
 }

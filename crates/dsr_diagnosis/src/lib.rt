@@ -5,7 +5,9 @@
 mod diagnosis;
 mod expected;
 mod foreign;
-mod syntax;
+mod hints;
+mod tokens;
+mod unexpected;
 
 pub use diagnosis::{diagnose, shown};
 pub use dsr_passages::Diagnosis;

@@ -1,6 +1,6 @@
 // What the declarations of a tree name.
 use dsr_ir::NoMemory;
-use dsr_tree::{Content, Field, NamedField, Pool, Set, Structure, Tree, View};
+use dsr_tree::{Content, Field, NamedField, Pool, Relation, Set, Structure, Tree, View};
 use std::alloc::Global;
 
 /// The structure with this name.
@@ -11,6 +11,16 @@ pub fn structure_named<'a>(tree: &'a Tree, name: &[u8]) -> Option<&'a Structure>
         }
     }
     None
+}
+
+/// The structure of the head.
+pub fn head_of(tree: &Tree) -> Option<&Structure> {
+    structure_named(tree, b"Head")
+}
+
+/// Whether a structure is the one of the head.
+pub fn is_head(structure: &Structure) -> bool {
+    structure.name.name.bytes() == b"Head".as_slice()
 }
 
 /// The pool with this name.
@@ -33,18 +43,23 @@ pub fn set_named<'a>(tree: &'a Tree, name: &[u8]) -> Option<&'a Set> {
     None
 }
 
-/// Whether there is a relation with this name.
-pub fn is_relation(tree: &Tree, name: &[u8]) -> bool {
-    for relation in tree.relations.items() {
-        if relation.name.name.bytes() == name {
-            return true;
-        }
-    }
-    false
+/// Whether a set is a complement.
+pub fn is_complement(set: &Set) -> bool {
+    matches!(&set.view, Some(View::Except { place: _, set: _ }))
 }
 
-// The field with this name that a structure declares.
-fn own_field<'a>(structure: &'a Structure, name: &[u8]) -> Option<&'a NamedField> {
+/// The relation with this name.
+pub fn relation_named<'a>(tree: &'a Tree, name: &[u8]) -> Option<&'a Relation> {
+    for relation in tree.relations.items() {
+        if relation.name.name.bytes() == name {
+            return Some(relation);
+        }
+    }
+    None
+}
+
+/// The field with this name that a structure declares.
+pub fn own_field<'a>(structure: &'a Structure, name: &[u8]) -> Option<&'a NamedField> {
     for field in structure.fields.items() {
         if let Field::Named(named) = field
             && named.name.name.bytes() == name
@@ -55,22 +70,17 @@ fn own_field<'a>(structure: &'a Structure, name: &[u8]) -> Option<&'a NamedField
     None
 }
 
-/// The first field with this name, and its structure.
-pub fn field_named<'a>(tree: &'a Tree, name: &[u8]) -> Option<(&'a Structure, &'a NamedField)> {
+/// The first structure that declares a field with this name.
+pub fn owner_of<'a>(tree: &'a Tree, name: &[u8]) -> Option<&'a Structure> {
     for structure in tree.structures.items() {
-        if let Some(field) = own_field(structure, name) {
-            return Some((structure, field));
+        if own_field(structure, name).is_some() {
+            return Some(structure);
         }
     }
     None
 }
 
-/// Whether a set is a complement.
-pub fn is_complement(set: &Set) -> bool {
-    matches!(&set.view, Some(View::Except { place: _, set: _ }))
-}
-
-/// The pool to which a field leads.
+/// The pool to which a field leads; none of a number.
 pub fn target_of(field: &NamedField) -> Option<&[u8]> {
     match &field.content {
         Some(Content::Refers { place: _, pool }) => Some(pool.name.bytes()),
@@ -78,36 +88,56 @@ pub fn target_of(field: &NamedField) -> Option<&[u8]> {
     }
 }
 
-/// Whether a structure is the one of the head.
-pub fn is_head(structure: &Structure) -> bool {
-    structure.name.name.bytes() == b"Head".as_slice()
+/// What a name is declared as.
+#[derive(Clone, Copy, PartialEq, Eq)]
+pub enum Declared {
+    Pool,
+    Set,
+    Complement,
+    Relation,
+    Structure,
+    Field,
 }
 
-/// What a name is declared as, in words.
-pub fn declared_as(tree: &Tree, name: &[u8]) -> Option<&'static str> {
+impl Declared {
+    /// The same in words.
+    pub fn in_words(self) -> &'static str {
+        match self {
+            Declared::Pool => "a pool",
+            Declared::Set => "a set",
+            Declared::Complement => "a complement",
+            Declared::Relation => "a relation",
+            Declared::Structure => "a structure",
+            Declared::Field => "a field",
+        }
+    }
+}
+
+/// What a name is declared as.
+pub fn declared_as(tree: &Tree, name: &[u8]) -> Option<Declared> {
     if pool_named(tree, name).is_some() {
-        return Some("a pool");
+        return Some(Declared::Pool);
     }
     if let Some(set) = set_named(tree, name) {
         return Some(if is_complement(set) {
-            "a complement"
+            Declared::Complement
         } else {
-            "a set"
+            Declared::Set
         });
     }
-    if is_relation(tree, name) {
-        return Some("a relation");
+    if relation_named(tree, name).is_some() {
+        return Some(Declared::Relation);
     }
     if structure_named(tree, name).is_some() {
-        return Some("a structure");
+        return Some(Declared::Structure);
     }
-    match field_named(tree, name) {
-        Some(_) => Some("a field"),
+    match owner_of(tree, name) {
+        Some(_) => Some(Declared::Field),
         None => None,
     }
 }
 
-/// The names of the structures that can be a parent or a pool's.
+/// The names of the structures that can be a parent, a pool's or a set's.
 pub fn structure_names(alloc: Global, tree: &Tree) -> Result<Vec<&[u8]>, NoMemory> {
     let mut names = Vec::new(alloc);
     for structure in tree.structures.items() {
@@ -127,11 +157,20 @@ pub fn pool_names(alloc: Global, tree: &Tree) -> Result<Vec<&[u8]>, NoMemory> {
     Ok(names)
 }
 
-/// The names of the sets, without complements where these don't serve.
-pub fn set_names(alloc: Global, tree: &Tree, plain: bool) -> Result<Vec<&[u8]>, NoMemory> {
+/// The names of the sets.
+pub fn set_names(alloc: Global, tree: &Tree) -> Result<Vec<&[u8]>, NoMemory> {
     let mut names = Vec::new(alloc);
     for set in tree.sets.items() {
-        if !plain || !is_complement(set) {
+        names.push(set.name.name.bytes())?;
+    }
+    Ok(names)
+}
+
+/// The names of the sets that are no complements.
+pub fn plain_set_names(alloc: Global, tree: &Tree) -> Result<Vec<&[u8]>, NoMemory> {
+    let mut names = Vec::new(alloc);
+    for set in tree.sets.items() {
+        if !is_complement(set) {
             names.push(set.name.name.bytes())?;
         }
     }
@@ -147,28 +186,17 @@ pub fn relation_names(alloc: Global, tree: &Tree) -> Result<Vec<&[u8]>, NoMemory
     Ok(names)
 }
 
-// Adds the names of a structure's fields, or of its fixed ones.
-fn add_fields<'a>(
-    names: &mut Vec<&'a [u8]>,
-    structure: &'a Structure,
-    fixed: bool,
-) -> Result<(), NoMemory> {
-    for field in structure.fields.items() {
+/// The names of the fixed fields that the head declares.
+pub fn fixed_names(alloc: Global, tree: &Tree) -> Result<Vec<&[u8]>, NoMemory> {
+    let mut names = Vec::new(alloc);
+    let Some(head) = head_of(tree) else {
+        return Ok(names);
+    };
+    for field in head.fields.items() {
         if let Field::Named(named) = field
-            && (!fixed || named.fixed.is_some())
+            && named.fixed.is_some()
         {
             names.push(named.name.name.bytes())?;
-        }
-    }
-    Ok(())
-}
-
-/// The names of all fields, or of the fixed ones of the head.
-pub fn field_names(alloc: Global, tree: &Tree, fixed: bool) -> Result<Vec<&[u8]>, NoMemory> {
-    let mut names = Vec::new(alloc);
-    for structure in tree.structures.items() {
-        if !fixed || is_head(structure) {
-            add_fields(&mut names, structure, fixed)?;
         }
     }
     Ok(names)

@@ -2,11 +2,20 @@
 //! declarations that don't fit, constants that are too wide.
 #![tactic(auto)]
 
+mod atoms;
 mod declared;
+mod guards;
+mod limits;
 mod meaning;
-mod misfits;
+mod members;
+mod pairs;
+mod places;
+mod records;
 mod roles;
+mod told;
+mod twice;
 mod unknown;
+mod views;
 mod widths;
 
 pub use meaning::refused;

@@ -1,109 +1,20 @@
 // What is told of a text of the grammar that means no specification.
-use crate::misfits::misfit;
+use crate::atoms::atom_misfit;
+use crate::guards::guard_misfit;
+use crate::limits::{late_parent, misplaced_fixed, too_many};
+use crate::members::member_misfit;
+use crate::pairs::pair_misfit;
+use crate::places::rule_at;
+use crate::records::{place_in, place_of};
+use crate::told::{Words, said, said_with};
+use crate::twice::twice;
 use crate::unknown::unknown;
+use crate::views::{set_misfit, supply_misfit};
 use crate::widths::{too_wide, unaligned};
 use dsr_ir::NoMemory;
-use dsr_passages::{
-    Declaration, Diagnosis, Scene, keyword_in, length_of, line_of, name_in, sign_in, spelled,
-};
-use dsr_tree::{Keyword, Sign, Tree};
+use dsr_passages::{Declaration, Diagnosis, Scene, length_of};
+use dsr_tree::{Condition, Inclusion, Rule, Tree};
 use std::alloc::Global;
-
-// A message, and what may help.
-fn said(
-    alloc: Global,
-    message: &'static str,
-    hint: &'static str,
-) -> Result<(String, Vec<String>), NoMemory> {
-    let mut hints = Vec::new(alloc);
-    if !hint.is_empty() {
-        hints.push(hint.to_string(alloc)?)?;
-    }
-    Ok((message.to_string(alloc)?, hints))
-}
-
-// Whether the token of this number gives a name to what it declares.
-fn declares(scene: &Scene<'_>, number: usize) -> bool {
-    let here = Scene {
-        text: scene.text,
-        lexemes: scene.lexemes,
-        at: number,
-    };
-    let (declaration, start) = here.declaration();
-    if declaration != Declaration::Structure {
-        return number == start.saturating_add(1);
-    }
-    let is_field = matches!(
-        sign_in(here.behind(1)),
-        Some(Sign::Semicolon | Sign::OpenBracket | Sign::Arrow)
-    ) || keyword_in(here.behind(1)) == Some(Keyword::Init);
-    number == start.saturating_add(1) || (is_field && sign_in(here.before(1)).is_none())
-}
-
-// The line of the first declaration of the name at the place.
-fn first_line(scene: &Scene<'_>, name: &[u8]) -> Option<usize> {
-    for (number, lexeme) in scene.lexemes.iter().enumerate().take(scene.at) {
-        if name_in(Some(lexeme)) == Some(name) && declares(scene, number) {
-            return Some(line_of(scene.text, lexeme.place));
-        }
-    }
-    None
-}
-
-// That a name is declared twice.
-fn twice(alloc: Global, scene: &Scene<'_>) -> Result<(String, Vec<String>), NoMemory> {
-    let (declaration, _) = scene.declaration();
-    if declaration == Declaration::Fresh {
-        return said(
-            alloc,
-            "this pool has a supply already",
-            "name all sets to avoid behind one `avoid`",
-        );
-    }
-    if declaration == Declaration::Rule {
-        return said(
-            alloc,
-            "the index has the name of the record",
-            "give the index a name of its own",
-        );
-    }
-    let name = name_in(scene.found()).unwrap_or(b"");
-    let text = spelled(name);
-    let message = format!(in alloc; "`{text}` is declared twice")?;
-    let mut hints = Vec::new(alloc);
-    if let Some(line) = first_line(scene, name) {
-        hints.push(format!(in alloc; "it is declared first in line {line}")?)?;
-    }
-    if declaration == Declaration::Set || declaration == Declaration::Relation {
-        hints.push("sets and relations share their names".to_string(alloc)?)?;
-    }
-    Ok((message, hints))
-}
-
-// That there are more than the language allows.
-fn too_many(alloc: Global, scene: &Scene<'_>) -> Result<(String, Vec<String>), NoMemory> {
-    let (declaration, start) = scene.declaration();
-    let message = match declaration {
-        Declaration::Structure if scene.at == start.saturating_add(1) => "more than 64 structures",
-        Declaration::Structure => "more than 64 fields and gaps in one structure",
-        Declaration::Pool => "more than 32 pools",
-        Declaration::Rule => "more than 128 rules, or more than four guards in this one",
-        Declaration::Constraint if scene.is_second() => "more than 128 constraints",
-        Declaration::Constraint => "more than 64 constraints",
-        _ => "more than 64 sets and relations",
-    };
-    let hint = if declaration == Declaration::Constraint && !scene.is_second() {
-        "version 2 allows 128"
-    } else {
-        ""
-    };
-    said(alloc, message, hint)
-}
-
-const FIXED_PLACE: &str = "a fixed field can't stand here";
-
-const FIXED_HINT: &str =
-    "fixed fields are numbers of `Head`, no arrays, and stand before each array or `skip` whose length isn't a number";
 
 const LENGTHS: &str = "two lengths aren't written as the same expression";
 
@@ -115,46 +26,114 @@ const INDEX: &str = "the index of this rule doesn't fit";
 const INDEX_HINT: &str =
     "an array is read at the rule's index, `x.f[k]` with `, k in f`; a scalar without; `, k in pool p` stands under `head`, and reads no array";
 
+const NEGATED: &str = "`not` can't stand over a size or a value";
+
 const NEGATED_HINT: &str =
     "turn the comparison round: `not x.V <= 9` is `x.V > 9`; sizes have `<=`, `>=` and `=` alone";
 
-// What is wrong by the number of the condition, and what may help.
+const LARGE: &str =
+    "this constraint's normal form has more than 16 conjunctions, or one of more than 8 literals";
+
+const ATOMS: &str = "this constraint has more than 8 different atoms";
+
+const SPLIT_HINT: &str = "split it: `a and b` are two constraints";
+
+const CONDITIONS: [Condition; 13] = [
+    Condition::NameTwice,
+    Condition::UnknownName,
+    Condition::Align,
+    Condition::FixedPlace,
+    Condition::SubtypeLoop,
+    Condition::Limit,
+    Condition::PoolMismatch,
+    Condition::LengthMismatch,
+    Condition::BadIndex,
+    Condition::Width,
+    Condition::NegatedValue,
+    Condition::TooManyConjunctions,
+    Condition::TooManyAtoms,
+];
+
+// The condition that a refusal tells by its number.
+fn condition_of(kind: u8) -> Condition {
+    for condition in CONDITIONS {
+        if condition.kind() == kind {
+            return condition;
+        }
+    }
+    Condition::TooManyAtoms
+}
+
+// What a rule's inclusion gives.
+fn inclusion_misfit(alloc: Global, tree: &Tree, rule: &Rule) -> Result<Words, NoMemory> {
+    match &rule.inclusion {
+        Inclusion::Pair {
+            place: _,
+            term,
+            path,
+            relation,
+        } => pair_misfit(alloc, tree, rule, term, path, relation.name.bytes()),
+        Inclusion::Member { member, set } => {
+            member_misfit(alloc, tree, rule, member, set.name.bytes())
+        }
+    }
+}
+
+// Where what a rule gives begins.
+fn inclusion_place(inclusion: &Inclusion) -> u64 {
+    match inclusion {
+        Inclusion::Pair {
+            place,
+            term: _,
+            path: _,
+            relation: _,
+        } => *place,
+        Inclusion::Member { member, set: _ } => place_of(&member.var),
+    }
+}
+
+fn rule_misfit(alloc: Global, scene: &Scene<'_>, tree: &Tree) -> Result<Words, NoMemory> {
+    let place = place_in(scene);
+    match rule_at(tree, place) {
+        Some(rule) if place < inclusion_place(&rule.inclusion) => {
+            guard_misfit(alloc, rule, place)
+        }
+        Some(rule) => inclusion_misfit(alloc, tree, rule),
+        None => said(alloc, "pools or kinds of values disagree here"),
+    }
+}
+
+// That pools, structures or kinds of values disagree.
+fn misfit(alloc: Global, scene: &Scene<'_>, tree: &Tree) -> Result<Words, NoMemory> {
+    let (declaration, _) = scene.declaration();
+    match declaration {
+        Declaration::Set => set_misfit(alloc, tree, place_in(scene)),
+        Declaration::Fresh => supply_misfit(alloc, tree, place_in(scene)),
+        Declaration::Rule => rule_misfit(alloc, scene, tree),
+        _ => atom_misfit(alloc, scene, tree),
+    }
+}
+
 fn told(
     alloc: Global,
     scene: &Scene<'_>,
     tree: &Tree,
-    kind: u8,
-) -> Result<(String, Vec<String>), NoMemory> {
-    match kind {
-        1 => twice(alloc, scene),
-        2 => unknown(alloc, scene, tree),
-        3 => unaligned(alloc, scene, tree),
-        4 => said(alloc, FIXED_PLACE, FIXED_HINT),
-        5 => said(
-            alloc,
-            "a structure extends itself or a later one",
-            "declare the parent before it",
-        ),
-        6 => too_many(alloc, scene),
-        7 => misfit(alloc, scene, tree),
-        8 => said(alloc, LENGTHS, LENGTHS_HINT),
-        9 => said(alloc, INDEX, INDEX_HINT),
-        10 => too_wide(alloc, scene, tree),
-        11 => said(
-            alloc,
-            "`not` can't stand over a size or a value",
-            NEGATED_HINT,
-        ),
-        12 => said(
-            alloc,
-            "this constraint's normal form is too large: at most 16 conjunctions of at most 8 literals",
-            "split it: `a and b` are two constraints",
-        ),
-        _ => said(
-            alloc,
-            "this constraint has more than 8 different atoms",
-            "split it: `a and b` are two constraints",
-        ),
+    condition: Condition,
+) -> Result<Words, NoMemory> {
+    match condition {
+        Condition::NameTwice => twice(alloc, scene, tree),
+        Condition::UnknownName => unknown(alloc, scene, tree),
+        Condition::Align => unaligned(alloc, scene, tree),
+        Condition::FixedPlace => misplaced_fixed(alloc, scene, tree),
+        Condition::SubtypeLoop => late_parent(alloc, scene),
+        Condition::Limit => too_many(alloc, scene, tree),
+        Condition::PoolMismatch => misfit(alloc, scene, tree),
+        Condition::LengthMismatch => said_with(alloc, LENGTHS, LENGTHS_HINT),
+        Condition::BadIndex => said_with(alloc, INDEX, INDEX_HINT),
+        Condition::Width => too_wide(alloc, scene, tree),
+        Condition::NegatedValue => said_with(alloc, NEGATED, NEGATED_HINT),
+        Condition::TooManyConjunctions => said_with(alloc, LARGE, SPLIT_HINT),
+        Condition::TooManyAtoms => said_with(alloc, ATOMS, SPLIT_HINT),
     }
 }
 
@@ -165,7 +144,7 @@ pub fn refused(
     tree: &Tree,
     kind: u8,
 ) -> Result<Diagnosis, NoMemory> {
-    let (message, hints) = told(alloc, scene, tree, kind)?;
+    let Words { message, hints } = told(alloc, scene, tree, condition_of(kind))?;
     let (place, length) = match scene.found() {
         Some(lexeme) => (lexeme.place as usize, length_of(scene.text, lexeme)),
         None => (0, 0),

@@ -1,8 +1,13 @@
 // What a name is used for, by the tokens round it.
-use crate::declared::{field_names, pool_names, relation_names, set_names, structure_names};
+use crate::declared::{
+    fixed_names, plain_set_names, pool_names, relation_named, relation_names, set_names,
+    structure_names,
+};
+use crate::places::rule_at;
+use crate::records::{field_names, place_in, record_of, variables};
 use dsr_ir::NoMemory;
 use dsr_passages::{Declaration, Scene, keyword_in, name_in, sign_in};
-use dsr_tree::{Keyword, Lexeme, Sign, Tree};
+use dsr_tree::{Keyword, Sign, Tree};
 use std::alloc::Global;
 
 /// What a name is used for.
@@ -21,6 +26,8 @@ pub enum Role {
     /// A field of a rule's record.
     Field,
     Variable,
+    /// The first of two words of which a size is asked.
+    Measured,
 }
 
 fn structure_role(before: Option<Keyword>, sign: Option<Sign>) -> Role {
@@ -39,21 +46,20 @@ fn set_role(before: Option<Keyword>) -> Role {
     }
 }
 
-// Whether a rule's index stands before `in`: a comma and a name.
-fn is_index(scene: &Scene<'_>) -> bool {
-    sign_in(scene.before(3)) == Some(Sign::Comma)
+// What stands behind `in` in a rule: a relation behind a pair, an array behind an index, or a set.
+fn given_role(scene: &Scene<'_>) -> Role {
+    if sign_in(scene.before(2)) == Some(Sign::Greater) {
+        return Role::Relation;
+    }
+    if sign_in(scene.before(3)) == Some(Sign::Comma) {
+        return Role::Field;
+    }
+    Role::PlainSet
 }
 
 fn rule_role(scene: &Scene<'_>, before: Option<Keyword>, sign: Option<Sign>) -> Role {
     if before == Some(Keyword::In) {
-        if sign_in(scene.before(2)) == Some(Sign::Greater) {
-            return Role::Relation;
-        }
-        return if is_index(scene) {
-            Role::Field
-        } else {
-            Role::PlainSet
-        };
+        return given_role(scene);
     }
     if before == Some(Keyword::Pool) {
         return Role::Pool;
@@ -67,13 +73,28 @@ fn rule_role(scene: &Scene<'_>, before: Option<Keyword>, sign: Option<Sign>) -> 
     Role::Variable
 }
 
-// Whether the place is the only word in the parentheses of a size.
-fn is_measured(scene: &Scene<'_>) -> bool {
-    keyword_in(scene.before(2)) == Some(Keyword::Size)
-        && sign_in(scene.behind(1)) == Some(Sign::CloseParenthesis)
+// Whether the place is the second word of a size of a relation's sources.
+fn is_source(scene: &Scene<'_>, tree: &Tree) -> bool {
+    let Some(first) = name_in(scene.before(2)) else {
+        return false;
+    };
+    keyword_in(scene.before(4)) == Some(Keyword::Size) && relation_named(tree, first).is_some()
 }
 
-fn constraint_role(scene: &Scene<'_>, before: Option<Keyword>, sign: Option<Sign>) -> Role {
+// The first word of which a size is asked.
+fn size_role(scene: &Scene<'_>) -> Role {
+    if sign_in(scene.behind(1)) == Some(Sign::Dot) {
+        return Role::Measured;
+    }
+    Role::Set
+}
+
+fn constraint_role(
+    scene: &Scene<'_>,
+    tree: &Tree,
+    before: Option<Keyword>,
+    sign: Option<Sign>,
+) -> Role {
     if before == Some(Keyword::In) {
         return if sign_in(scene.before(2)) == Some(Sign::Greater) {
             Role::Relation
@@ -82,17 +103,20 @@ fn constraint_role(scene: &Scene<'_>, before: Option<Keyword>, sign: Option<Sign
         };
     }
     if sign == Some(Sign::Dot) {
-        return Role::Relation;
+        return if is_source(scene, tree) {
+            Role::Variable
+        } else {
+            Role::Relation
+        };
     }
-    if is_measured(scene) {
-        Role::Set
-    } else {
-        Role::Variable
+    if keyword_in(scene.before(2)) == Some(Keyword::Size) {
+        return size_role(scene);
     }
+    Role::Variable
 }
 
 /// What the name at the place is used for.
-pub fn role_of(scene: &Scene<'_>) -> Role {
+pub fn role_of(scene: &Scene<'_>, tree: &Tree) -> Role {
     let last = scene.before(1);
     let (before, sign) = (keyword_in(last), sign_in(last));
     let (declaration, _) = scene.declaration();
@@ -105,46 +129,34 @@ pub fn role_of(scene: &Scene<'_>) -> Role {
         Declaration::Fresh if before == Some(Keyword::Fresh) => Role::Pool,
         Declaration::Fresh => Role::PlainSet,
         Declaration::Rule => rule_role(scene, before, sign),
-        Declaration::Constraint => constraint_role(scene, before, sign),
+        Declaration::Constraint => constraint_role(scene, tree, before, sign),
     }
 }
 
-// Whether a token binds a variable: a name before `in`, or one of two in angle brackets.
-fn binds(lexemes: &[Lexeme], number: usize) -> bool {
-    let behind = lexemes.get(number.saturating_add(1));
-    let last = lexemes.get(number.saturating_sub(1));
-    keyword_in(behind) == Some(Keyword::In)
-        || sign_in(behind) == Some(Sign::Comma)
-        || sign_in(behind) == Some(Sign::Greater)
-        || keyword_in(last) == Some(Keyword::Forall)
-}
-
-// Whether no variable is bound from this token on.
-fn ends_binding(lexeme: &Lexeme) -> bool {
-    let sign = sign_in(Some(lexeme));
-    sign == Some(Sign::Gives) || keyword_in(Some(lexeme)) == Some(Keyword::When)
-}
-
-// The variables of the declaration in which the place stands.
-fn variables<'a>(alloc: Global, scene: &Scene<'a>) -> Result<Vec<&'a [u8]>, NoMemory> {
-    let (declaration, start) = scene.declaration();
-    let mut names: Vec<&'a [u8]> = Vec::new(alloc);
-    names.push(b"head")?;
-    // The name of a constraint stands behind its first keyword.
-    let skipped = if declaration == Declaration::Constraint {
-        2
-    } else {
-        0
+// The names of the fields of the record that a rule reads.
+fn record_fields<'a>(
+    alloc: Global,
+    scene: &Scene<'_>,
+    tree: &'a Tree,
+) -> Result<Vec<&'a [u8]>, NoMemory> {
+    let Some(rule) = rule_at(tree, place_in(scene)) else {
+        return Ok(Vec::new(alloc));
     };
-    for (number, lexeme) in scene.lexemes.iter().enumerate().skip(start).skip(skipped) {
-        if ends_binding(lexeme) || number >= scene.at {
-            return Ok(names);
-        }
-        if let Some(name) = name_in(Some(lexeme))
-            && binds(scene.lexemes, number)
-        {
-            names.push(name)?;
-        }
+    match record_of(tree, rule) {
+        Some(structure) => field_names(alloc, tree, structure),
+        None => Ok(Vec::new(alloc)),
+    }
+}
+
+// The variables and the relations.
+fn measured<'a>(
+    alloc: Global,
+    scene: &Scene<'_>,
+    tree: &'a Tree,
+) -> Result<Vec<&'a [u8]>, NoMemory> {
+    let mut names = variables(alloc, scene, tree)?;
+    for relation in tree.relations.items() {
+        names.push(relation.name.name.bytes())?;
     }
     Ok(names)
 }
@@ -152,19 +164,20 @@ fn variables<'a>(alloc: Global, scene: &Scene<'a>) -> Result<Vec<&'a [u8]>, NoMe
 /// What is declared for this use.
 pub fn candidates<'a>(
     alloc: Global,
-    scene: &Scene<'a>,
+    scene: &Scene<'_>,
     tree: &'a Tree,
     role: Role,
 ) -> Result<Vec<&'a [u8]>, NoMemory> {
     match role {
         Role::Structure => structure_names(alloc, tree),
         Role::Pool => pool_names(alloc, tree),
-        Role::FixedField => field_names(alloc, tree, true),
-        Role::Set => set_names(alloc, tree, false),
-        Role::PlainSet => set_names(alloc, tree, true),
+        Role::FixedField => fixed_names(alloc, tree),
+        Role::Set => set_names(alloc, tree),
+        Role::PlainSet => plain_set_names(alloc, tree),
         Role::Relation => relation_names(alloc, tree),
-        Role::Field => field_names(alloc, tree, false),
-        Role::Variable => variables(alloc, scene),
+        Role::Field => record_fields(alloc, scene, tree),
+        Role::Variable => variables(alloc, scene, tree),
+        Role::Measured => measured(alloc, scene, tree),
     }
 }
 
@@ -178,6 +191,15 @@ pub fn in_words(role: Role) -> &'static str {
         Role::Relation => "relation",
         Role::Field => "field of this record",
         Role::Variable => "variable",
+        Role::Measured => "variable or relation",
+    }
+}
+
+/// One of the use, in words that leave none of it out.
+pub fn one_in_words(role: Role) -> &'static str {
+    match role {
+        Role::PlainSet => "set that is no complement",
+        _ => in_words(role),
     }
 }
 
@@ -190,7 +212,8 @@ pub fn many_in_words(role: Role) -> &'static str {
         Role::Set => "sets",
         Role::PlainSet => "sets that are no complements",
         Role::Relation => "relations",
-        Role::Field => "fields of all records",
-        Role::Variable => "variables",
+        Role::Field => "fields of this record",
+        Role::Variable => "variables here",
+        Role::Measured => "variables and relations",
     }
 }

@@ -1,12 +1,16 @@
 // What is told of bits: fields that begin inside a byte, and constants that are too wide.
-use crate::declared::field_named;
+use crate::places::{rule_at, structure_at};
+use crate::records::{field_of, place_in, record_of};
+use crate::told::{Words, said};
 use dsr_ir::NoMemory;
-use dsr_passages::{Scene, keyword_in, name_in, number_in, sign_in, spelled};
-use dsr_tree::{Field, Keyword, NamedField, Sign, Structure, Tree, Width};
+use dsr_passages::{Declaration, Scene, keyword_in, name_in, number_in, sign_in, spelled};
+use dsr_tree::{
+    Content, Field, Inclusion, Keyword, NamedField, Rule, Sign, Structure, Tree, Width,
+};
 use std::alloc::Global;
 
-/// How many bits an entry of this width has.
-pub fn bits_of(width: Width) -> u64 {
+// How many bits an entry of this width has.
+fn bits_of(width: Width) -> u64 {
     match width {
         Width::U8 { place: _ } => 8,
         Width::U16 { place: _ } => 16,
@@ -27,46 +31,40 @@ fn taken_behind(taken: u64, field: &Field) -> u64 {
 }
 
 // Where a field stands.
-fn place_of(field: &Field) -> u64 {
+fn field_place(field: &Field) -> u64 {
     match field {
         Field::Named(named) => named.name.place,
         Field::Skip { place, length: _ } => *place,
     }
 }
 
-// How many bits of a byte are taken before a field of a structure; none where it isn't there.
-fn taken_before(structure: &Structure, place: u64) -> Option<u64> {
+// How many bits of a byte are taken before a field of a structure.
+fn taken_before(structure: &Structure, place: u64) -> u64 {
     let mut taken = 0;
     for field in structure.fields.items() {
-        if place_of(field) == place {
-            return Some(taken);
+        if field_place(field) == place {
+            return taken;
         }
         taken = taken_behind(taken, field);
     }
-    None
+    0
 }
 
 /// That a field of whole bytes begins inside a byte.
-pub fn unaligned(
-    alloc: Global,
-    scene: &Scene<'_>,
-    tree: &Tree,
-) -> Result<(String, Vec<String>), NoMemory> {
-    let place = match scene.found() {
-        Some(lexeme) => lexeme.place,
-        None => 0,
+pub fn unaligned(alloc: Global, scene: &Scene<'_>, tree: &Tree) -> Result<Words, NoMemory> {
+    let place = place_in(scene);
+    let words = said(
+        alloc,
+        "a field of whole bytes, an array or a `skip` begins inside a byte",
+    )?;
+    let Some(structure) = structure_at(tree, place) else {
+        return Ok(words);
     };
-    let mut hints = Vec::new(alloc);
-    for structure in tree.structures.items() {
-        if let Some(taken) = taken_before(structure, place) {
-            let left = 8u64.saturating_sub(taken);
-            hints.push(format!(in alloc;
-                "the bits before it take {taken} of a byte: put a field of `bits {left}` between"
-            )?)?;
-        }
-    }
-    let message = "a field of whole bytes, an array or a `skip` begins inside a byte";
-    Ok((message.to_string(alloc)?, hints))
+    let taken = taken_before(structure, place);
+    let left = 8u64.saturating_sub(taken);
+    words.and_hint(format!(in alloc;
+        "the bits before it take {taken} of a byte: put a field of `bits {left}` between"
+    )?)
 }
 
 // The greatest number of so many bits.
@@ -80,27 +78,79 @@ fn greatest(bits: u64) -> u64 {
     u64::MAX >> (64 - bits)
 }
 
-// The field with which the number at the place is compared.
-fn compared_field<'a>(scene: &Scene<'a>, tree: &'a Tree) -> Option<&'a NamedField> {
+// The field of a rule's guard with which the number at the place is compared.
+fn compared_field<'a>(scene: &Scene<'_>, tree: &'a Tree) -> Option<&'a NamedField> {
     let is_indexed = sign_in(scene.before(2)) == Some(Sign::CloseBracket);
     let name = name_in(scene.before(if is_indexed { 5 } else { 2 }))?;
-    let (_, field) = field_named(tree, name)?;
-    Some(field)
+    let structure = record_of(tree, rule_at(tree, place_in(scene))?)?;
+    field_of(tree, structure, name)
 }
 
-// The field whose value after a reset the number is.
-fn reset_field<'a>(scene: &Scene<'a>, tree: &'a Tree) -> Option<&'a NamedField> {
-    let place = scene.before(2)?.place;
-    for structure in tree.structures.items() {
-        for field in structure.fields.items() {
-            if let Field::Named(named) = field
-                && named.name.place == place
-            {
-                return Some(named);
-            }
+// The field by which a rule gives numbers to a relation.
+fn giving_field<'a>(tree: &'a Tree, rule: &Rule, name: &[u8]) -> Option<&'a NamedField> {
+    match &rule.inclusion {
+        Inclusion::Pair {
+            place: _,
+            term: _,
+            path,
+            relation,
+        } if relation.name.bytes() == name => {
+            field_of(tree, record_of(tree, rule)?, path.field.name.bytes())
+        }
+        _ => None,
+    }
+}
+
+// The narrower one of two fields.
+fn narrower<'a>(one: Option<&'a NamedField>, other: &'a NamedField) -> &'a NamedField {
+    match one {
+        Some(one) if bits_of(one.width) <= bits_of(other.width) => one,
+        _ => other,
+    }
+}
+
+// The narrowest field by which a relation is given numbers.
+fn related_field<'a>(scene: &Scene<'_>, tree: &'a Tree) -> Option<&'a NamedField> {
+    let name = name_in(scene.before(2))?;
+    let mut found = None;
+    for rule in tree.rules.items() {
+        if let Some(field) = giving_field(tree, rule, name) {
+            found = Some(narrower(found, field));
+        }
+    }
+    found
+}
+
+// Whether the number behind a field's `init` stands at a place.
+fn is_reset_at(field: &NamedField, place: u64) -> bool {
+    match &field.content {
+        Some(Content::Init { place: _, number }) => number.place == place,
+        _ => false,
+    }
+}
+
+// The field whose value after a reset stands at the place.
+fn reset_field<'a>(scene: &Scene<'_>, tree: &'a Tree) -> Option<&'a NamedField> {
+    let place = place_in(scene);
+    for field in structure_at(tree, place)?.fields.items() {
+        if let Field::Named(named) = field
+            && is_reset_at(named, place)
+        {
+            return Some(named);
         }
     }
     None
+}
+
+// The field that is too narrow for the number at the place.
+fn narrow_field<'a>(scene: &Scene<'_>, tree: &'a Tree) -> Option<&'a NamedField> {
+    let (declaration, _) = scene.declaration();
+    match declaration {
+        Declaration::Structure => reset_field(scene, tree),
+        Declaration::Rule => compared_field(scene, tree),
+        Declaration::Constraint => related_field(scene, tree),
+        _ => None,
+    }
 }
 
 fn width_hint(alloc: Global, field: &NamedField) -> Result<String, NoMemory> {
@@ -111,31 +161,18 @@ fn width_hint(alloc: Global, field: &NamedField) -> Result<String, NoMemory> {
 }
 
 /// That a width or a constant is out of range.
-pub fn too_wide(
-    alloc: Global,
-    scene: &Scene<'_>,
-    tree: &Tree,
-) -> Result<(String, Vec<String>), NoMemory> {
+pub fn too_wide(alloc: Global, scene: &Scene<'_>, tree: &Tree) -> Result<Words, NoMemory> {
     let number = number_in(scene.found()).unwrap_or(0);
-    let before = keyword_in(scene.before(1));
-    let mut hints = Vec::new(alloc);
-    if before == Some(Keyword::Bits) {
-        hints.push("`bits N` takes N from 1 to 32".to_string(alloc)?)?;
-        return Ok((
-            format!(in alloc; "a field can't have {number} bits")?,
-            hints,
-        ));
+    if keyword_in(scene.before(1)) == Some(Keyword::Bits) {
+        let message = format!(in alloc; "a field can't have {number} bits")?;
+        return Words::new(alloc, message).and_hint("`bits N` takes N from 1 to 32".to_string(
+            alloc,
+        )?);
     }
-    let field = if before == Some(Keyword::Init) {
-        reset_field(scene, tree)
-    } else {
-        compared_field(scene, tree)
-    };
-    if let Some(field) = field {
-        hints.push(width_hint(alloc, field)?)?;
+    let message = format!(in alloc; "the constant {number} doesn't fit its field")?;
+    let words = Words::new(alloc, message);
+    match narrow_field(scene, tree) {
+        Some(field) => words.and_hint(width_hint(alloc, field)?),
+        None => Ok(words),
     }
-    Ok((
-        format!(in alloc; "the constant {number} doesn't fit its field")?,
-        hints,
-    ))
 }

@@ -1,0 +1,86 @@
+// What is told of quantifiers and atoms that don't fit what they ask.
+use crate::declared::relation_named;
+use crate::pairs::relation_words;
+use crate::told::{Words, said};
+use dsr_ir::NoMemory;
+use dsr_passages::{Scene, keyword_in, name_in, sign_in};
+use dsr_tree::{Keyword, Lexeme, Relation, Sign, Tree};
+use std::alloc::Global;
+
+// Whether an atom or a quantifier ends before a token.
+fn ends(lexeme: &Lexeme) -> bool {
+    match (sign_in(Some(lexeme)), keyword_in(Some(lexeme))) {
+        (Some(Sign::Semicolon | Sign::Colon), _) => true,
+        (_, Some(Keyword::And | Keyword::Or)) => true,
+        _ => false,
+    }
+}
+
+// The first relation that the atom or the quantifier at the place names.
+fn relation_at<'a>(scene: &Scene<'_>, tree: &'a Tree) -> Option<&'a Relation> {
+    for lexeme in scene.lexemes.iter().skip(scene.at) {
+        if ends(lexeme) {
+            return None;
+        }
+        let relation = match name_in(Some(lexeme)) {
+            Some(name) => relation_named(tree, name),
+            None => None,
+        };
+        if relation.is_some() {
+            return relation;
+        }
+    }
+    None
+}
+
+const SIZE_HINT: &str =
+    "`size` takes a set, a variable with a relation from its pool, or a relation with a variable of its second pool";
+
+const VALUE_HINT: &str =
+    "`x.R` is a value where R relates the pool of x to numbers; records are counted by `size(x.R)`";
+
+// What an atom asks for, by its first tokens.
+fn atom_hint(scene: &Scene<'_>) -> &'static str {
+    let found = scene.found();
+    if keyword_in(found) == Some(Keyword::Size) {
+        return SIZE_HINT;
+    }
+    if sign_in(found) == Some(Sign::Less) {
+        return "`<x, y> in R` asks for x of the relation's first pool and y of its second one";
+    }
+    if sign_in(scene.behind(1)) == Some(Sign::Dot) {
+        return VALUE_HINT;
+    }
+    "`x in S` asks for a set of the pool of x"
+}
+
+// That a quantifier runs over pairs with numbers.
+fn quantifier_misfit(alloc: Global, scene: &Scene<'_>, tree: &Tree) -> Result<Words, NoMemory> {
+    let words = said(alloc, "`forall <x, y> in R` asks for a relation to records")?;
+    let words = match relation_at(scene, tree) {
+        Some(relation) => words.and_hint(relation_words(alloc, relation)?)?,
+        None => words,
+    };
+    words.and_hint(
+        "of a relation to numbers write `forall x in S : x.R <= 9`, or `head.R <= 9`".to_string(
+            alloc,
+        )?,
+    )
+}
+
+/// That a quantifier or an atom doesn't fit what it asks.
+pub fn atom_misfit(alloc: Global, scene: &Scene<'_>, tree: &Tree) -> Result<Words, NoMemory> {
+    let found = keyword_in(scene.found());
+    if found == Some(Keyword::Forall) {
+        return quantifier_misfit(alloc, scene, tree);
+    }
+    if found == Some(Keyword::Head) && keyword_in(scene.behind(1)) == Some(Keyword::In) {
+        return said(alloc, "the head is in no set");
+    }
+    let words = said(alloc, "pools or kinds of values disagree here")?;
+    let words = match relation_at(scene, tree) {
+        Some(relation) => words.and_hint(relation_words(alloc, relation)?)?,
+        None => words,
+    };
+    words.and_hint(atom_hint(scene).to_string(alloc)?)
+}

@@ -7,7 +7,7 @@ use dsr_answers::constraint_name;
 use dsr_command_plan::{Found, find};
 use dsr_graph::{Graph, Position, breaks, falsifies, graph, ways};
 use dsr_ir::{Conj, Constraint, Literal, NoMemory, Spec};
-use dsr_plan_theory::{Choice, Row, Way};
+use dsr_plan_theory::{Row, Way};
 use dsr_tree::Tree;
 use dsr_wording::{numbered, text_of};
 use std::alloc::Global;
@@ -18,13 +18,15 @@ use std::fmt::Write;
 struct Repairs<'a> {
     spec: &'a Spec,
     graph: &'a Graph,
-    // None where there is no plan.
-    choice: Option<&'a Choice>,
+    found: &'a Found,
 }
 
-// What the plan takes for a constraint.
+// What the plan takes for a constraint; none where there is no plan.
 fn row_of<'a>(repairs: &Repairs<'a>, constraint: u32) -> Option<&'a Row> {
-    repairs.choice?.rows.items().get(constraint as usize)
+    match repairs.found {
+        Found::Plan(choice) => choice.rows.items().get(constraint as usize),
+        Found::Stuck(_) => None,
+    }
 }
 
 // The number of the template that the plan takes for a literal, counted from 1; 0 where it is
@@ -193,10 +195,7 @@ pub fn ways_told(alloc: Global, spec: &Spec, tree: &Tree) -> Result<String, NoMe
     let repairs = Repairs {
         spec,
         graph: &graph,
-        choice: match &found {
-            Found::Plan(choice) => Some(choice),
-            Found::Stuck(_) => None,
-        },
+        found: &found,
     };
     let mut text = String::new(alloc);
     for (number, constraint) in spec.constraints.items().iter().enumerate() {

@@ -9,7 +9,8 @@ use dsr_ir::{Element, Fact, NoMemory, Rel, Symbol, Target};
 use dsr_wording::text_of;
 use std::fmt::Write;
 
-/// Appends the numbers that a relation gives to a record, and tells how many.
+/// Appends the numbers that a relation gives to a record, and tells how many; only the first ones
+/// where there are many.
 pub fn push_numbers(
     text: &mut String,
     image: &ImageModel<'_>,
@@ -29,6 +30,9 @@ pub fn push_numbers(
             return Ok(listed);
         };
         from = next;
+    }
+    if value_after(image, rel, source, from).is_some() {
+        text.push_str(", ..")?;
     }
     Ok(listed)
 }

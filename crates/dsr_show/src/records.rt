@@ -169,19 +169,26 @@ fn push_fields(
     Ok(())
 }
 
-// Appends the sets of which a record is a member, and the fields that these read beside the
-// pool's.
-fn push_sets(text: &mut String, image: &ImageModel<'_>, elem: Element) -> Result<(), NoMemory> {
-    let mut between = "  in ";
+// Appends the names of the sets of which a record is a member.
+fn push_names(names: &mut String, image: &ImageModel<'_>, elem: Element) -> Result<(), NoMemory> {
     for (number, set) in image.spec.base.sets.items().iter().enumerate() {
-        if set.pool == elem.pool && is_member(image, numbered(number), elem) {
-            let name = text_of(set.name.bytes());
-            write!(text, "{between}{name}")?;
-            between = ", ";
+        if set.pool != elem.pool || !is_member(image, numbered(number), elem) {
+            continue;
         }
+        if !names.is_empty() {
+            names.push_str(", ")?;
+        }
+        names.push_str(text_of(set.name.bytes()))?;
     }
-    if between == ", " {
-        text.push('\n')?;
+    Ok(())
+}
+
+// Appends the sets of which a record is a member.
+fn push_sets(text: &mut String, image: &ImageModel<'_>, elem: Element) -> Result<(), NoMemory> {
+    let mut names = String::new(*text.allocator());
+    push_names(&mut names, image, elem)?;
+    if !names.is_empty() {
+        write!(text, "  in {names}\n")?;
     }
     Ok(())
 }

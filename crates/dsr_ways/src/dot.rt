@@ -9,8 +9,23 @@ use std::fmt::Write;
 
 // Whether some template of a literal breaks another constraint.
 fn literal_breaks(graph: &Graph, at: Position, other: u32) -> bool {
-    for (way, _template) in ways(graph, at).iter().enumerate() {
+    for way in 0..ways(graph, at).len() {
         if breaks(graph, at, numbered(way), other).is_some() {
+            return true;
+        }
+    }
+    false
+}
+
+// Whether some template of a conjunction's literals breaks another constraint.
+fn conj_breaks(graph: &Graph, constraint: u32, conj: u32, literals: usize, other: u32) -> bool {
+    for literal in 0..literals {
+        let at = Position {
+            constraint,
+            conj,
+            literal: numbered(literal),
+        };
+        if literal_breaks(graph, at, other) {
             return true;
         }
     }
@@ -20,15 +35,9 @@ fn literal_breaks(graph: &Graph, at: Position, other: u32) -> bool {
 // Whether some template of a constraint breaks another one.
 fn may_break(graph: &Graph, number: u32, constraint: &Constraint, other: u32) -> bool {
     for (conj, literals) in constraint.conjs.items().iter().enumerate() {
-        for (literal, _literal) in literals.literals.items().iter().enumerate() {
-            let at = Position {
-                constraint: number,
-                conj: numbered(conj),
-                literal: numbered(literal),
-            };
-            if literal_breaks(graph, at, other) {
-                return true;
-            }
+        let count = literals.literals.items().len();
+        if conj_breaks(graph, number, numbered(conj), count, other) {
+            return true;
         }
     }
     false

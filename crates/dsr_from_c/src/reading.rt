@@ -12,7 +12,7 @@ pub struct Member {
     pub width: u64,
     /// How many entries an array has.
     pub count: Option<u64>,
-    /// The name of the structure to which an address leads.
+    /// The name of the type to which an address leads.
     pub target: Option<String>,
 }
 
@@ -55,7 +55,7 @@ fn size_of(text: &str) -> Option<u64> {
     number_of(rest.trim().split(' ').next()?)
 }
 
-// A member without the brackets of an array, and how many entries that has.
+// A declaration without the brackets of an array, and how many entries that has.
 #[derive(Clone, Copy)]
 struct Shape<'a> {
     front: &'a str,
@@ -79,13 +79,28 @@ fn shape_of(declaration: &str) -> Option<Shape<'_>> {
     }
 }
 
-// The name of the structure to which an address of this kind leads.
-fn target_of<'a>(kind: &'a str, name: &str) -> Option<&'a str> {
-    if !name.starts_with("*") || name.starts_with("**") {
+// The name of a type without the words that say how its values are used.
+fn unqualified(kind: &str) -> &str {
+    let kind = kind.trim();
+    let kind = kind.strip_prefix("const ").unwrap_or(kind);
+    kind.strip_prefix("volatile ").unwrap_or(kind)
+}
+
+// The name of the type to which an address leads. Types are often named as their structures, so the
+// word `struct` may be missing.
+fn target_of(front: &str) -> Option<&str> {
+    let (kind, rest) = front.split_once('*')?;
+    if rest.contains('*') {
         return None;
     }
-    let kind = kind.strip_prefix("const ").unwrap_or(kind);
-    Some(kind.strip_prefix("struct ")?.trim())
+    let kind = unqualified(kind);
+    Some(kind.strip_prefix("struct ").unwrap_or(kind))
+}
+
+// What is declared: the last word, without the signs of an address.
+fn name_of(front: &str) -> Option<&str> {
+    let (_, name) = front.rsplit_once(' ')?;
+    Some(name.trim_start_matches('*'))
 }
 
 // How many bytes an entry has, where a field can have as many.
@@ -108,15 +123,15 @@ fn member_of(alloc: Global, text: &str) -> Result<Option<Member>, NoMemory> {
     let Some(width) = width_of(line.size, shape.count) else {
         return Ok(None);
     };
-    let Some((kind, name)) = shape.front.rsplit_once(' ') else {
+    let Some(name) = name_of(shape.front) else {
         return Ok(None);
     };
-    let target = match target_of(kind, name) {
+    let target = match target_of(shape.front) {
         Some(target) => Some(target.to_string(alloc)?),
         None => None,
     };
     Ok(Some(Member {
-        name: name.trim_start_matches('*').to_string(alloc)?,
+        name: name.to_string(alloc)?,
         start: line.start,
         width,
         count: shape.count,
@@ -124,8 +139,17 @@ fn member_of(alloc: Global, text: &str) -> Result<Option<Member>, NoMemory> {
     }))
 }
 
+// The name of a structure, or a number where it has none.
+fn name_or_number(alloc: Global, name: &str, place: usize) -> Result<String, NoMemory> {
+    if name.is_empty() {
+        let number = place.saturating_add(1);
+        return Ok(format!(in alloc; "unnamed_{number}")?);
+    }
+    Ok(name.to_string(alloc)?)
+}
+
 // The structure that begins with its name and a brace. What stands in inner braces is passed over.
-fn structure_of(alloc: Global, text: &str) -> Result<Structure, NoMemory> {
+fn structure_of(alloc: Global, text: &str, place: usize) -> Result<Structure, NoMemory> {
     let (name, rest) = text.split_once('{').unwrap_or((text, ""));
     let mut members = Vec::new(alloc);
     let mut size = 0;
@@ -144,17 +168,31 @@ fn structure_of(alloc: Global, text: &str) -> Result<Structure, NoMemory> {
         }
     }
     Ok(Structure {
-        name: name.trim().to_string(alloc)?,
+        name: name_or_number(alloc, name.trim(), place)?,
         members,
         size,
     })
 }
 
-/// The structures that stand in what gdb prints.
+/// Whether there is a structure of this name.
+pub fn is_known(structures: &[Structure], name: &str) -> bool {
+    for structure in structures {
+        if structure.name.as_str() == name {
+            return true;
+        }
+    }
+    false
+}
+
+/// The structures that stand in what gdb prints, each once. One that isn't whole has no bytes, and
+/// is passed over.
 pub fn structures_of(alloc: Global, text: &str) -> Result<Vec<Structure>, NoMemory> {
     let mut structures = Vec::new(alloc);
     for part in text.split("type = struct ").skip(1) {
-        structures.push(structure_of(alloc, part)?)?;
+        let structure = structure_of(alloc, part, structures.len())?;
+        if structure.size > 0 && !is_known(&structures, structure.name.as_str()) {
+            structures.push(structure)?;
+        }
     }
     Ok(structures)
 }

@@ -1,20 +1,10 @@
 // The specification of structures: a pool and a set for each, a rule for each address, and that no
 // address is illegal.
-use crate::reading::{Member, Structure};
+use crate::reading::{Member, Structure, is_known};
 use crate::spelling::name_with;
 use dsr_ir::NoMemory;
 use std::alloc::Global;
 use std::fmt::Write;
-
-// Whether there is a structure of this name.
-fn is_known(structures: &[Structure], name: &str) -> bool {
-    for structure in structures {
-        if structure.name.as_str() == name {
-            return true;
-        }
-    }
-    false
-}
 
 // The structure to which a member leads, of those that are known.
 fn known_target<'a>(structures: &[Structure], member: &'a Member) -> Option<&'a str> {

@@ -30,7 +30,7 @@ fn help_of(argument: &str) -> &'static str {
 }
 
 // An argument by its place.
-fn placed<'a>(alloc: Global, name: &'a str) -> Arg<'a> {
+fn placed<'a>(alloc: Global, name: &'static str) -> Arg<'a> {
     Arg::new(alloc, name)
         .required(true)
         .action(ArgAction::Set)
@@ -40,18 +40,18 @@ fn placed<'a>(alloc: Global, name: &'a str) -> Arg<'a> {
 // A command with these files behind it.
 fn with_files<'a>(
     alloc: Global,
-    name: &'a str,
-    about: &'a str,
-    files: &[&'a str],
+    name: &'static str,
+    about: &'static str,
+    files: &[&'static str],
 ) -> Result<Command<'a>, AllocError> {
     let mut command = Command::new(alloc, name).about(about);
     for file in files {
-        command = command.arg(placed(alloc, file))?;
+        command = command.arg(placed(alloc, *file))?;
     }
     Ok(command)
 }
 
-fn check(alloc: Global) -> Result<Command<'static>, AllocError> {
+fn check<'a>(alloc: Global) -> Result<Command<'a>, AllocError> {
     let images = placed(alloc, "IMAGE")
         .action(ArgAction::Append)
         .num_args(1..);
@@ -64,7 +64,7 @@ fn check(alloc: Global) -> Result<Command<'static>, AllocError> {
     .arg(images)
 }
 
-fn show(alloc: Global) -> Result<Command<'static>, AllocError> {
+fn show<'a>(alloc: Global) -> Result<Command<'a>, AllocError> {
     let what = placed(alloc, "WHAT").required(false);
     with_files(
         alloc,
@@ -75,72 +75,72 @@ fn show(alloc: Global) -> Result<Command<'static>, AllocError> {
     .arg(what)
 }
 
-fn plan(alloc: Global) -> Result<Command<'static>, AllocError> {
+fn plan<'a>(alloc: Global) -> Result<Command<'a>, AllocError> {
     let about = "Tell in which order the constraints can be repaired, or what stands in the way";
     with_files(alloc, "plan", about, &["SPEC"])
 }
 
-fn repair(alloc: Global) -> Result<Command<'static>, AllocError> {
+fn repair<'a>(alloc: Global) -> Result<Command<'a>, AllocError> {
     let about = "Save a consistent image, and tell each change";
     with_files(alloc, "repair", about, &["SPEC", "IMAGE", "OUT"])
 }
 
-fn undo(alloc: Global) -> Result<Command<'static>, AllocError> {
+fn undo<'a>(alloc: Global) -> Result<Command<'a>, AllocError> {
     let about = "Take a repair back, by its report";
     with_files(alloc, "undo", about, &["SPEC", "FIXED", "REPORT", "OUT"])
 }
 
-fn audit(alloc: Global) -> Result<Command<'static>, AllocError> {
+fn audit<'a>(alloc: Global) -> Result<Command<'a>, AllocError> {
     let about = "Tell whether a report and a repaired image are those of the repair";
     with_files(alloc, "audit", about, &["SPEC", "IMAGE", "REPORT", "FIXED"])
 }
 
-fn edit(alloc: Global) -> Result<Command<'static>, AllocError> {
+fn edit<'a>(alloc: Global) -> Result<Command<'a>, AllocError> {
     let about = "Make writes by hand that leave the image consistent";
     with_files(alloc, "edit", about, &["SPEC", "IMAGE", "SCRIPT", "OUT"])
 }
 
-fn why(alloc: Global) -> Result<Command<'static>, AllocError> {
+fn why<'a>(alloc: Global) -> Result<Command<'a>, AllocError> {
     let about = "Tell by which rules a record is in a set";
     with_files(alloc, "why", about, &["SPEC", "IMAGE", "TUPLE"])
 }
 
-fn lost(alloc: Global) -> Result<Command<'static>, AllocError> {
+fn lost<'a>(alloc: Global) -> Result<Command<'a>, AllocError> {
     let about = "List the records to which nothing leads";
     with_files(alloc, "lost", about, &["SPEC", "IMAGE"])
 }
 
-fn certify(alloc: Global) -> Result<Command<'static>, AllocError> {
+fn certify<'a>(alloc: Global) -> Result<Command<'a>, AllocError> {
     let about = "Save the plan as a certificate";
     with_files(alloc, "certify", about, &["SPEC", "CERT"])
 }
 
-fn verify(alloc: Global) -> Result<Command<'static>, AllocError> {
+fn verify<'a>(alloc: Global) -> Result<Command<'a>, AllocError> {
     let about = "Tell whether a certificate is that of a plan";
     with_files(alloc, "verify", about, &["SPEC", "CERT"])
 }
 
-fn text(alloc: Global) -> Result<Command<'static>, AllocError> {
+fn text<'a>(alloc: Global) -> Result<Command<'a>, AllocError> {
     let about = "Print the specification in its canonical form";
     with_files(alloc, "text", about, &["SPEC"])
 }
 
-fn trial(alloc: Global) -> Result<Command<'static>, AllocError> {
+fn trial<'a>(alloc: Global) -> Result<Command<'a>, AllocError> {
     let about = "Repair a list of N nodes in memory that is led astray";
     with_files(alloc, "trial", about, &["N"])
 }
 
-fn ways(alloc: Global) -> Result<Command<'static>, AllocError> {
+fn ways<'a>(alloc: Global) -> Result<Command<'a>, AllocError> {
     let about = "Tell how each constraint would be repaired: what is written by which rule";
     with_files(alloc, "ways", about, &["SPEC"])
 }
 
-fn lint(alloc: Global) -> Result<Command<'static>, AllocError> {
+fn lint<'a>(alloc: Global) -> Result<Command<'a>, AllocError> {
     let about = "Tell what the specification says nothing about";
     with_files(alloc, "lint", about, &["SPEC"])
 }
 
-fn graph(alloc: Global) -> Result<Command<'static>, AllocError> {
+fn graph<'a>(alloc: Global) -> Result<Command<'a>, AllocError> {
     let about = "Print a graph for Graphviz: which constraints may break which, or an image";
     let dot = Arg::new(alloc, "dot")
         .long("dot")
@@ -152,12 +152,12 @@ fn graph(alloc: Global) -> Result<Command<'static>, AllocError> {
         .arg(dot)
 }
 
-fn from_c(alloc: Global) -> Result<Command<'static>, AllocError> {
+fn from_c<'a>(alloc: Global) -> Result<Command<'a>, AllocError> {
     let about = "Print a first specification for structures of C";
     with_files(alloc, "from-c", about, &["FILE"])
 }
 
-fn completions(alloc: Global) -> Result<Command<'static>, AllocError> {
+fn completions<'a>(alloc: Global) -> Result<Command<'a>, AllocError> {
     let about = "Print what a shell is to read to complete the words of this program";
     with_files(alloc, "completions", about, &["SHELL"])
 }
@@ -195,8 +195,8 @@ fn with_own<'a>(alloc: Global, command: Command<'a>) -> Result<Command<'a>, Allo
         .subcommand(completions(alloc)?)
 }
 
-/// The whole command line.
-pub fn commands(alloc: Global) -> Result<Command<'static>, AllocError> {
+/// The whole command line. Words of any lifetime can be read by it.
+pub fn commands<'a>(alloc: Global) -> Result<Command<'a>, AllocError> {
     let json = Arg::new(alloc, "json")
         .long("json")
         .global(true)

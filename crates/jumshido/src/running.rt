@@ -18,17 +18,17 @@ const STORE_FAILED: u8 = 7;
 
 // How a command of `dsr` ended, with its answer.
 #[derive(Drop)]
-struct Ran {
+struct Outcome {
     status: Status,
     answer: Vec<u8>,
 }
 
 // Runs a command of `dsr`.
-fn ran<R: Files>(
+fn outcome_of<R: Files>(
     alloc: Global,
     words: &Vec<String>,
     shelf: &mut InputShelf<'_, R>,
-) -> Result<Ran, NoMemory> {
+) -> Result<Outcome, NoMemory> {
     let mut out = SureSink {
         bytes: Vec::new(alloc),
     };
@@ -36,7 +36,7 @@ fn ran<R: Files>(
     if matches!(status, Status::NoMemory) {
         return Err(NoMemory);
     }
-    Ok(Ran {
+    Ok(Outcome {
         status,
         answer: out.bytes,
     })
@@ -48,12 +48,12 @@ fn meaning_of<R: Files>(
     alloc: Global,
     shelf: &mut InputShelf<'_, R>,
     words: &[String],
-    ran: &Ran,
+    outcome: &Outcome,
 ) -> Result<String, NoMemory> {
-    if matches!(ran.status, Status::StoreFailed) {
+    if matches!(outcome.status, Status::StoreFailed) {
         return missed_told(rt, alloc, shelf);
     }
-    explained(alloc, shelf, words, &ran.status, &ran.answer)
+    explained(alloc, shelf, words, &outcome.status, &outcome.answer)
 }
 
 const NO_MORE: &str = "error: there is not enough memory to tell more\n";
@@ -66,10 +66,10 @@ fn run_plain<R: Files + Print + Eprint>(
     colours: bool,
 ) -> Result<u8, NoMemory> {
     let mut shelf = InputShelf::new(rt, alloc);
-    let ran = ran(alloc, words, &mut shelf)?;
-    let number = put(rt, alloc, &ran.answer, ran.status.number());
+    let outcome = outcome_of(alloc, words, &mut shelf)?;
+    let number = put(rt, alloc, &outcome.answer, outcome.status.number());
     // The answer is put: what it means can't change the status.
-    match meaning_of(rt, alloc, &mut shelf, words, &ran) {
+    match meaning_of(rt, alloc, &mut shelf, words, &outcome) {
         Ok(told) => tell(rt, alloc, told.as_str(), colours),
         Err(_) => tell(rt, alloc, NO_MORE, colours),
     }
@@ -83,10 +83,10 @@ fn run_json<R: Files + Print + Eprint>(
     words: &Vec<String>,
 ) -> Result<u8, NoMemory> {
     let mut shelf = InputShelf::new(rt, alloc);
-    let ran = ran(alloc, words, &mut shelf)?;
-    let told = meaning_of(rt, alloc, &mut shelf, words, &ran)?;
-    let number = ran.status.number();
-    put_document(rt, alloc, words, number, &ran.answer, told.as_str())
+    let outcome = outcome_of(alloc, words, &mut shelf)?;
+    let told = meaning_of(rt, alloc, &mut shelf, words, &outcome)?;
+    let number = outcome.status.number();
+    put_document(rt, alloc, words, number, &outcome.answer, told.as_str())
 }
 
 // Puts an answer as a document.

@@ -1,23 +1,24 @@
 // The rules of a chain, with their sources.
-use crate::sources::rule_source;
+use crate::lines::word_at;
+use crate::sources::{push_words, rule_source};
 use dsr_ir::NoMemory;
 use dsr_tree::Tree;
-use dsr_wording::text_of;
 use std::fmt::Write;
 
 // The number of the rule of a step, counted from 0: `I rule RULE at ELEMENT ..`.
 fn rule_of(line: &str) -> Option<u32> {
-    let mut words = line.split(' ').skip(1);
-    if words.next()? != "rule" {
+    if word_at(line, 1) != "rule" {
         return None;
     }
-    words.next()?.parse::<u32>().ok()?.checked_sub(1)
+    word_at(line, 2).parse::<u32>().ok()?.checked_sub(1)
 }
 
 // Appends what an answer without a chain means.
 fn push_none(text: &mut String, line: &str) -> Result<(), NoMemory> {
     if line == "no chain" {
-        text.push_str("no rules lead from the head to this record in this set, or to this pair\n")?;
+        text.push_str(
+            "no rules give this: no record in a set and no pair of a relation has this name\n",
+        )?;
     }
     if let Some(set) = line.strip_prefix("outside ") {
         write!(
@@ -25,6 +26,16 @@ fn push_none(text: &mut String, line: &str) -> Result<(), NoMemory> {
             "the set is the complement of {set}, and no rules lead to the record in {set}\n"
         )?;
     }
+    Ok(())
+}
+
+// Appends a rule with its source.
+fn push_rule(text: &mut String, source: &[u8], tree: &Tree, number: u32) -> Result<(), NoMemory> {
+    let (line, words) = rule_source(source, tree, number);
+    let rule = number.saturating_add(1);
+    write!(text, "rule {rule} (line {line}): ")?;
+    push_words(text, words)?;
+    text.push('\n')?;
     Ok(())
 }
 
@@ -36,12 +47,10 @@ pub fn chain_told(
     out: &str,
 ) -> Result<(), NoMemory> {
     for line in out.lines() {
-        if let Some(number) = rule_of(line) {
-            let (place, words) = rule_source(source, tree, number);
-            let (rule, words) = (number.saturating_add(1), text_of(words));
-            write!(text, "rule {rule} (line {place}): {words}\n")?;
+        match rule_of(line) {
+            Some(number) => push_rule(text, source, tree, number)?,
+            None => push_none(text, line)?,
         }
-        push_none(text, line)?;
     }
     Ok(())
 }

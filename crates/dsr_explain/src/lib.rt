@@ -4,8 +4,9 @@
 
 mod chains;
 mod explaining;
-mod extents;
-mod layouts;
+mod images;
+mod limits;
+mod lines;
 mod listed;
 mod needs;
 mod outcomes;

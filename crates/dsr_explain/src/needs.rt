@@ -1,39 +1,71 @@
-// What each literal of a constraint needs that can't be repaired in any order.
+// What keeps the literals of a constraint from being made true, and what could be added.
 use dsr_graph::{Graph, Position, falsifies, ways};
-use dsr_ir::{Atom, Constraint, Literal, NoMemory, Op, Spec};
+use dsr_ir::{Atom, Constraint, Literal, Measure, NoMemory, Op, Spec};
 use dsr_ways::{Variables, push_literal};
 use dsr_wording::numbered;
 use std::fmt::Write;
+
+const KEPT_SET: &str =
+    "each rule that gives the set needs a guard that can be made false, or a reference that can be set to none";
+
+const KEPT_RELATION: &str =
+    "each rule that gives the relation needs a guard that can be made false, or a reference that can be set to none";
+
+const TRIMMED: &str =
+    "each rule that gives what is counted needs a guard that can be made false, or a reference that can be set to none";
+
+const SUPPLIED: &str =
+    "it needs a supply, `fresh POOL avoid ..`, and a rule that gives the set or the relation from a reference of a known record";
+
+const ONE: &str =
+    "it needs a supply, `fresh POOL avoid ..`, a rule that gives the set or the relation from a reference of a known record, and in each rule that gives it a guard that can be made false, or a reference that can be set to none";
+
+const SOURCES: &str =
+    "no record is made a source: say of the sources what leads to the record, as `size(x.RELATION) >= 1`";
+
+const NUMBERS: &str = "of sizes `<= N`, `>= 1`, `= 0` and `= 1` can be made true, and no others";
+
+// What the size of what is counted needs so that it becomes at least so much, or exactly so.
+fn need_of_size(measure: &Measure, op: Op, number: u64) -> &'static str {
+    if op == Op::Le || (op == Op::Eq && number == 0) {
+        return TRIMMED;
+    }
+    if number != 1 {
+        return NUMBERS;
+    }
+    match measure {
+        Measure::Into(_, _) => SOURCES,
+        _ if op == Op::Eq => ONE,
+        _ => SUPPLIED,
+    }
+}
+
+// What a value needs so that it is set.
+fn need_of_value(op: Op) -> &'static str {
+    match op {
+        Op::Eq | Op::Le | Op::Ge => {
+            "it needs exactly one rule that gives the relation, from a field that isn't fixed"
+        }
+        _ => "values are set for `=`, `<=` and `>=` alone",
+    }
+}
 
 // What a literal needs so that something is tried for it.
 fn need_of(literal: &Literal) -> &'static str {
     if literal.given {
         return "it is `given`, and so only tested";
     }
-    match literal.atom {
-        Atom::Member(_, _) if literal.negated => {
-            "each rule that gives the set is kept from it: each needs a guard that can be made false, or a reference that can be set to none"
-        }
-        Atom::Pair(_, _, _) if literal.negated => {
-            "each rule that gives the relation is kept from it: each needs a guard that can be made false, or a reference that can be set to none"
-        }
+    match &literal.atom {
+        Atom::Member(_, _) if literal.negated => KEPT_SET,
+        Atom::Pair(_, _, _) if literal.negated => KEPT_RELATION,
         Atom::Member(_, _) => {
-            "it needs a rule `x in T => x in S` without index, from a set T of which the variable is known to be a member"
+            "it needs a rule `x in .. => x in SET` without index, from a set of which the variable is known to be a member"
         }
         Atom::Pair(_, _, _) => {
-            "it needs a rule `<x, x.f> in R` without index, that starts at a set of which the first variable is known to be a member"
+            "it needs a rule `.. => <x, x.FIELD> in RELATION` without index, that starts at a set of which the first variable is known to be a member"
         }
-        Atom::Count(_, Op::Le, _) | Atom::Count(_, Op::Eq, 0) => {
-            "what is counted goes, the greatest first: each rule that gives it needs a guard that can be made false, or a reference that can be set to none"
-        }
-        Atom::Count(_, _, 1) => {
-            "it needs a supply, `fresh POOL avoid ..`, and a rule that gives the set or the relation from a reference of a known record"
-        }
-        Atom::Count(_, _, _) => "no number of records but 0 and 1 can be reached",
-        Atom::Value(_, _, Op::Eq | Op::Le | Op::Ge, _) => {
-            "it needs exactly one rule that gives the relation, from a field that isn't fixed"
-        }
-        Atom::Value(_, _, _, _) => "values are set for `=`, `<=` and `>=` alone",
+        Atom::Count(measure, op, number) => need_of_size(measure, *op, *number),
+        Atom::Value(_, _, op, _) => need_of_value(*op),
     }
 }
 
@@ -47,25 +79,18 @@ fn all_falsify(graph: &Graph, at: Position) -> bool {
     true
 }
 
-// Appends what keeps a literal from being made true.
-fn push_need(
-    text: &mut String,
-    graph: &Graph,
-    at: Position,
-    literal: &Literal,
-) -> Result<(), NoMemory> {
+// What keeps a literal from being made true; none where a way is left.
+fn hindrance(graph: &Graph, at: Position, literal: &Literal) -> Option<&'static str> {
     if ways(graph, at).is_empty() {
-        let need = need_of(literal);
-        write!(text, ": nothing is tried; {need}\n")?;
+        Some(need_of(literal))
     } else if all_falsify(graph, at) {
-        text.push_str(": each way may make another literal of its conjunction false\n")?;
+        Some("each way may make another literal of its conjunction false")
     } else {
-        text.push_str(": it can be made true\n")?;
+        None
     }
-    Ok(())
 }
 
-/// Appends each literal of a constraint, with what keeps it from being made true.
+/// Appends the literals of a constraint that can't be made true, each with what keeps it from that.
 pub fn push_needs(
     text: &mut String,
     spec: &Spec,
@@ -81,9 +106,11 @@ pub fn push_needs(
                 conj: numbered(conj),
                 literal: numbered(place),
             };
-            text.push_str("    ")?;
-            push_literal(text, spec, variables, literal)?;
-            push_need(text, graph, at, literal)?;
+            if let Some(reason) = hindrance(graph, at, literal) {
+                text.push_str("    nothing makes `")?;
+                push_literal(text, spec, variables, literal)?;
+                write!(text, "` true: {reason}\n")?;
+            }
         }
     }
     Ok(())

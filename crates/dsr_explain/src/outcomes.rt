@@ -1,4 +1,5 @@
 // What the last line of an answer means, of commands that did what they were asked for.
+use crate::lines::word_at;
 use dsr_ir::NoMemory;
 use std::alloc::Global;
 use std::fmt::Write;
@@ -10,7 +11,7 @@ fn count_of(out: &str) -> &str {
         Some((_, last)) => last,
         None => out,
     };
-    last.split(' ').nth(1).unwrap_or("")
+    word_at(last, 1)
 }
 
 /// What an answer means by its last line; nothing for a command whose answer says it.

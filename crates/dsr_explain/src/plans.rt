@@ -1,13 +1,14 @@
 // What stands in the way of a plan, in words.
 ghost use Rattle.dsr_meaning.specs.Typed.{IsTyped};
 
+use crate::lines::word_at;
 use crate::needs::push_needs;
-use crate::sources::constraint_source;
-use dsr_graph::graph;
+use crate::sources::{constraint_source, push_words};
+use dsr_graph::{Graph, graph};
 use dsr_ir::{Constraint, Literal, NoMemory, Spec};
 use dsr_tree::Tree;
 use dsr_ways::{push_literal, variables_of};
-use dsr_wording::{numbered, text_of};
+use dsr_wording::numbered;
 use std::fmt::Write;
 
 /// A specification with its text and its tree.
@@ -28,15 +29,41 @@ fn constraint_named(spec: &Spec, name: &str) -> Option<u32> {
     None
 }
 
-// Appends a constraint's name and its source.
-fn push_named(text: &mut String, declared: &Declared<'_>, name: &str) -> Result<(), NoMemory> {
-    write!(text, "`{name}`")?;
-    if let Some(number) = constraint_named(declared.spec, name) {
+// Appends the name of a member of the stuck set, with its source.
+fn push_named(
+    text: &mut String,
+    declared: &Declared<'_>,
+    member: Option<u32>,
+    name: &str,
+) -> Result<(), NoMemory> {
+    write!(text, "  `{name}`")?;
+    if let Some(number) = member {
         let (line, words) = constraint_source(declared.text, declared.tree, number);
-        let words = text_of(words);
-        write!(text, " (line {line}: {words})")?;
+        write!(text, " (line {line}: ")?;
+        push_words(text, words)?;
+        text.push(')')?;
     }
     Ok(())
+}
+
+// Appends a member of the stuck set, with the literals that can't be made true.
+fn push_stuck(
+    text: &mut String,
+    declared: &Declared<'_>,
+    graph: &Graph,
+    member: Option<u32>,
+    name: &str,
+) -> Result<(), NoMemory> {
+    push_named(text, declared, member, name)?;
+    text.push_str(" has no place in an order\n")?;
+    let Some(number) = member else {
+        return Ok(());
+    };
+    let Some(constraint) = declared.spec.constraints.items().get(number as usize) else {
+        return Ok(());
+    };
+    let variables = variables_of(declared.tree, number);
+    push_needs(text, declared.spec, graph, &variables, number, constraint)
 }
 
 // A number of a line that counts from 1, counted from 0.
@@ -53,6 +80,12 @@ fn literal_of<'a>(constraint: &'a Constraint, numbers: &str) -> Option<&'a Liter
     literals.literals.items().get(literal)
 }
 
+// The literal of a member for which a way is tried.
+fn tried<'a>(declared: &Declared<'a>, member: Option<u32>, numbers: &str) -> Option<&'a Literal> {
+    let constraint = declared.spec.constraints.items().get(member? as usize)?;
+    literal_of(constraint, numbers)
+}
+
 // Appends the literal of a member for which a way is tried.
 fn push_tried(
     text: &mut String,
@@ -60,19 +93,12 @@ fn push_tried(
     member: Option<u32>,
     numbers: &str,
 ) -> Result<(), NoMemory> {
-    let Some(number) = member else {
-        return Ok(());
-    };
-    let Some(constraint) = declared.spec.constraints.items().get(number as usize) else {
-        return Ok(());
-    };
-    let Some(literal) = literal_of(constraint, numbers) else {
-        return Ok(());
-    };
-    let variables = variables_of(declared.tree, number);
-    text.push_str(" to make `")?;
-    push_literal(text, declared.spec, &variables, literal)?;
-    text.push_str("` true")?;
+    if let Some(literal) = tried(declared, member, numbers) {
+        let variables = variables_of(declared.tree, member.unwrap_or(0));
+        text.push_str(" to make `")?;
+        push_literal(text, declared.spec, &variables, literal)?;
+        text.push_str("` true")?;
+    }
     Ok(())
 }
 
@@ -83,11 +109,8 @@ fn push_way(
     member: Option<u32>,
     line: &str,
 ) -> Result<(), NoMemory> {
-    let mut words = line.split(' ').skip(1);
-    let way = words.next().unwrap_or("");
-    let other = words.nth(1).unwrap_or("");
-    let change = words.nth(1).unwrap_or("");
-    let symbol = words.nth(1).unwrap_or("");
+    let (way, other) = (word_at(line, 1), word_at(line, 3));
+    let (change, symbol) = (word_at(line, 5), word_at(line, 7));
     let what = if change == "gain" {
         "add facts to"
     } else {
@@ -100,72 +123,64 @@ fn push_way(
 }
 
 const CYCLE: &str =
-    "  each waits for the one behind it. Of the ways above ask which can't happen in your structure, and say \
-why in the specification: by a constraint that is declared earlier, by a narrower rule, or by other words for the constraint\n";
+    ". Of the ways above ask which can't happen in your structure, and say why in the specification: by a constraint that is declared earlier, by a narrower rule, or by other words for the constraint\n";
 
-// Appends what keeps a constraint from being repaired in any order.
-fn push_unrepairable(text: &mut String, declared: &Declared<'_>, name: &str) -> Result<(), NoMemory>
-    requires { IsTyped declared.now.spec.now }
-{
-    write!(
-        text,
-        "  no order helps `{name}`: the literals of each of its conjunctions can't all be made true, or known to be\n"
-    )?;
-    let Some(number) = constraint_named(declared.spec, name) else {
-        return Ok(());
-    };
-    let Some(constraint) = declared.spec.constraints.items().get(number as usize) else {
-        return Ok(());
-    };
-    let graph = graph(*text.allocator(), declared.spec)?;
-    let variables = variables_of(declared.tree, number);
-    push_needs(text, declared.spec, &graph, &variables, number, constraint)
+// Appends which member waits for which: `cycle NAME .. NAME`.
+fn push_cycle(text: &mut String, line: &str) -> Result<(), NoMemory> {
+    for (place, name) in line.trim().split(' ').skip(1).enumerate() {
+        let between = match place {
+            0 => "  ",
+            1 => " waits for ",
+            _ => ", which waits for ",
+        };
+        write!(text, "{between}`{name}`")?;
+    }
+    text.push_str(CYCLE)?;
+    Ok(())
 }
 
 // Appends what a line of the answer means, which is about a member of the stuck set.
 fn push_line(
     text: &mut String,
     declared: &Declared<'_>,
+    graph: &Graph,
     member: Option<u32>,
     line: &str,
-) -> Result<(), NoMemory>
-    requires { IsTyped declared.now.spec.now }
-{
-    if let Some(name) = line.strip_prefix("stuck ") {
-        text.push_str("  ")?;
-        push_named(text, declared, name)?;
-        text.push_str(" can't be repaired before the others of these\n")?;
-        return Ok(());
-    }
-    if let Some(other) = line.strip_prefix("relied by ") {
-        write!(
+) -> Result<(), NoMemory> {
+    let other = word_at(line, 1);
+    match word_at(line, 0) {
+        "stuck" => return push_stuck(text, declared, graph, member, other),
+        "way" => return push_way(text, declared, member, line),
+        "cycle" => return push_cycle(text, line),
+        "relied" => {
+            let other = word_at(line, 2);
+            write!(
+                text,
+                "    `{other}` relies on it, and so is repaired later\n"
+            )?;
+        }
+        "unrepairable" => write!(
             text,
-            "    `{other}` relies on it, and so is repaired later\n"
-        )?;
-        return Ok(());
+            "  no order helps `{other}`: each of its conjunctions has a literal that nothing makes true\n"
+        )?,
+        _ => {}
     }
-    if line.starts_with("way ") {
-        return push_way(text, declared, member, line);
-    }
-    if let Some(name) = line.strip_prefix("unrepairable ") {
-        return push_unrepairable(text, declared, name);
-    }
-    text.push_str(CYCLE)?;
     Ok(())
 }
 
-/// Appends what the answer means that there is no plan.
+/// Appends what the answer means that there is no plan: of each constraint that is stuck what it
+/// waits for, and what nothing is tried for.
 pub fn refusal_told(text: &mut String, declared: &Declared<'_>, out: &str) -> Result<(), NoMemory>
     requires { IsTyped declared.now.spec.now }
 {
+    let graph = graph(*text.allocator(), declared.spec)?;
     text.push_str("error: the constraints have no order of repair\n")?;
     let mut member = None;
     for line in out.lines() {
-        let line = line.trim();
-        if let Some(name) = line.strip_prefix("stuck ") {
-            member = constraint_named(declared.spec, name);
+        if word_at(line, 0) == "stuck" {
+            member = constraint_named(declared.spec, word_at(line, 1));
         }
-        push_line(text, declared, member, line)?;
+        push_line(text, declared, &graph, member, line)?;
     }
     Ok(())
 }

@@ -3,6 +3,7 @@ ghost use Rattle.std.specs.Prelude.{◌≡◌, ◌≤◌, IfOk, IfSome, vec_len}
 ghost use Rattle.dsr_meaning.specs.Typed.{IsTyped};
 ghost use Rattle.dsr_explain.specs.Readings.{IsTypedRead};
 
+use crate::limits::{MORE_THAN_SPEC, SPEC_LIMIT};
 use dsr_diagnosis::{Diagnosis, diagnose};
 use dsr_ir::{NoMemory, Spec};
 use dsr_names::SpecFault;
@@ -11,18 +12,6 @@ use dsr_spec::spec;
 use dsr_store::{Shelf, ShelfFault};
 use dsr_tree::Tree;
 use std::alloc::Global;
-
-/// The most bytes of a specification's text.
-const SPEC_LIMIT: u64 = 65_536;
-
-// As many bytes as show that a file has more than a specification's text may have.
-const MORE_THAN_SPEC: u64 = 65_537;
-
-/// The most bytes of an image.
-pub const IMAGE_LIMIT: u64 = 67_108_864;
-
-/// As many bytes as show that a file has more than an image may have.
-pub const MORE_THAN_IMAGE: u64 = 67_108_865;
 
 /// A specification, with its text and its tree.
 #[derive(Drop)]

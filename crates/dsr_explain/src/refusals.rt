@@ -1,12 +1,8 @@
 // Why certificates, reports and scripts of edits are refused, in words.
+use crate::lines::{push_where, word_at};
 use dsr_ir::NoMemory;
 use std::alloc::Global;
 use std::fmt::Write;
-
-// The word of a line at a place, counted from 0.
-fn word_at(line: &str, place: usize) -> &str {
-    line.trim().split(' ').nth(place).unwrap_or("")
-}
 
 /// Why a certificate is refused, by the line that says so.
 pub fn certificate_refused(alloc: Global, file: &str, out: &str) -> Result<String, NoMemory> {
@@ -76,15 +72,6 @@ pub fn report_refused(alloc: Global, file: &str, out: &str) -> Result<String, No
     Ok(text)
 }
 
-// Where a constraint would be violated; nothing where it has no binding.
-fn push_where(text: &mut String, binding: &str) -> Result<(), NoMemory> {
-    if binding != "-" {
-        write!(text, " at {binding}")?;
-    }
-    text.push('\n')?;
-    Ok(())
-}
-
 /// Why a script of edits is refused, by the line that says so.
 pub fn edit_refused(alloc: Global, file: &str, out: &str) -> Result<String, NoMemory> {
     let (kind, number, name) = (word_at(out, 1), word_at(out, 2), word_at(out, 3));
@@ -104,6 +91,7 @@ pub fn edit_refused(alloc: Global, file: &str, out: &str) -> Result<String, NoMe
                 "{file}: error: after group {number} the constraint `{name}` would be violated"
             )?;
             push_where(&mut text, word_at(out, 4))?;
+            text.push('\n')?;
         }
         _ => {}
     }

@@ -1,60 +1,61 @@
 // A repair's report in sentences.
+use crate::lines::{push_where, word_at};
 use crate::listed::push_change;
 use dsr_ir::NoMemory;
 use dsr_show::ImageModel;
 use dsr_wording::numbered;
 use std::fmt::Write;
 
+// Appends what a step was for: `update I NAME BINDING C.L RULE`.
+fn push_update(text: &mut String, line: &str) -> Result<(), NoMemory> {
+    let (number, name) = (word_at(line, 1), word_at(line, 2));
+    write!(text, "{number:>3}. `{name}` was violated")?;
+    push_where(text, word_at(line, 3))?;
+    text.push('\n')?;
+    Ok(())
+}
+
+// Appends which record was reset: `reset ELEMENT`.
+fn push_reset(text: &mut String, line: &str) -> Result<(), NoMemory> {
+    let record = word_at(line, 1);
+    write!(
+        text,
+        "     {record} is a fresh record: all its fields are reset\n"
+    )?;
+    Ok(())
+}
+
 // Appends what was set: `set ELEMENT.FIELD OLD NEW`.
 fn push_set(text: &mut String, line: &str) -> Result<(), NoMemory> {
-    let mut words = line.split(' ').skip(1);
-    let field = words.next().unwrap_or("");
-    let old = words.next().unwrap_or("");
-    let new = words.next().unwrap_or("");
+    let (field, old, new) = (word_at(line, 1), word_at(line, 2), word_at(line, 3));
     write!(text, "     {field} was {old}, and is {new}\n")?;
     Ok(())
 }
 
-// Appends what a step was for: `update I NAME BINDING C.L RULE`.
-fn push_update(text: &mut String, line: &str) -> Result<(), NoMemory> {
-    let mut words = line.split(' ').skip(1);
-    let number = words.next().unwrap_or("");
-    let name = words.next().unwrap_or("");
-    let binding = words.next().unwrap_or("");
-    if binding == "-" {
-        write!(text, "{number:>3}. `{name}` was violated\n")?;
-    } else {
-        write!(text, "{number:>3}. `{name}` was violated at {binding}\n")?;
-    }
+// Appends that no fresh record is left: `empty POOL NAME BINDING C.L`.
+fn push_empty(text: &mut String, line: &str) -> Result<(), NoMemory> {
+    let (pool, name) = (word_at(line, 1), word_at(line, 2));
+    write!(text, "error: `{name}` is violated")?;
+    push_where(text, word_at(line, 3))?;
+    write!(
+        text,
+        ", and asks for a fresh record of pool `{pool}`, of which none is left: each slot is in a set behind `avoid`\n"
+    )?;
     Ok(())
 }
 
 // Appends what a line of a report means. The bytes are left to the answer.
 fn push_line(text: &mut String, line: &str) -> Result<(), NoMemory> {
-    let line = line.trim();
-    if line.starts_with("update ") {
-        return push_update(text, line);
+    match word_at(line, 0) {
+        "update" => push_update(text, line),
+        "reset" => push_reset(text, line),
+        "set" => push_set(text, line),
+        "empty" => push_empty(text, line),
+        _ => Ok(()),
     }
-    if line.starts_with("set ") {
-        return push_set(text, line);
-    }
-    if let Some(record) = line.strip_prefix("reset ") {
-        write!(
-            text,
-            "     {record} is a fresh record: all its fields are reset\n"
-        )?;
-    }
-    if let Some(rest) = line.strip_prefix("empty ") {
-        let pool = rest.split(' ').next().unwrap_or("");
-        write!(
-            text,
-            "error: the next step would take a fresh record of pool `{pool}`, and none is left: each slot is in a set behind `avoid`\n"
-        )?;
-    }
-    Ok(())
 }
 
-/// Appends a repair's report, a sentence a step.
+/// Appends a repair's report, a sentence for each step and each change.
 pub fn report_told(text: &mut String, out: &str) -> Result<(), NoMemory> {
     for line in out.lines() {
         push_line(text, line)?;

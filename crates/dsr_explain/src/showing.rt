@@ -2,8 +2,9 @@
 ghost use Rattle.std.specs.Prelude.{◌≡◌, IfOk};
 ghost use Rattle.dsr_meaning.specs.Typed.{IsTyped};
 
-use crate::layouts::layout_told;
-use crate::reading::{IMAGE_LIMIT, MORE_THAN_IMAGE, Meaning, SpecRead, loaded, read_spec};
+use crate::images::without_layout;
+use crate::limits::{IMAGE_LIMIT, LONG_IMAGE, LONG_SPEC, MORE_THAN_IMAGE};
+use crate::reading::{Meaning, SpecRead, loaded, read_spec};
 use dsr_answers::pool_name;
 use dsr_diagnosis::shown;
 use dsr_ir::{Element, NoMemory, Spec, Symbol};
@@ -13,9 +14,20 @@ use dsr_show::{
 };
 use dsr_store::Shelf;
 use dsr_truth::violations;
-use dsr_wording::numbered;
+use dsr_wording::{numbered, text_of};
 use std::alloc::Global;
 use std::fmt::Write;
+
+// Statuses of `dsr`.
+const USAGE: u8 = 3;
+
+const SPEC_REFUSED: u8 = 4;
+
+const LAYOUT_REFUSED: u8 = 5;
+
+const STORE_FAILED: u8 = 7;
+
+const TOO_LONG: u8 = 9;
 
 /// What a command of this program answers.
 #[derive(Drop)]
@@ -81,9 +93,9 @@ fn push_slot(
         push_record(text, image, elem)?;
         return Ok(0);
     }
-    let name = str::from_utf8(pool_name(image.spec, elem.pool)).unwrap_or("?");
-    write!(told, "pool `{name}` has {count} slots, from 0 on\n")?;
-    Ok(3)
+    let name = text_of(pool_name(image.spec, elem.pool));
+    write!(told, "error: pool `{name}` has {count} slots, from 0 on\n")?;
+    Ok(USAGE)
 }
 
 // Appends what is asked for.
@@ -106,9 +118,9 @@ fn push_what(
         None => {
             write!(
                 told,
-                "`{what}` is no record, as nodes[3] or head, and no set or relation\n"
+                "error: `{what}` is no record, as nodes[3] or head, and no set or relation\n"
             )?;
-            return Ok(3);
+            return Ok(USAGE);
         }
     }
     Ok(0)
@@ -151,22 +163,22 @@ fn show_model(alloc: Global, image: &ImageModel<'_>, asked: Asked<'_>) -> Result
 fn show_image(
     alloc: Global,
     meaning: &Meaning,
+    name: &str,
     bytes: Vec<u8>,
     asked: Asked<'_>,
 ) -> Result<Shown, NoMemory>
     requires { IsTyped meaning.now.spec }
 {
     if bytes.len() as u64 > IMAGE_LIMIT {
-        let told = "an image has at most 67,108,864 bytes (64 MiB)\n".to_string(alloc)?;
-        return Ok(refusal(alloc, 9, told));
+        return Ok(refusal(alloc, TOO_LONG, LONG_IMAGE.to_string(alloc)?));
     }
     let copy = Vec::from_slice(alloc, &bytes)?;
     match image_model(alloc, &meaning.spec, bytes) {
         Ok(image) => show_model(alloc, &image, asked),
         Err(LayoutFault::NoMemory) => Err(NoMemory),
         Err(fault) => {
-            let told = layout_told(alloc, &meaning.spec, &copy, fault)?;
-            Ok(refusal(alloc, 5, told))
+            let told = without_layout(alloc, &meaning.spec, name, &copy, fault)?;
+            Ok(refusal(alloc, LAYOUT_REFUSED, told))
         }
     }
 }
@@ -184,13 +196,10 @@ pub fn meaning_or_told<F: Shelf>(
         SpecRead::Means(meaning) => Ok(Ok(meaning)),
         SpecRead::Refused(text, diagnosis) => {
             let told = shown(alloc, name, &text, &diagnosis)?;
-            Ok(Err(refusal(alloc, 4, told)))
+            Ok(Err(refusal(alloc, SPEC_REFUSED, told)))
         }
-        SpecRead::TooLong => {
-            let told = "a specification has at most 65,536 bytes\n".to_string(alloc)?;
-            Ok(Err(refusal(alloc, 9, told)))
-        }
-        SpecRead::Missed => Ok(Err(refusal(alloc, 7, String::new(alloc)))),
+        SpecRead::TooLong => Ok(Err(refusal(alloc, TOO_LONG, LONG_SPEC.to_string(alloc)?))),
+        SpecRead::Missed => Ok(Err(refusal(alloc, STORE_FAILED, String::new(alloc)))),
     }
 }
 
@@ -209,8 +218,8 @@ fn show_asked<F: Shelf>(
         Err(told) => return Ok(told),
     };
     match loaded(alloc, shelf, image, MORE_THAN_IMAGE)? {
-        Some(bytes) => show_image(alloc, &meaning, bytes, asked),
-        None => Ok(refusal(alloc, 7, String::new(alloc))),
+        Some(bytes) => show_image(alloc, &meaning, image, bytes, asked),
+        None => Ok(refusal(alloc, STORE_FAILED, String::new(alloc))),
     }
 }
 

@@ -1,6 +1,8 @@
 // The sources of rules and constraints: the line and the text of each.
+use dsr_ir::NoMemory;
 use dsr_passages::spot_of;
 use dsr_tree::Tree;
+use dsr_wording::text_of;
 
 // How many bytes of a declaration are shown.
 const MOST: usize = 400;
@@ -35,4 +37,15 @@ pub fn rule_source<'a>(text: &'a [u8], tree: &Tree, number: u32) -> (usize, &'a 
         Some(rule) => source_at(text, rule.place),
         None => (0, b""),
     }
+}
+
+/// Appends a declaration in one line, with single spaces between its words.
+pub fn push_words(text: &mut String, words: &[u8]) -> Result<(), NoMemory> {
+    let mut between = "";
+    for word in text_of(words).split_whitespace() {
+        text.push_str(between)?;
+        text.push_str(word)?;
+        between = " ";
+    }
+    Ok(())
 }

@@ -1,10 +1,9 @@
 // Which constraints are violated, with values.
-use crate::sources::constraint_source;
+use crate::sources::{constraint_source, push_words};
 use dsr_ir::{Binding, NoMemory};
 use dsr_show::{ImageModel, push_violation};
 use dsr_tree::Tree;
 use dsr_truth::violations;
-use dsr_wording::text_of;
 use std::fmt::Write;
 
 // How many violated bindings are told.
@@ -18,8 +17,9 @@ fn push_source(
     constraint: u32,
 ) -> Result<(), NoMemory> {
     let (line, words) = constraint_source(source, tree, constraint);
-    let words = text_of(words);
-    write!(text, "line {line}: {words}\n")?;
+    write!(text, "line {line}: ")?;
+    push_words(text, words)?;
+    text.push('\n')?;
     Ok(())
 }
 

@@ -1,9 +1,10 @@
 //! Reads specifications and images from the standard input, and prints what is told of each.
 //!
-//! A line `=== NAME COMMAND STATUS WHAT` begins a case: the command, the status that `dsr` gives,
-//! and what is shown, if anything, or `%ways`, `%lint`, `%graph`, `%picture`. Below it stands the specification, up to a line `+++ HEX` with
-//! the bytes of the image, and below that what `dsr` answers. Of each is printed the first line,
-//! what the answer means, and what is shown.
+//! A line `=== NAME COMMAND STATUS WHAT ..` begins a case: the command, the status that `dsr` gives,
+//! and what is shown, if anything, or `%ways`, `%lint`, `%graph`, `%picture`. Below it stands the
+//! specification, up to a line `+++ HEX` with the bytes of the image, or `+++ HEX HEX` with those of
+//! what was saved, too, and below that what `dsr` answers. Of each is printed the first line, what
+//! the answer means, and what is shown.
 #![tactic(auto)]
 
 use anyhow::{anyhow, bail};
@@ -21,10 +22,14 @@ fn held(alloc: Global, name: &str, bytes: Vec<u8>) -> anyhow::Result<Held> {
     })
 }
 
-fn shelf_of(alloc: Global, spec: &str, image: Vec<u8>) -> anyhow::Result<SureShelf> {
+// The specification `s`, the image `i`, and what was saved as `x`, if anything.
+fn shelf_of(alloc: Global, spec: &str, images: &str) -> anyhow::Result<SureShelf> {
     let mut files = Vec::new(alloc);
     files.push(held(alloc, "s", Vec::from_slice(alloc, spec.as_bytes())?)?)?;
-    files.push(held(alloc, "i", image)?)?;
+    for (place, bytes) in images.trim().split(' ').enumerate() {
+        let name = if place == 0 { "i" } else { "x" };
+        files.push(held(alloc, name, hex::decode(alloc, bytes)?)?)?;
+    }
     Ok(SureShelf { files, last: None })
 }
 
@@ -97,12 +102,11 @@ fn add_case(text: &mut String, alloc: Global, given: &str) -> anyhow::Result<()>
     let Some((heading, rest)) = given.split_once('\n') else {
         bail!("a case without a text: {given}");
     };
-    let Some((spec, image)) = rest.split_once("+++ ") else {
+    let Some((spec, rest)) = rest.split_once("+++ ") else {
         bail!("a case without an image: {given}");
     };
-    let (image, answer) = image.split_once('\n').unwrap_or((image, ""));
-    let image = hex::decode(alloc, image.trim())?;
-    let mut shelf = shelf_of(alloc, spec, image)?;
+    let (images, answer) = rest.split_once('\n').unwrap_or((rest, ""));
+    let mut shelf = shelf_of(alloc, spec, images)?;
     text.push_str("=== ")?;
     text.push_str(heading)?;
     text.push_str("\n")?;

@@ -11,8 +11,8 @@ const MOST: u64 = 67_108_864;
 /// The values of the fixed fields, and the ends of the structures in bits, where they are known.
 #[derive(Drop)]
 pub struct Extents {
-    pub fixed: Vec<Option<u64>>,
-    pub ends: Vec<Option<u64>>,
+    fixed: Vec<Option<u64>>,
+    ends: Vec<Option<u64>>,
 }
 
 /// The numbers of a pool, where they are known.
@@ -26,13 +26,18 @@ pub struct PoolExtent {
     pub none: Option<u64>,
 }
 
+// The number at a place, where it is known.
+fn known_at(numbers: &[Option<u64>], place: usize) -> Option<u64> {
+    match numbers.get(place) {
+        Some(number) => *number,
+        None => None,
+    }
+}
+
 fn node_value(fixed: &[Option<u64>], node: &ExprNode) -> Option<u64> {
     match node {
         ExprNode::Num(value) => Some(*value),
-        ExprNode::Fixed(field) => match fixed.get(*field as usize) {
-            Some(value) => *value,
-            None => None,
-        },
+        ExprNode::Fixed(field) => known_at(fixed, *field as usize),
         ExprNode::Sum(left, right) => {
             node_value(fixed, left)?.checked_add(node_value(fixed, right)?)
         }
@@ -82,10 +87,7 @@ fn end_behind(fixed: &[Option<u64>], start: u64, structure: &Structure) -> Optio
 fn known_end(ends: &[Option<u64>], number: Option<u32>) -> Option<u64> {
     match number {
         None => Some(0),
-        Some(number) => match ends.get(number as usize) {
-            Some(end) => *end,
-            None => None,
-        },
+        Some(number) => known_at(ends, number as usize),
     }
 }
 
@@ -168,7 +170,12 @@ pub fn extents_of(alloc: Global, spec: &Spec, bytes: &[u8]) -> Result<Extents, N
 impl Extents {
     /// The bytes of a structure.
     pub fn bytes_of(&self, structure: u32) -> Option<u64> {
-        Some(known_end(&self.ends, Some(structure))? / 8)
+        Some(known_at(&self.ends, structure as usize)? / 8)
+    }
+
+    /// The value of a field of the head, by its number there, if it is a fixed one.
+    pub fn fixed_value(&self, number: usize) -> Option<u64> {
+        known_at(&self.fixed, number)
     }
 
     /// The numbers of a pool.

@@ -1,0 +1,257 @@
+// Why an image has no layout, in words.
+use crate::extents::PoolExtent;
+use crate::pushes::{push_bytes, push_extent, push_fixed, push_known, push_length};
+use crate::scenes::Scene;
+use dsr_answers::{constraint_name, field_name, pool_name};
+use dsr_ir::{FieldRef, NoMemory, Spec};
+use dsr_layout::LayoutFault;
+use dsr_schema::{declared_field, width_bits};
+use dsr_wording::{numbered, push_grouped, text_of};
+use std::fmt::Write;
+
+// That the image ends before the head does.
+fn push_short(text: &mut String, scene: &Scene<'_>) -> Result<(), NoMemory> {
+    text.push_str("the image ends before `Head` does: ")?;
+    push_length(text, scene)?;
+    match scene.head_bytes() {
+        Some(size) => {
+            text.push_str(", and `Head` has ")?;
+            push_grouped(text, size)?;
+        }
+        None => text.push_str(", and a fixed field lies behind them")?,
+    }
+    text.push('\n')?;
+    Ok(())
+}
+
+// The first expression of a pool that has no value, in words.
+fn unknown_part(extent: &PoolExtent) -> Option<&'static str> {
+    if extent.start.is_none() {
+        return Some("start, behind `at`,");
+    }
+    if extent.slot.is_none() {
+        return Some("size of a slot");
+    }
+    if extent.count.is_none() {
+        return Some("number of slots");
+    }
+    if extent.code.is_none() {
+        return Some("first code");
+    }
+    if extent.step.is_none() {
+        return Some("step");
+    }
+    if extent.none.is_none() {
+        return Some("value of none");
+    }
+    if extent.end().is_none() {
+        return Some("end");
+    }
+    if extent.count != Some(0) && extent.last_code().is_none() {
+        return Some("last code");
+    }
+    None
+}
+
+const NO_NUMBER: &str =
+    "isn't a number from 0 to 2^64 - 1: a difference is below 0, a divisor is 0, or a number is too great\n";
+
+// Appends the first structure whose size has no value, and tells whether there is one.
+fn push_unknown_structure(text: &mut String, scene: &Scene<'_>) -> Result<bool, NoMemory> {
+    for (number, structure) in scene.spec.base.structures.items().iter().enumerate() {
+        if scene.numbers.bytes_of(numbered(number)).is_none() {
+            let name = text_of(structure.name.bytes());
+            write!(text, "the size of structure `{name}` ")?;
+            text.push_str(NO_NUMBER)?;
+            return Ok(true);
+        }
+    }
+    Ok(false)
+}
+
+// Appends the first pool that has an expression without a value.
+fn push_unknown_pool(text: &mut String, scene: &Scene<'_>) -> Result<(), NoMemory> {
+    for pool in scene.spec.base.pools.items() {
+        if let Some(part) = unknown_part(&scene.numbers.pool(pool)) {
+            let name = text_of(pool.name.bytes());
+            write!(text, "the {part} of pool `{name}` ")?;
+            text.push_str(NO_NUMBER)?;
+            return Ok(());
+        }
+    }
+    text.push_str("an expression ")?;
+    text.push_str(NO_NUMBER)?;
+    Ok(())
+}
+
+// That an expression has no value.
+fn push_arith(text: &mut String, scene: &Scene<'_>) -> Result<(), NoMemory> {
+    if !push_unknown_structure(text, scene)? {
+        push_unknown_pool(text, scene)?;
+    }
+    push_fixed(text, scene)
+}
+
+// That a pool ends behind the image.
+fn push_outside(text: &mut String, scene: &Scene<'_>, pool: u32) -> Result<(), NoMemory> {
+    push_extent(text, scene, pool)?;
+    text.push_str("; ")?;
+    push_length(text, scene)?;
+    text.push('\n')?;
+    push_fixed(text, scene)
+}
+
+// That two pools share a byte.
+fn push_overlap(
+    text: &mut String,
+    scene: &Scene<'_>,
+    pool: u32,
+    other: u32,
+) -> Result<(), NoMemory> {
+    push_extent(text, scene, pool)?;
+    text.push_str("; ")?;
+    push_extent(text, scene, other)?;
+    text.push_str(": they share bytes\n")?;
+    push_fixed(text, scene)
+}
+
+// That a structure is larger than a slot.
+fn push_subtype(
+    text: &mut String,
+    scene: &Scene<'_>,
+    pool: u32,
+    structure: u32,
+) -> Result<(), NoMemory> {
+    let pool_text = text_of(pool_name(scene.spec, pool));
+    let name = scene.structure_name(structure);
+    write!(text, "structure `{name}` has ")?;
+    push_bytes(text, scene.numbers.bytes_of(structure))?;
+    write!(
+        text,
+        ", and a slot of pool `{pool_text}`, which is read by it, has "
+    )?;
+    let slot = match scene.pool(pool) {
+        Some(extent) => extent.slot,
+        None => None,
+    };
+    push_bytes(text, slot)?;
+    text.push_str(": give the slots more, by `slot N` in the pool's declaration\n")?;
+    Ok(())
+}
+
+// That a slot or a step is 0.
+fn push_zero(text: &mut String, scene: &Scene<'_>, pool: u32) -> Result<(), NoMemory> {
+    let name = text_of(pool_name(scene.spec, pool));
+    let step = match scene.pool(pool) {
+        Some(extent) => extent.step,
+        None => None,
+    };
+    if step == Some(0) {
+        write!(
+            text,
+            "the step between the codes of pool `{name}` is 0, so all its slots would have one code\n"
+        )?;
+    } else {
+        write!(text, "a slot of pool `{name}` has 0 bytes\n")?;
+    }
+    push_fixed(text, scene)
+}
+
+// That the code of no slot is the code of one.
+fn push_none_code(text: &mut String, scene: &Scene<'_>, pool: u32) -> Result<(), NoMemory> {
+    let Some(extent) = scene.pool(pool) else {
+        return Ok(());
+    };
+    let name = text_of(pool_name(scene.spec, pool));
+    text.push_str("the value ")?;
+    push_known(text, extent.none)?;
+    write!(
+        text,
+        ", which is none of pool `{name}`, is the code of a slot: codes go from "
+    )?;
+    push_known(text, extent.code)?;
+    text.push_str(" to ")?;
+    push_known(text, extent.last_code())?;
+    text.push_str(" in steps of ")?;
+    push_known(text, extent.step)?;
+    text.push('\n')?;
+    push_fixed(text, scene)
+}
+
+// Appends a reference with its bits.
+fn push_reference(
+    text: &mut String,
+    scene: &Scene<'_>,
+    structure: u32,
+    field: u32,
+) -> Result<(), NoMemory> {
+    let owner = scene.structure_name(structure);
+    let name = text_of(field_name(scene.spec, structure, field));
+    let bits = match declared_field(&scene.spec.base, FieldRef { structure, field }) {
+        Some(field) => width_bits(field.width),
+        None => 0,
+    };
+    write!(text, "the reference `{owner}.{name}` has {bits} bits")?;
+    Ok(())
+}
+
+// That a code doesn't fit a reference.
+fn push_code(
+    text: &mut String,
+    scene: &Scene<'_>,
+    pool: u32,
+    structure: u32,
+    field: u32,
+) -> Result<(), NoMemory> {
+    let name = text_of(pool_name(scene.spec, pool));
+    push_reference(text, scene, structure, field)?;
+    write!(text, ", too few for the codes of pool `{name}`")?;
+    if let Some(extent) = scene.pool(pool) {
+        text.push_str(": none is ")?;
+        push_known(text, extent.none)?;
+        if let Some(last) = extent.last_code() {
+            text.push_str(", and the last code is ")?;
+            push_grouped(text, last)?;
+        }
+    }
+    text.push('\n')?;
+    push_fixed(text, scene)
+}
+
+// That a count doesn't fit a field.
+fn push_great_count(text: &mut String, spec: &Spec, constraint: u32) -> Result<(), NoMemory> {
+    let name = text_of(constraint_name(spec, constraint));
+    write!(
+        text,
+        "constraint `{name}` compares a field with a count that may be greater than the field can hold: widen the field\n"
+    )?;
+    Ok(())
+}
+
+const MANY_INSTANCES: &str =
+    "the rules and constraints have too many instances on this image: at most 4,194,304 are allowed in version 1, and 16,777,216 in version 2\n";
+
+/// Appends why the bytes of an image have no layout, in lines.
+pub fn push_fault(
+    text: &mut String,
+    spec: &Spec,
+    bytes: &[u8],
+    fault: LayoutFault,
+) -> Result<(), NoMemory> {
+    let scene = Scene::new(*text.allocator(), spec, bytes)?;
+    match fault {
+        LayoutFault::Short => push_short(text, &scene),
+        LayoutFault::Arith => push_arith(text, &scene),
+        LayoutFault::Outside(pool) => push_outside(text, &scene, pool),
+        LayoutFault::Overlap(pool, other) => push_overlap(text, &scene, pool, other),
+        LayoutFault::Subtype(pool, structure) => push_subtype(text, &scene, pool, structure),
+        LayoutFault::Zero(pool) => push_zero(text, &scene, pool),
+        LayoutFault::NoneIsCode(pool) => push_none_code(text, &scene, pool),
+        LayoutFault::CodeTooWide(pool, structure, field) => {
+            push_code(text, &scene, pool, structure, field)
+        }
+        LayoutFault::CountTooWide(constraint) => push_great_count(text, spec, constraint),
+        LayoutFault::Instances => Ok(text.push_str(MANY_INSTANCES)?),
+        LayoutFault::NoMemory => Err(NoMemory),
+    }
+}

@@ -1,2 +1,2 @@
-" A specification begins with its version.
-autocmd BufRead,BufNewFile *.spec if getline(1) =~# '^\s*version\s\+[12]\s*;' | set filetype=dsr | endif
+" A specification begins with its version, behind blank lines and comments.
+autocmd BufRead,BufNewFile *.spec if search('\%^\%(\s*\%(#.*\)\?\n\)*\s*version\s\+[12]\s*;', 'cnw') | set filetype=dsr | endif

@@ -4,7 +4,7 @@ use std::fmt::Write;
 
 /// The word of a line at a place, counted from 0; nothing behind the last one.
 pub fn word_at(line: &str, place: usize) -> &str {
-    line.trim().split(' ').nth(place).unwrap_or("")
+    line.split_whitespace().nth(place).unwrap_or("")
 }
 
 /// Appends for which records a constraint is violated; nothing where it has no quantifier.

@@ -127,7 +127,7 @@ const CYCLE: &str =
 
 // Appends which member waits for which: `cycle NAME .. NAME`.
 fn push_cycle(text: &mut String, line: &str) -> Result<(), NoMemory> {
-    for (place, name) in line.trim().split(' ').skip(1).enumerate() {
+    for (place, name) in line.split_whitespace().skip(1).enumerate() {
         let between = match place {
             0 => "  ",
             1 => " waits for ",

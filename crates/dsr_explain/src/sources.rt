@@ -41,11 +41,9 @@ pub fn rule_source<'a>(text: &'a [u8], tree: &Tree, number: u32) -> (usize, &'a 
 
 /// Appends a declaration in one line, with single spaces between its words.
 pub fn push_words(text: &mut String, words: &[u8]) -> Result<(), NoMemory> {
-    let mut between = "";
-    for word in text_of(words).split_whitespace() {
-        text.push_str(between)?;
+    for (place, word) in text_of(words).split_whitespace().enumerate() {
+        text.push_str(if place > 0 { " " } else { "" })?;
         text.push_str(word)?;
-        between = " ";
     }
     Ok(())
 }

@@ -127,8 +127,9 @@ fn chain_found<F: Shelf>(
     Ok(text)
 }
 
-const USAGE: &str =
-    "error: the words ask for nothing: no file has an empty name or one that begins with -, what is saved has another name than the specification, and N is a number up to 65535\n";
+const USAGE: &str = "\
+error: the words ask for nothing: no file has an empty name or one that begins with -, what is saved \
+has another name than the specification, and N is a number up to 65535\n";
 
 // What the answer of a command means that did what it was asked for.
 fn done<F: Shelf>(

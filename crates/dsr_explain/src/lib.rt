@@ -1,8 +1,10 @@
-//! What answers mean, in words: what is wrong with a specification, what keeps an image from having a
-//! layout, with numbers, which constraints are violated, with values; and what is shown of an image.
+//! What answers mean, in words: what is wrong with a specification, what keeps an image from having
+//! a layout, with numbers, and which constraints are violated, with values; and what is shown of an
+//! image.
 #![tactic(auto)]
 
 mod chains;
+mod converting;
 mod explaining;
 mod images;
 mod limits;
@@ -19,7 +21,7 @@ mod sources;
 mod telling;
 mod violations;
 
+pub use converting::from_c;
 pub use explaining::explained;
-pub use reading::{Meaning, SpecRead, loaded, read_spec};
-pub use showing::{Shown, draw, refusal, show};
+pub use showing::{Shown, draw, show};
 pub use telling::{Telling, tell};

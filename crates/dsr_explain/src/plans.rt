@@ -5,7 +5,7 @@ use crate::lines::word_at;
 use crate::needs::push_needs;
 use crate::sources::{constraint_source, push_words};
 use dsr_graph::{Graph, graph};
-use dsr_ir::{Constraint, Literal, NoMemory, Spec};
+use dsr_ir::{Atom, Constraint, Literal, NoMemory, Op, Spec};
 use dsr_tree::Tree;
 use dsr_ways::{push_literal, variables_of};
 use dsr_wording::numbered;
@@ -122,8 +122,9 @@ fn push_way(
     Ok(())
 }
 
-const CYCLE: &str =
-    ". Of the ways above ask which can't happen in your structure, and say why in the specification: by a constraint that is declared earlier, by a narrower rule, or by other words for the constraint\n";
+const CYCLE: &str = "\
+. Of the ways above ask which can't happen in your structure, and say why in the specification: by \
+a constraint that is declared earlier, by a narrower rule, or by other words for the constraint\n";
 
 // Appends which member waits for which: `cycle NAME .. NAME`.
 fn push_cycle(text: &mut String, line: &str) -> Result<(), NoMemory> {
@@ -168,6 +169,35 @@ fn push_line(
     Ok(())
 }
 
+const ZERO: &str = "\
+  a size `= 0` may be broken by a loss; `<= 0` asks for the same, and can't be\n";
+
+// Whether a constraint asks that a size is 0, and not that it is at most 0.
+fn asks_for_zero(constraint: &Constraint) -> bool {
+    for conj in constraint.conjs.items() {
+        for literal in conj.literals.items() {
+            if let Atom::Count(_, Op::Eq, 0) = literal.atom {
+                return true;
+            }
+        }
+    }
+    false
+}
+
+// Whether a line tells that a loss breaks a constraint which asks that a size is 0.
+fn breaks_zero(spec: &Spec, line: &str) -> bool {
+    if word_at(line, 0) != "way" || word_at(line, 5) != "loss" {
+        return false;
+    }
+    match constraint_named(spec, word_at(line, 3)) {
+        Some(number) => match spec.constraints.items().get(number as usize) {
+            Some(constraint) => asks_for_zero(constraint),
+            None => false,
+        },
+        None => false,
+    }
+}
+
 /// Appends what the answer means that there is no plan: of each constraint that is stuck what it
 /// waits for, and what nothing is tried for.
 pub fn refusal_told(text: &mut String, declared: &Declared<'_>, out: &str) -> Result<(), NoMemory>
@@ -181,6 +211,9 @@ pub fn refusal_told(text: &mut String, declared: &Declared<'_>, out: &str) -> Re
             member = constraint_named(declared.spec, word_at(line, 1));
         }
         push_line(text, declared, &graph, member, line)?;
+    }
+    if out.lines().any(|line| breaks_zero(declared.spec, line)) {
+        text.push_str(ZERO)?;
     }
     Ok(())
 }

@@ -1,14 +1,15 @@
 //! Reads specifications and images from the standard input, and prints what is told of each.
 //!
 //! A line `=== NAME COMMAND STATUS WHAT ..` begins a case: the command, the status that `dsr` gives,
-//! and what is shown, if anything, or `%ways`, `%lint`, `%graph`, `%picture`. Below it stands the
-//! specification, up to a line `+++ HEX` with the bytes of the image, or `+++ HEX HEX` with those of
-//! what was saved, too, and below that what `dsr` answers. Of each is printed the first line, what
-//! the answer means, and what is shown.
+//! and what is shown, if anything, or `%ways`, `%lint`, `%graph`, `%picture`, `%from-c`. Below it
+//! stands the specification, up to a line `+++ HEX` with the bytes of the image, or `+++ HEX HEX`
+//! with those of what was saved, too, and below that what `dsr` answers. Of each is printed the first
+//! line, what the answer means, and what is shown. Of `%from-c` structures of C stand in the place of
+//! the specification.
 #![tactic(auto)]
 
 use anyhow::{anyhow, bail};
-use dsr_explain::{Shown, Telling, draw, explained, show, tell};
+use dsr_explain::{Shown, Telling, draw, explained, from_c, show, tell};
 use dsr_ir::NoMemory;
 use dsr_script::{Status, Verdict};
 use dsr_store::{Content, Held, Label, SureShelf};
@@ -82,6 +83,7 @@ fn shown_of(alloc: Global, shelf: &mut SureShelf, what: &str) -> Result<Shown, N
         "%lint" => tell(alloc, shelf, "s", Telling::Lint),
         "%graph" => tell(alloc, shelf, "s", Telling::Graph),
         "%picture" => draw(alloc, shelf, "s", "i"),
+        "%from-c" => from_c(alloc, shelf, "s"),
         _ => show(alloc, shelf, "s", "i", what),
     }
 }

@@ -80,24 +80,35 @@ fn push_structure(
     Ok(())
 }
 
-// How many bytes the head has before the first pool.
-const HEAD: u64 = 8;
+// The address of the image's first byte, until somebody says which it is: 0 is none, and no
+// program has anything in its first page.
+const BASE: u64 = 4096;
 
 // Appends the pools, one record each, one behind the other.
 fn push_pools(text: &mut String, structures: &[Structure]) -> Result<(), NoMemory> {
     let alloc = *text.allocator();
-    let mut start = HEAD;
+    let mut start = 0u64;
     for structure in structures {
         let name = name_with(alloc, structure.name.as_str(), "")?;
         let pool = pool_of(alloc, structure.name.as_str())?;
-        let size = structure.size;
+        let (size, address) = (structure.size, start.saturating_add(BASE));
         write!(
             text,
-            "pool {pool} : {name}[1] at {start} codes {start} step {size} none 0;\n"
+            "pool {pool} : {name}[1] at {start} codes {address} step {size} none 0;\n"
         )?;
         start = start.saturating_add(size);
     }
     Ok(())
+}
+
+// Whether a structure has an address of one that is known.
+fn has_address(structures: &[Structure], structure: &Structure) -> bool {
+    for member in &structure.members {
+        if known_target(structures, member).is_some() {
+            return true;
+        }
+    }
+    false
 }
 
 // Appends the sets: the records of each structure, and those with an illegal address.
@@ -106,8 +117,11 @@ fn push_sets(text: &mut String, structures: &[Structure]) -> Result<(), NoMemory
     for structure in structures {
         let pool = pool_of(alloc, structure.name.as_str())?;
         let set = set_of(alloc, structure.name.as_str())?;
-        let astray = name_with(alloc, structure.name.as_str(), "_astray")?;
-        write!(text, "set {set} of {pool};\nset {astray} of {pool};\n")?;
+        write!(text, "set {set} of {pool};\n")?;
+        if has_address(structures, structure) {
+            let astray = name_with(alloc, structure.name.as_str(), "_astray")?;
+            write!(text, "set {astray} of {pool};\n")?;
+        }
     }
     Ok(())
 }
@@ -154,11 +168,13 @@ fn push_rules(
 }
 
 // Appends the constraint that no address of a structure is illegal.
-fn push_legal(text: &mut String, number: usize, structure: &Structure) -> Result<(), NoMemory> {
-    let astray = name_with(*text.allocator(), structure.name.as_str(), "_astray")?;
+fn push_legal(text: &mut String, structure: &Structure) -> Result<(), NoMemory> {
+    let alloc = *text.allocator();
+    let legal = name_with(alloc, structure.name.as_str(), "_legal")?;
+    let astray = name_with(alloc, structure.name.as_str(), "_astray")?;
     write!(
         text,
-        "constraint legal_{number} : forall x in {astray} : not x in {astray};\n"
+        "constraint {legal} : forall x in {astray} : not x in {astray};\n"
     )?;
     Ok(())
 }
@@ -166,15 +182,33 @@ fn push_legal(text: &mut String, number: usize, structure: &Structure) -> Result
 const HEADING: &str = "\
 # From what gdb printed. Of each pool set three numbers: how many records there are, behind `at` the
 # byte of the image at which the first one begins, and behind `codes` its address in the program.
-# Describe in `Head` what stands at byte 0 of the image. Then say what else has to hold.
+# All records of the first structure are there, and of the others those to which addresses lead.
+# Then say what else has to hold.
 version 2;
 order little;
+structure Head {
+}
 ";
 
-// Appends the head: an address of the first structure.
-fn push_head(text: &mut String, first: &Structure) -> Result<(), NoMemory> {
-    let pool = pool_of(*text.allocator(), first.name.as_str())?;
-    write!(text, "structure Head {{\n  u64 first -> {pool};\n}}\n")?;
+// Appends the rule by which all records of the first structure are there.
+fn push_first(text: &mut String, first: &Structure) -> Result<(), NoMemory> {
+    let alloc = *text.allocator();
+    let pool = pool_of(alloc, first.name.as_str())?;
+    let set = set_of(alloc, first.name.as_str())?;
+    write!(text, "rule head, k in pool {pool} => {pool}[k] in {set};\n")?;
+    Ok(())
+}
+
+// Appends the rules, and then the constraints.
+fn push_meaning(text: &mut String, structures: &[Structure]) -> Result<(), NoMemory> {
+    for structure in structures {
+        push_rules(text, structures, structure)?;
+    }
+    for structure in structures {
+        if has_address(structures, structure) {
+            push_legal(text, structure)?;
+        }
+    }
     Ok(())
 }
 
@@ -184,21 +218,13 @@ fn push_all(
     structures: &[Structure],
     first: &Structure,
 ) -> Result<(), NoMemory> {
-    push_head(text, first)?;
     for structure in structures {
         push_structure(text, structures, structure)?;
     }
     push_pools(text, structures)?;
     push_sets(text, structures)?;
-    let set = set_of(*text.allocator(), first.name.as_str())?;
-    write!(text, "rule head => head.first in {set};\n")?;
-    for structure in structures {
-        push_rules(text, structures, structure)?;
-    }
-    for (number, structure) in structures.iter().enumerate() {
-        push_legal(text, number.saturating_add(1), structure)?;
-    }
-    Ok(())
+    push_first(text, first)?;
+    push_meaning(text, structures)
 }
 
 /// A first specification of structures; none where there are none.

@@ -56,16 +56,17 @@ fn told_value(alloc: Global, text: &str) -> Result<Value, AllocError> {
     Ok(Value::Array(lines))
 }
 
-fn files_value(alloc: Global, words: &[String]) -> Result<Value, AllocError> {
-    let mut files = Vec::new(alloc);
+// What stands behind a command.
+fn arguments_value(alloc: Global, words: &[String]) -> Result<Value, AllocError> {
+    let mut arguments = Vec::new(alloc);
     for word in words.iter().skip(1) {
-        files.push(text_value(alloc, word.as_str())?)?;
+        arguments.push(text_value(alloc, word.as_str())?)?;
     }
-    Ok(Value::Array(files))
+    Ok(Value::Array(arguments))
 }
 
-/// An answer as one document: the command with its files, the status with its name, the lines of the
-/// answer as lists of words, and the lines that are told of it.
+/// An answer as one document: the command with its arguments, the status with its name, the lines of
+/// the answer as lists of words, and the lines that are told of it.
 pub fn document(
     alloc: Global,
     words: &[String],
@@ -77,13 +78,13 @@ pub fn document(
         Some(command) => command.as_str(),
         None => "",
     };
-    let files = files_value(alloc, words)?;
+    let arguments = arguments_value(alloc, words)?;
     let lines = answer_value(alloc, answer)?;
     let told = told_value(alloc, told)?;
     let name = status_name(status);
     let document = json!(in alloc; {
         "command": command,
-        "files": files,
+        "arguments": arguments,
         "status": status,
         "verdict": name,
         "answer": lines,

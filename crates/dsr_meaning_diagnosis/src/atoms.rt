@@ -1,7 +1,7 @@
 // What is told of quantifiers and atoms that don't fit what they ask.
-use crate::declared::relation_named;
 use crate::pairs::relation_words;
 use crate::told::{Words, said};
+use dsr_declarations::relation_named;
 use dsr_ir::NoMemory;
 use dsr_passages::{Scene, keyword_in, name_in, sign_in};
 use dsr_tree::{Keyword, Lexeme, Relation, Sign, Tree};

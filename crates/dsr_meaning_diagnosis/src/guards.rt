@@ -1,6 +1,6 @@
 // What is told of guards that don't fit what they test.
-use crate::records::{is_other_head, place_of, record_name};
 use crate::told::{Words, said, said_with};
+use dsr_declarations::{is_other_head, place_of, record_name};
 use dsr_ir::NoMemory;
 use dsr_passages::spelled;
 use dsr_tree::{Guard, Path, Rule};

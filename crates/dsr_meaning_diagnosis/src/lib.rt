@@ -3,15 +3,11 @@
 #![tactic(auto)]
 
 mod atoms;
-mod declared;
 mod guards;
 mod limits;
 mod meaning;
 mod members;
 mod pairs;
-mod places;
-mod records;
-mod roles;
 mod told;
 mod twice;
 mod unknown;

@@ -1,8 +1,6 @@
 // What is told of what stands where the language doesn't allow it, or once too often.
-use crate::declared::{is_head, own_field};
-use crate::places::{rule_at, structure_at};
-use crate::records::place_in;
 use crate::told::{Words, said, said_with};
+use dsr_declarations::{is_head, own_field, place_in, rule_at, structure_at};
 use dsr_ir::NoMemory;
 use dsr_passages::{Declaration, Scene, name_in, spelled};
 use dsr_tree::{Rule, Structure, Tree};

@@ -1,8 +1,7 @@
 // What is told of members that rules give to sets of other pools.
-use crate::declared::{set_named, target_of};
 use crate::guards::other_head;
-use crate::records::{field_of, is_other_head, pool_of, record_of};
 use crate::told::{Words, said, said_with};
+use dsr_declarations::{field_of, is_other_head, pool_of, record_of, set_named, target_of};
 use dsr_ir::NoMemory;
 use dsr_passages::spelled;
 use dsr_tree::{Member, MemberPart, Rule, Tree, Var};

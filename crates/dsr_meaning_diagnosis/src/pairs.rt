@@ -1,9 +1,8 @@
 // What is told of pairs that rules give to relations of other pools or kinds.
-use crate::declared::relation_named;
 use crate::guards::other_head;
 use crate::members::field_words;
-use crate::records::{field_of, is_other_head, pool_of, record_of};
 use crate::told::{Words, said, said_with};
+use dsr_declarations::{field_of, is_other_head, pool_of, record_of, relation_named};
 use dsr_ir::NoMemory;
 use dsr_passages::spelled;
 use dsr_tree::{Path, Relation, Rule, Target, Term, Tree, Var};

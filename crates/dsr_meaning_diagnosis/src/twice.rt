@@ -1,8 +1,6 @@
 // What is told of a name that is declared twice.
-use crate::declared::{relation_named, set_named};
-use crate::places::structure_at;
-use crate::records::{parent_of, place_in};
 use crate::told::{Words, said, said_with};
+use dsr_declarations::{parent_of, place_in, relation_named, set_named, structure_at};
 use dsr_ir::NoMemory;
 use dsr_passages::{Declaration, Scene, line_of, name_in, spelled};
 use dsr_tree::{Field, PlacedName, Structure, Tree};

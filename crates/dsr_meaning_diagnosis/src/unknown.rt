@@ -1,11 +1,9 @@
 // What is told of a name that isn't declared as what it is used for.
-use crate::declared::{
-    Declared, declared_as, head_of, own_field, owner_of, set_named, structure_named,
-};
-use crate::places::rule_at;
-use crate::records::{field_of, place_in};
-use crate::roles::{Role, candidates, in_words, many_in_words, one_in_words, role_of};
 use crate::told::{Words, said, said_with};
+use dsr_declarations::{
+    Declared, Role, candidates, declared_as, field_of, head_of, in_words, many_in_words,
+    one_in_words, own_field, owner_of, place_in, role_of, rule_at, set_named, structure_named,
+};
 use dsr_ir::NoMemory;
 use dsr_passages::{Declaration, Scene, meant_by, name_in, quoted, spelled};
 use dsr_tree::Tree;

@@ -1,7 +1,6 @@
 // What is told of sets and supplies that don't fit their pools.
-use crate::declared::{pool_named, set_named};
-use crate::places::{set_at, supply_at};
 use crate::told::{Words, said};
+use dsr_declarations::{pool_named, set_at, set_named, supply_at};
 use dsr_ir::NoMemory;
 use dsr_passages::spelled;
 use dsr_tree::{Fresh, PlacedName, Set, Tree, View};

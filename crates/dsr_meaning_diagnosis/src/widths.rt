@@ -1,7 +1,6 @@
 // What is told of bits: fields that begin inside a byte, and constants that are too wide.
-use crate::places::{rule_at, structure_at};
-use crate::records::{field_of, place_in, record_of};
 use crate::told::{Words, said};
+use dsr_declarations::{field_of, place_in, record_of, rule_at, structure_at};
 use dsr_ir::NoMemory;
 use dsr_passages::{Declaration, Scene, keyword_in, name_in, number_in, sign_in, spelled};
 use dsr_tree::{

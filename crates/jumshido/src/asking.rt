@@ -1,41 +1,34 @@
 // What the words ask for.
 use crate::input::INPUT;
+use crate::table::{Argument, Kind, arguments_of};
 use clap::ArgMatches;
+use dsr_explain::Telling;
 use dsr_ir::NoMemory;
 use std::alloc::Global;
 
-/// The arguments of a command, in their order.
-pub fn arguments_of(command: &str) -> &'static [&'static str] {
-    match command {
-        "repair" => &["SPEC", "IMAGE", "OUT"],
-        "undo" => &["SPEC", "FIXED", "REPORT", "OUT"],
-        "edit" => &["SPEC", "IMAGE", "SCRIPT", "OUT"],
-        "audit" => &["SPEC", "IMAGE", "REPORT", "FIXED"],
-        "why" => &["SPEC", "IMAGE", "TUPLE"],
-        "lost" => &["SPEC", "IMAGE"],
-        "certify" => &["SPEC", "CERT"],
-        "verify" => &["SPEC", "CERT"],
-        "trial" => &["N"],
-        _ => &["SPEC"],
-    }
-}
-
-/// The argument of a command under which it saves; none where it saves nothing.
-pub fn saved_by(command: &str) -> Option<&'static str> {
-    match command {
-        "repair" => Some("OUT"),
-        "undo" => Some("OUT"),
-        "edit" => Some("OUT"),
-        "certify" => Some("CERT"),
-        _ => None,
-    }
-}
-
-fn is_saved(command: &str, id: &str) -> bool {
-    match saved_by(command) {
-        Some(saved) => saved == id,
-        None => false,
-    }
+/// What a command of this program alone shows.
+#[derive(Clone, Copy)]
+pub enum Asked<'a> {
+    /// What a specification says of an image: what a word names, or all where it is empty.
+    Show {
+        spec: &'a str,
+        image: &'a str,
+        what: &'a str,
+    },
+    /// A picture of an image.
+    Draw {
+        spec: &'a str,
+        image: &'a str,
+    },
+    /// Something of a specification alone.
+    Tell {
+        spec: &'a str,
+        telling: Telling,
+    },
+    /// A first specification for structures of C.
+    Convert {
+        structures: &'a str,
+    },
 }
 
 /// The name of a file that is read, as the other program takes it.
@@ -56,21 +49,60 @@ pub fn file_of<'a>(given: &ArgMatches<'a>, id: &str) -> &'a str {
     file_name(value_of(given, id))
 }
 
-/// The words of a command of `dsr`, but for the images of `check`.
-pub fn dsr_words(
+// Which command tells something of a specification alone.
+fn telling_of(command: &str) -> Option<Telling> {
+    match command {
+        "ways" => Some(Telling::Ways),
+        "lint" => Some(Telling::Lint),
+        "graph" => Some(Telling::Graph),
+        _ => None,
+    }
+}
+
+/// What a command of this program alone asks for; none of a command of `dsr`.
+pub fn asked_of<'a>(command: &str, given: &ArgMatches<'a>) -> Option<Asked<'a>> {
+    let (spec, image) = (file_of(given, "SPEC"), file_of(given, "IMAGE"));
+    match command {
+        "show" => {
+            let what = value_of(given, "WHAT");
+            Some(Asked::Show { spec, image, what })
+        }
+        "graph" if !image.is_empty() => Some(Asked::Draw { spec, image }),
+        "from-c" => {
+            let structures = file_of(given, "FILE");
+            Some(Asked::Convert { structures })
+        }
+        _ => {
+            let telling = telling_of(command)?;
+            Some(Asked::Tell { spec, telling })
+        }
+    }
+}
+
+// The word that stands for an argument; none where it isn't given.
+fn word_of<'a>(given: &ArgMatches<'a>, argument: Argument) -> Option<&'a str> {
+    match argument.kind {
+        Kind::Reads | Kind::Flag => None,
+        Kind::Saved | Kind::Word => given.get_str(argument.name),
+        Kind::Read => match given.get_str(argument.name) {
+            Some(name) => Some(file_name(name)),
+            None => None,
+        },
+    }
+}
+
+/// A command with what stands behind it, but for the images of `check`.
+pub fn words_of(
     alloc: Global,
     command: &str,
     given: &ArgMatches<'_>,
 ) -> Result<Vec<String>, NoMemory> {
     let mut words = Vec::new(alloc);
     words.push(command.to_string(alloc)?)?;
-    for id in arguments_of(command) {
-        let word = if is_saved(command, id) {
-            value_of(given, id)
-        } else {
-            file_of(given, id)
-        };
-        words.push(word.to_string(alloc)?)?;
+    for argument in arguments_of(command) {
+        if let Some(word) = word_of(given, *argument) {
+            words.push(word.to_string(alloc)?)?;
+        }
     }
     Ok(words)
 }

@@ -1,9 +1,14 @@
 // What shells are to read to complete the words of this program.
+use crate::table::COMMANDS;
+use dsr_ir::NoMemory;
+use std::alloc::Global;
 
 const BASH: &str = "\
 # Completions of jumshido for bash.
 _jumshido() {
-    local commands='check plan repair undo audit edit why lost certify verify text trial show ways lint graph from-c completions help'
+    local commands='";
+
+const BASH_END: &str = "'
     local word=${COMP_WORDS[COMP_CWORD]}
     if [ \"$COMP_CWORD\" -eq 1 ]; then
         mapfile -t COMPREPLY < <(compgen -W \"$commands --help --json --version\" -- \"$word\")
@@ -26,26 +31,9 @@ const ZSH: &str = "\
 _jumshido() {
     local -a commands shells
     commands=(
-        'check:tell whether images are consistent'
-        'plan:tell in which order the constraints can be repaired'
-        'repair:save a consistent image'
-        'undo:take a repair back, by its report'
-        'audit:tell whether a report is that of a repair'
-        'edit:make writes by hand that leave the image consistent'
-        'why:tell by which rules a record is in a set'
-        'lost:list the records to which nothing leads'
-        'certify:save the plan as a certificate'
-        'verify:tell whether a certificate is that of a plan'
-        'text:print the specification in its canonical form'
-        'trial:repair a list in memory'
-        'show:show what a specification says of an image'
-        'ways:tell how each constraint would be repaired'
-        'lint:tell what a specification says nothing about'
-        'graph:print a graph for Graphviz'
-        'from-c:print a first specification for structures of C'
-        'completions:print completions for a shell'
-        'help:print the help of a command'
-    )
+";
+
+const ZSH_END: &str = "    )
     shells=(bash fish zsh)
     if (( CURRENT == 2 )); then
         _describe command commands
@@ -62,39 +50,82 @@ _jumshido \"$@\"
 
 const FISH: &str = "\
 # Completions of jumshido for fish.
-set -l commands check plan repair undo audit edit why lost certify verify text trial show ways lint graph from-c completions help
-complete -c jumshido -n \"not __fish_seen_subcommand_from $commands\" -f
-complete -c jumshido -n \"not __fish_seen_subcommand_from $commands\" -a check -d 'Tell whether images are consistent'
-complete -c jumshido -n \"not __fish_seen_subcommand_from $commands\" -a plan -d 'Tell in which order the constraints can be repaired'
-complete -c jumshido -n \"not __fish_seen_subcommand_from $commands\" -a repair -d 'Save a consistent image'
-complete -c jumshido -n \"not __fish_seen_subcommand_from $commands\" -a undo -d 'Take a repair back, by its report'
-complete -c jumshido -n \"not __fish_seen_subcommand_from $commands\" -a audit -d 'Tell whether a report is that of a repair'
-complete -c jumshido -n \"not __fish_seen_subcommand_from $commands\" -a edit -d 'Make writes by hand that leave the image consistent'
-complete -c jumshido -n \"not __fish_seen_subcommand_from $commands\" -a why -d 'Tell by which rules a record is in a set'
-complete -c jumshido -n \"not __fish_seen_subcommand_from $commands\" -a lost -d 'List the records to which nothing leads'
-complete -c jumshido -n \"not __fish_seen_subcommand_from $commands\" -a certify -d 'Save the plan as a certificate'
-complete -c jumshido -n \"not __fish_seen_subcommand_from $commands\" -a verify -d 'Tell whether a certificate is that of a plan'
-complete -c jumshido -n \"not __fish_seen_subcommand_from $commands\" -a text -d 'Print the specification in its canonical form'
-complete -c jumshido -n \"not __fish_seen_subcommand_from $commands\" -a trial -d 'Repair a list in memory'
-complete -c jumshido -n \"not __fish_seen_subcommand_from $commands\" -a show -d 'Show what a specification says of an image'
-complete -c jumshido -n \"not __fish_seen_subcommand_from $commands\" -a ways -d 'Tell how each constraint would be repaired'
-complete -c jumshido -n \"not __fish_seen_subcommand_from $commands\" -a lint -d 'Tell what a specification says nothing about'
-complete -c jumshido -n \"not __fish_seen_subcommand_from $commands\" -a graph -d 'Print a graph for Graphviz'
-complete -c jumshido -n \"not __fish_seen_subcommand_from $commands\" -a from-c -d 'Print a first specification for structures of C'
-complete -c jumshido -n \"not __fish_seen_subcommand_from $commands\" -a completions -d 'Print completions for a shell'
-complete -c jumshido -n \"not __fish_seen_subcommand_from $commands\" -a help -d 'Print the help of a command'
+function __jumshido_wants_command
+    not __fish_seen_subcommand_from ";
+
+const FISH_END: &str = "\
 complete -c jumshido -n '__fish_seen_subcommand_from completions' -f -a 'bash fish zsh'
 complete -c jumshido -l json -d 'Answer with one JSON document'
 complete -c jumshido -s h -l help -d 'Print help'
 complete -c jumshido -s V -l version -d 'Print version'
 ";
 
-/// What a shell is to read; none where it is another one.
-pub fn completions_of(shell: &str) -> Option<&'static str> {
-    match shell {
-        "bash" => Some(BASH),
-        "zsh" => Some(ZSH),
-        "fish" => Some(FISH),
-        _ => None,
+const HELP: &str = "Print the help of a command";
+
+// Appends the names of all commands.
+fn push_names(text: &mut String) -> Result<(), NoMemory> {
+    for entry in &COMMANDS {
+        text.push_str(entry.name)?;
+        text.push(' ')?;
     }
+    text.push_str("help")?;
+    Ok(())
+}
+
+fn bash(text: &mut String) -> Result<(), NoMemory> {
+    text.push_str(BASH)?;
+    push_names(text)?;
+    text.push_str(BASH_END)?;
+    Ok(())
+}
+
+// Appends a command as zsh describes it.
+fn push_zsh(text: &mut String, name: &str, about: &str) -> Result<(), NoMemory> {
+    for piece in ["        '", name, ":", about, "'\n"] {
+        text.push_str(piece)?;
+    }
+    Ok(())
+}
+
+fn zsh(text: &mut String) -> Result<(), NoMemory> {
+    text.push_str(ZSH)?;
+    for entry in &COMMANDS {
+        push_zsh(text, entry.name, entry.about)?;
+    }
+    push_zsh(text, "help", HELP)?;
+    text.push_str(ZSH_END)?;
+    Ok(())
+}
+
+// Appends a command as fish describes it.
+fn push_fish(text: &mut String, name: &str, about: &str) -> Result<(), NoMemory> {
+    let asked = "complete -c jumshido -n __jumshido_wants_command -f -a ";
+    for piece in [asked, name, " -d '", about, "'\n"] {
+        text.push_str(piece)?;
+    }
+    Ok(())
+}
+
+fn fish(text: &mut String) -> Result<(), NoMemory> {
+    text.push_str(FISH)?;
+    push_names(text)?;
+    text.push_str("\nend\n")?;
+    for entry in &COMMANDS {
+        push_fish(text, entry.name, entry.about)?;
+    }
+    push_fish(text, "help", HELP)?;
+    text.push_str(FISH_END)?;
+    Ok(())
+}
+
+/// What a shell is to read; nothing where it is another one.
+pub fn completions_of(alloc: Global, shell: &str) -> Result<String, NoMemory> {
+    let mut text = String::new(alloc);
+    match shell {
+        "bash" => bash(&mut text)?,
+        "zsh" => zsh(&mut text)?,
+        "fish" => fish(&mut text)?,
+        _ => {}
+    }
+    Ok(text)
 }

@@ -7,11 +7,11 @@ mod asking;
 mod colours;
 mod commands;
 mod completions;
-mod converting;
 mod input;
 mod putting;
 mod reasons;
 mod running;
+mod table;
 
 use crate::answers::answer;
 use std::alloc::{AllocError, Global};

@@ -1,15 +1,13 @@
 // Commands that are run, each to its status.
-use crate::asking::{file_of, value_of, with_file};
-use crate::converting::from_c;
+use crate::asking::{Asked, with_file};
 use crate::input::InputShelf;
 use crate::putting::{Manner, missed_told, put, tell};
-use clap::ArgMatches;
 use dsr_cli::run;
-use dsr_explain::{Shown, Telling, draw, explained, show, tell as tell_spec};
+use dsr_explain::{Shown, draw, explained, from_c, show, tell as tell_spec};
 use dsr_ir::NoMemory;
 use dsr_json::document;
 use dsr_script::Status;
-use dsr_store::SureSink;
+use dsr_store::{Shelf, SureSink};
 use std::alloc::Global;
 use std::rt::Files;
 
@@ -165,71 +163,25 @@ fn put_shown<R: Files + Print + Eprint>(
     Ok(number)
 }
 
-// The words of a command of this program.
-fn shown_words(alloc: Global, command: &str, files: &[&str]) -> Result<Vec<String>, NoMemory> {
-    let mut words = Vec::new(alloc);
-    words.push(command.to_string(alloc)?)?;
-    for file in files {
-        words.push(file.to_string(alloc)?)?;
+// What is shown where this is asked.
+fn shown_of<F: Shelf>(alloc: Global, shelf: &mut F, asked: Asked<'_>) -> Result<Shown, NoMemory> {
+    match asked {
+        Asked::Show { spec, image, what } => show(alloc, shelf, spec, image, what),
+        Asked::Draw { spec, image } => draw(alloc, shelf, spec, image),
+        Asked::Tell { spec, telling } => tell_spec(alloc, shelf, spec, telling),
+        Asked::Convert { structures } => from_c(alloc, shelf, structures),
     }
-    Ok(words)
 }
 
-/// Shows what a specification says of an image.
-pub fn run_show<R: Files + Print + Eprint>(
+/// Runs a command of this program alone.
+pub fn run_asked<R: Files + Print + Eprint>(
     rt: &R,
     alloc: Global,
-    given: &ArgMatches<'_>,
+    words: &[String],
+    asked: Asked<'_>,
     manner: Manner,
 ) -> Result<u8, NoMemory> {
     let mut shelf = InputShelf::new(rt, alloc);
-    let (spec, image) = (file_of(given, "SPEC"), file_of(given, "IMAGE"));
-    let what = value_of(given, "WHAT");
-    let words = shown_words(alloc, "show", &[spec, image])?;
-    let shown = show(alloc, &mut shelf, spec, image, what)?;
-    put_shown(rt, alloc, &shelf, &words, &shown, manner)
-}
-
-/// Draws an image.
-pub fn run_draw<R: Files + Print + Eprint>(
-    rt: &R,
-    alloc: Global,
-    given: &ArgMatches<'_>,
-    manner: Manner,
-) -> Result<u8, NoMemory> {
-    let mut shelf = InputShelf::new(rt, alloc);
-    let (spec, image) = (file_of(given, "SPEC"), file_of(given, "IMAGE"));
-    let words = shown_words(alloc, "graph", &[spec, image])?;
-    let shown = draw(alloc, &mut shelf, spec, image)?;
-    put_shown(rt, alloc, &shelf, &words, &shown, manner)
-}
-
-/// Prints a first specification for structures of C.
-pub fn run_from_c<R: Files + Print + Eprint>(
-    rt: &R,
-    alloc: Global,
-    given: &ArgMatches<'_>,
-    manner: Manner,
-) -> Result<u8, NoMemory> {
-    let mut shelf = InputShelf::new(rt, alloc);
-    let name = file_of(given, "FILE");
-    let words = shown_words(alloc, "from-c", &[name])?;
-    let shown = from_c(alloc, &mut shelf, name)?;
-    put_shown(rt, alloc, &shelf, &words, &shown, manner)
-}
-
-/// Tells something of a specification alone.
-pub fn run_tell<R: Files + Print + Eprint>(
-    rt: &R,
-    alloc: Global,
-    command: &str,
-    given: &ArgMatches<'_>,
-    telling: Telling,
-    manner: Manner,
-) -> Result<u8, NoMemory> {
-    let mut shelf = InputShelf::new(rt, alloc);
-    let spec = file_of(given, "SPEC");
-    let words = shown_words(alloc, command, &[spec])?;
-    let shown = tell_spec(alloc, &mut shelf, spec, telling)?;
-    put_shown(rt, alloc, &shelf, &words, &shown, manner)
+    let shown = shown_of(alloc, &mut shelf, asked)?;
+    put_shown(rt, alloc, &shelf, words, &shown, manner)
 }

@@ -1,5 +1,6 @@
 // The command `from-c`.
-use dsr_explain::{Shown, loaded, refusal};
+use crate::reading::loaded;
+use crate::showing::{Shown, refusal};
 use dsr_from_c::{specification_of, structures_of};
 use dsr_ir::NoMemory;
 use dsr_store::Shelf;
@@ -10,6 +11,8 @@ const LIMIT: u64 = 1_048_576;
 
 // As many bytes as show that there are more.
 const MORE: u64 = 1_048_577;
+
+const ASK: &str = "print some by gdb -batch -ex 'ptype /o struct NAME' PROGRAM";
 
 /// A first specification for the structures that gdb printed into a file.
 pub fn from_c<F: Shelf>(alloc: Global, shelf: &mut F, name: &str) -> Result<Shown, NoMemory> {
@@ -29,9 +32,7 @@ pub fn from_c<F: Shelf>(alloc: Global, shelf: &mut F, name: &str) -> Result<Show
             told: String::new(alloc),
         }),
         None => {
-            let told = format!(in alloc;
-                "{name}: error: no structure stands here: print some by gdb -batch -ex 'ptype /o struct NAME' PROGRAM\n"
-            )?;
+            let told = format!(in alloc; "{name}: error: no structure stands here: {ASK}\n")?;
             Ok(refusal(alloc, 4, told))
         }
     }

@@ -1,0 +1,18 @@
+//! What a text of the grammar declares: declarations by their names and by places in the text, the
+//! fields of records, and what a name that stands at some place is for.
+#![tactic(auto)]
+
+mod declared;
+mod places;
+mod records;
+mod roles;
+
+pub use declared::{
+    Declared, declared_as, head_of, is_head, own_field, owner_of, pool_named, relation_named,
+    set_named, structure_named, target_of,
+};
+pub use places::{rule_at, set_at, structure_at, supply_at};
+pub use records::{
+    field_of, is_other_head, parent_of, place_in, place_of, pool_of, record_name, record_of,
+};
+pub use roles::{Role, candidates, in_words, many_in_words, one_in_words, role_of};

@@ -1,7 +1,9 @@
 // The rules of a chain, with their sources.
 use crate::lines::word_at;
+use crate::reading::Meaning;
+use crate::showing::symbol_named;
 use crate::sources::{push_words, rule_source};
-use dsr_ir::NoMemory;
+use dsr_ir::{NoMemory, Spec};
 use dsr_tree::Tree;
 use std::fmt::Write;
 
@@ -13,12 +15,25 @@ fn rule_of(line: &str) -> Option<u32> {
     word_at(line, 2).parse::<u32>().ok()?.checked_sub(1)
 }
 
+const WRITTEN: &str =
+    "what is asked for is written as Nodes:nodes[3] or Next:<nodes[0],nodes[2]>\n";
+
+// Appends why no rules give what is asked for.
+fn push_unheld(text: &mut String, spec: &Spec, asked: &str) -> Result<(), NoMemory> {
+    match asked.split_once(':') {
+        Some((name, _)) if symbol_named(spec, name).is_some() => {
+            write!(text, "no rules give this: it isn't in `{name}`\n")?;
+        }
+        Some((name, _)) => write!(text, "no set and no relation has the name `{name}`\n")?,
+        None => text.push_str(WRITTEN)?,
+    }
+    Ok(())
+}
+
 // Appends what an answer without a chain means.
-fn push_none(text: &mut String, line: &str) -> Result<(), NoMemory> {
+fn push_none(text: &mut String, spec: &Spec, asked: &str, line: &str) -> Result<(), NoMemory> {
     if line == "no chain" {
-        text.push_str(
-            "no rules give this: no record in a set and no pair of a relation has this name\n",
-        )?;
+        push_unheld(text, spec, asked)?;
     }
     if let Some(set) = line.strip_prefix("outside ") {
         write!(
@@ -39,17 +54,17 @@ fn push_rule(text: &mut String, source: &[u8], tree: &Tree, number: u32) -> Resu
     Ok(())
 }
 
-/// Appends the source of each step's rule, or that there is no chain.
+/// Appends the source of each step's rule, or why there is no chain to what is asked for.
 pub fn chain_told(
     text: &mut String,
-    source: &[u8],
-    tree: &Tree,
+    meaning: &Meaning,
+    asked: &str,
     out: &str,
 ) -> Result<(), NoMemory> {
     for line in out.lines() {
         match rule_of(line) {
-            Some(number) => push_rule(text, source, tree, number)?,
-            None => push_none(text, line)?,
+            Some(number) => push_rule(text, &meaning.text, &meaning.tree, number)?,
+            None => push_none(text, &meaning.spec, asked, line)?,
         }
     }
     Ok(())

@@ -114,16 +114,16 @@ fn repaired<F: Shelf>(
 fn chain_found<F: Shelf>(
     alloc: Global,
     shelf: &mut F,
-    name: &str,
+    words: &[String],
     out: &[u8],
 ) -> Result<String, NoMemory>
     ensures held { F.held shelf.new ≡ F.held shelf.old }
 {
-    let SpecRead::Means(meaning) = read_spec(alloc, shelf, name)? else {
+    let SpecRead::Means(meaning) = read_spec(alloc, shelf, word(words, 1))? else {
         return Ok(String::new(alloc));
     };
     let mut text = String::new(alloc);
-    chain_told(&mut text, &meaning.text, &meaning.tree, text_of(out))?;
+    chain_told(&mut text, &meaning, word(words, 3), text_of(out))?;
     Ok(text)
 }
 
@@ -142,7 +142,7 @@ fn done<F: Shelf>(
 {
     match word(words, 0) {
         "repair" => repaired(alloc, shelf, words, out),
-        "why" => chain_found(alloc, shelf, word(words, 1), out),
+        "why" => chain_found(alloc, shelf, words, out),
         command => outcome_told(alloc, command, word(words, 4), text_of(out)),
     }
 }

@@ -66,8 +66,8 @@ fn record_named(spec: &Spec, what: &str) -> Option<Element> {
     None
 }
 
-// The set or relation of a name.
-fn symbol_named(spec: &Spec, what: &str) -> Option<Symbol> {
+/// The set or relation of a name.
+pub fn symbol_named(spec: &Spec, what: &str) -> Option<Symbol> {
     for (number, set) in spec.base.sets.items().iter().enumerate() {
         if set.name.bytes() == what.as_bytes() {
             return Some(Symbol::Set(numbered(number)));

@@ -1,11 +1,11 @@
 //! Reads specifications and images from the standard input, and prints what is told of each.
 //!
-//! A line `=== NAME COMMAND STATUS WHAT ..` begins a case: the command, the status that `dsr` gives,
-//! and what is shown, if anything, or `%ways`, `%lint`, `%graph`, `%picture`, `%from-c`. Below it
-//! stands the specification, up to a line `+++ HEX` with the bytes of the image, or `+++ HEX HEX`
-//! with those of what was saved, too, and below that what `dsr` answers. Of each is printed the first
-//! line, what the answer means, and what is shown. Of `%from-c` structures of C stand in the place of
-//! the specification.
+//! A line `=== NAME COMMAND STATUS WHAT ..` begins a case: the command, with the fourth of its words
+//! behind a `/` where it isn't the file `x`, the status that `dsr` gives, and what is shown, if
+//! anything, or `%ways`, `%lint`, `%graph`, `%picture`, `%from-c`. Below it stands the specification,
+//! up to a line `+++ HEX` with the bytes of the image, or `+++ HEX HEX` with those of what was saved,
+//! too, and below that what `dsr` answers. Of each is printed the first line, what the answer means,
+//! and what is shown. Of `%from-c` structures of C stand in the place of the specification.
 #![tactic(auto)]
 
 use anyhow::{anyhow, bail};
@@ -51,10 +51,11 @@ fn status_of(word: &str) -> anyhow::Result<Status> {
     })
 }
 
-// The words of a command, of which the fourth and the fifth name no files of the shelf.
+// The words of a command. The fourth one stands behind it after a `/`, or else is the file `x`.
 fn words_of(alloc: Global, command: &str) -> anyhow::Result<Vec<String>> {
     let mut words = Vec::new(alloc);
-    for word in [command, "s", "i", "x", "y"] {
+    let (command, fourth) = command.split_once('/').unwrap_or((command, "x"));
+    for word in [command, "s", "i", fourth, "y"] {
         words.push(word.to_string(alloc)?)?;
     }
     Ok(words)

@@ -49,10 +49,11 @@ fn kept_of<'a>(kept: &'a [Kept], name: &str) -> Option<&'a [u8]> {
     None
 }
 
-// Keeps the bytes of a name.
-fn keep(kept: &mut Vec<Kept>, name: String, bytes: Vec<u8>) -> Result<(), AllocError> {
-    kept.push(Kept { name, bytes })?;
-    Ok(())
+// A name with bytes that are to be kept.
+fn entry_of(alloc: Global, name: &str, bytes: &[u8]) -> Result<Kept, AllocError> {
+    let name = name.to_string(alloc)?;
+    let bytes = Vec::from_slice(alloc, bytes)?;
+    Ok(Kept { name, bytes })
 }
 
 // The first bytes of what was kept.
@@ -100,9 +101,10 @@ fn load_or_kept<R: Files>(
     if !is_special(rt, name) {
         return files.load(alloc, name, cap);
     }
-    let whole = files.load(alloc, name, MOST)?;
-    let front = front_of(alloc, &whole, cap)?;
-    keep(kept, name.to_string(alloc)?, whole)?;
+    let bytes = files.load(alloc, name, MOST)?;
+    let front = front_of(alloc, &bytes, cap)?;
+    let name = name.to_string(alloc)?;
+    kept.push(Kept { name, bytes })?;
     Ok(front)
 }
 
@@ -120,9 +122,9 @@ fn save_and_keep<R: Files>(
     }
     // What may fail comes before the save.
     kept.reserve(1)?;
-    let (label, copy) = (name.to_string(alloc)?, Vec::from_slice(alloc, bytes)?);
+    let entry = entry_of(alloc, name, bytes)?;
     files.save(alloc, name, bytes)?;
-    keep(kept, label, copy)?;
+    kept.push(entry)?;
     Ok(())
 }
 

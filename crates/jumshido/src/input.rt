@@ -56,6 +56,12 @@ fn entry_of(alloc: Global, name: &str, bytes: &[u8]) -> Result<Kept, AllocError>
     Ok(Kept { name, bytes })
 }
 
+// Keeps the bytes of a name.
+fn keep(kept: &mut Vec<Kept>, entry: Kept) -> Result<(), AllocError> {
+    kept.push(entry)?;
+    Ok(())
+}
+
 // The first bytes of what was kept.
 fn front_of(alloc: Global, kept: &[u8], cap: u64) -> Result<Vec<u8>, AllocError>
     ensures { IfOk result (λ bytes. vec_len bytes ≤ cap) }
@@ -104,7 +110,7 @@ fn load_or_kept<R: Files>(
     let bytes = files.load(alloc, name, MOST)?;
     let front = front_of(alloc, &bytes, cap)?;
     let name = name.to_string(alloc)?;
-    kept.push(Kept { name, bytes })?;
+    keep(kept, Kept { name, bytes })?;
     Ok(front)
 }
 
@@ -124,7 +130,7 @@ fn save_and_keep<R: Files>(
     kept.reserve(1)?;
     let entry = entry_of(alloc, name, bytes)?;
     files.save(alloc, name, bytes)?;
-    kept.push(entry)?;
+    keep(kept, entry)?;
     Ok(())
 }
 

@@ -7,6 +7,7 @@ use std::alloc::Global;
 enum Call {
     Add(u64, bool),
     Remove(u64, bool),
+    Join(u64, u64),
     Has(u64, bool),
     Count(u64),
     Next(u64, Option<u64>),
@@ -16,7 +17,7 @@ enum Call {
     Clear,
 }
 
-const CALLS: [Call; 25] = [
+const CALLS: [Call; 33] = [
     Call::Greatest(None),
     Call::GreatestAbsent(Some(129)),
     // the first, the last and two in the middle
@@ -44,13 +45,34 @@ const CALLS: [Call; 25] = [
     Call::Count(0),
     Call::Next(0, None),
     Call::NextAbsent(0, Some(0)),
+    // bits 1, 2 and 63 of the second word, of which one is marked already; the third word has
+    // slots that aren't there
+    Call::Add(65, true),
+    Call::Join(1, 0x8000_0000_0000_0006),
+    Call::Join(2, 1),
+    Call::Count(3),
+    Call::Next(0, Some(65)),
+    Call::Has(66, true),
+    Call::Greatest(Some(127)),
+    Call::NextAbsent(65, Some(67)),
 ];
+
+// Does nothing where not all slots of the word are there.
+fn join(marks: &mut Marks, at: u64, bits: u64) {
+    if at < marks.slots() / 64 {
+        marks.join(at, bits);
+    }
+}
 
 // Whether a call answers so. A call behind the last slot answers as where nothing is marked.
 fn answers(marks: &mut Marks, call: Call) -> bool {
     match call {
         Call::Add(slot, is_new) => (slot < marks.slots() && marks.add(slot)) == is_new,
         Call::Remove(slot, was) => (slot < marks.slots() && marks.remove(slot)) == was,
+        Call::Join(at, bits) => {
+            join(marks, at, bits);
+            true
+        }
         Call::Has(slot, is) => (slot < marks.slots() && marks.has(slot)) == is,
         Call::Count(count) => marks.count() == count,
         Call::Next(from, slot) => marks.next(from) == slot,

@@ -9,6 +9,7 @@ const GREATEST: u64 = 18_446_744_073_709_551_615;
 enum Call {
     Set(u64, u64),
     Forget(u64),
+    Join(u64, u64),
     Get(u64, Option<u64>),
     Count(u64),
     Next(u64, Option<u64>),
@@ -72,6 +73,25 @@ const FORGOTTEN: [Call; 13] = [
     Call::Get(8, Some(0)),
 ];
 
+// Zeros come to places without a number, to those that had one, and beside them, in a row of 128
+// places.
+const JOINED: [Call; 14] = [
+    Call::Join(1, 9),
+    Call::Get(64, Some(0)),
+    Call::Get(65, None),
+    Call::Get(67, Some(0)),
+    Call::Set(66, 7),
+    Call::Set(70, 8),
+    Call::Set(3, 4_294_967_296),
+    Call::Join(1, 0x8000_0000_0000_0004),
+    Call::Get(66, Some(0)),
+    Call::Get(70, Some(8)),
+    Call::Get(127, Some(0)),
+    Call::Get(3, Some(4_294_967_296)),
+    Call::Count(6),
+    Call::Join(2, 1),
+];
+
 fn set(row: &mut Row, place: u64, number: u64) {
     if place < row.places() {
         row.set(place, number);
@@ -81,6 +101,12 @@ fn set(row: &mut Row, place: u64, number: u64) {
 fn forget(row: &mut Row, place: u64) {
     if place < row.places() {
         row.forget(place);
+    }
+}
+
+fn join(row: &mut Row, at: u64, bits: u64) {
+    if at < row.places() / 64 {
+        row.join(64 * at, bits);
     }
 }
 
@@ -101,6 +127,7 @@ fn answers(row: &mut Row, call: Call) -> bool {
         Call::Places(places) => return row.places() == places,
         Call::Set(place, number) => set(row, place, number),
         Call::Forget(place) => forget(row, place),
+        Call::Join(at, bits) => join(row, at, bits),
         Call::Clear => row.clear(),
     }
     true
@@ -121,6 +148,7 @@ pub fn places_have_numbers(alloc: Global) -> bool {
     all_answer(alloc, 70, &KEPT)
         && all_answer(alloc, 1000, &LARGE)
         && all_answer(alloc, 10, &FORGOTTEN)
+        && all_answer(alloc, 128, &JOINED)
 }
 
 fn raise(tally: &mut Tally, target: u64) {

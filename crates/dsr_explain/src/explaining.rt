@@ -1,21 +1,21 @@
 // What an answer of `dsr` means, in words.
 ghost use Rattle.std.specs.Prelude.{◌≡◌};
+ghost use Rattle.dsr_meaning.specs.Typed.{IsTyped};
 
 use crate::chains::chain_told;
 use crate::images::{image_told, push_members};
 use crate::limits::{IMAGE_LIMIT, too_long};
 use crate::outcomes::outcome_told;
 use crate::plans::{Declared, refusal_told};
-use crate::reading::{SpecRead, loaded, read_spec};
+use crate::reading::{Meaning, SpecRead, loaded, read_spec};
 use crate::refusals::{certificate_refused, edit_refused, report_refused};
 use crate::reports::report_told;
 use dsr_diagnosis::shown;
 use dsr_ir::NoMemory;
 use dsr_script::{Status, Verdict};
 use dsr_store::Shelf;
-use dsr_wording::text_of;
+use dsr_wording::{Text, text_of};
 use std::alloc::Global;
-use std::fmt::Write;
 
 // A word of a command, by its place.
 fn word(words: &[String], place: usize) -> &str {
@@ -35,6 +35,22 @@ fn spec_refused<F: Shelf>(alloc: Global, shelf: &mut F, name: &str) -> Result<St
     }
 }
 
+// What is wrong with an image by a specification.
+fn image_file_refused<F: Shelf>(
+    alloc: Global,
+    shelf: &mut F,
+    meaning: &Meaning,
+    name: &str,
+) -> Result<String, NoMemory>
+    requires { IsTyped meaning.now.spec }
+    ensures held { F.held shelf.new ≡ F.held shelf.old }
+{
+    match loaded(alloc, shelf, name, IMAGE_LIMIT)? {
+        Some(bytes) => image_told(alloc, meaning, name, bytes),
+        None => Ok(String::new(alloc)),
+    }
+}
+
 // What is wrong with an image.
 fn image_refused<F: Shelf>(
     alloc: Global,
@@ -44,13 +60,26 @@ fn image_refused<F: Shelf>(
 ) -> Result<String, NoMemory>
     ensures held { F.held shelf.new ≡ F.held shelf.old }
 {
-    let SpecRead::Means(meaning) = read_spec(alloc, shelf, spec)? else {
-        return Ok(String::new(alloc));
-    };
-    match loaded(alloc, shelf, name, IMAGE_LIMIT)? {
-        Some(bytes) => image_told(alloc, &meaning, name, bytes),
-        None => Ok(String::new(alloc)),
+    match read_spec(alloc, shelf, spec)? {
+        SpecRead::Means(meaning) => image_file_refused(alloc, shelf, &meaning, name),
+        _ => Ok(String::new(alloc)),
     }
+}
+
+// What stands in the way of a plan for a specification.
+fn plan_told(alloc: Global, meaning: &Meaning, name: &str, out: &str) -> Result<String, NoMemory>
+    requires { IsTyped meaning.now.spec }
+{
+    let mut text = Text::new(alloc);
+    text.push(name);
+    text.push(": ");
+    let declared = Declared {
+        text: &meaning.text,
+        tree: &meaning.tree,
+        spec: &meaning.spec,
+    };
+    refusal_told(&mut text, &declared, out)?;
+    text.whole()
 }
 
 // What stands in the way of a plan.
@@ -62,26 +91,53 @@ fn plan_refused<F: Shelf>(
 ) -> Result<String, NoMemory>
     ensures held { F.held shelf.new ≡ F.held shelf.old }
 {
-    let SpecRead::Means(meaning) = read_spec(alloc, shelf, name)? else {
-        return Ok(String::new(alloc));
-    };
-    let mut text = String::new(alloc);
-    write!(text, "{name}: ")?;
-    let out = text_of(out);
-    let declared = Declared {
-        text: &meaning.text,
-        tree: &meaning.tree,
-        spec: &meaning.spec,
-    };
-    refusal_told(&mut text, &declared, out)?;
-    Ok(text)
+    match read_spec(alloc, shelf, name)? {
+        SpecRead::Means(meaning) => plan_told(alloc, &meaning, name, text_of(out)),
+        _ => Ok(String::new(alloc)),
+    }
 }
 
 // What the steps of a report did.
 fn reported(alloc: Global, out: &[u8]) -> Result<String, NoMemory> {
-    let mut text = String::new(alloc);
-    report_told(&mut text, text_of(out))?;
-    Ok(text)
+    let mut text = Text::new(alloc);
+    report_told(&mut text, text_of(out));
+    text.whole()
+}
+
+// Appends which records are members of what is saved, and aren't of an image, or the other way
+// round.
+fn push_images<F: Shelf>(
+    alloc: Global,
+    shelf: &mut F,
+    text: &mut Text,
+    meaning: &Meaning,
+    words: &[String],
+) -> Result<(), NoMemory>
+    requires { IsTyped meaning.now.spec }
+    ensures held { F.held shelf.new ≡ F.held shelf.old }
+{
+    let Some(before) = loaded(alloc, shelf, word(words, 2), IMAGE_LIMIT)? else {
+        return Ok(());
+    };
+    match loaded(alloc, shelf, word(words, 3), IMAGE_LIMIT)? {
+        Some(after) => push_members(alloc, text, meaning, before, after),
+        None => Ok(()),
+    }
+}
+
+// The same, by a specification that is read first.
+fn push_saved<F: Shelf>(
+    alloc: Global,
+    shelf: &mut F,
+    text: &mut Text,
+    words: &[String],
+) -> Result<(), NoMemory>
+    ensures held { F.held shelf.new ≡ F.held shelf.old }
+{
+    match read_spec(alloc, shelf, word(words, 1))? {
+        SpecRead::Means(meaning) => push_images(alloc, shelf, text, &meaning, words),
+        _ => Ok(()),
+    }
 }
 
 // What a repair did, and which records are members or no longer are.
@@ -93,21 +149,24 @@ fn repaired<F: Shelf>(
 ) -> Result<String, NoMemory>
     ensures held { F.held shelf.new ≡ F.held shelf.old }
 {
-    let mut text = reported(alloc, out)?;
-    let (image, saved) = (word(words, 2), word(words, 3));
-    if image == saved || text.is_empty() {
-        return Ok(text);
+    let mut text = Text::new(alloc);
+    report_told(&mut text, text_of(out));
+    if !text.is_empty() && word(words, 2) != word(words, 3) {
+        push_saved(alloc, shelf, &mut text, words)?;
     }
-    let SpecRead::Means(meaning) = read_spec(alloc, shelf, word(words, 1))? else {
-        return Ok(text);
-    };
-    let Some(before) = loaded(alloc, shelf, image, IMAGE_LIMIT)? else {
-        return Ok(text);
-    };
-    if let Some(after) = loaded(alloc, shelf, saved, IMAGE_LIMIT)? {
-        push_members(alloc, &mut text, &meaning, before, after)?;
-    }
-    Ok(text)
+    text.whole()
+}
+
+// By which rules a chain goes in a specification.
+fn chain_shown(
+    alloc: Global,
+    meaning: &Meaning,
+    asked: &str,
+    out: &str,
+) -> Result<String, NoMemory> {
+    let mut text = Text::new(alloc);
+    chain_told(&mut text, meaning, asked, out);
+    text.whole()
 }
 
 // By which rules a chain goes.
@@ -119,12 +178,10 @@ fn chain_found<F: Shelf>(
 ) -> Result<String, NoMemory>
     ensures held { F.held shelf.new ≡ F.held shelf.old }
 {
-    let SpecRead::Means(meaning) = read_spec(alloc, shelf, word(words, 1))? else {
-        return Ok(String::new(alloc));
-    };
-    let mut text = String::new(alloc);
-    chain_told(&mut text, &meaning, word(words, 3), text_of(out))?;
-    Ok(text)
+    match read_spec(alloc, shelf, word(words, 1))? {
+        SpecRead::Means(meaning) => chain_shown(alloc, &meaning, word(words, 3), text_of(out)),
+        _ => Ok(String::new(alloc)),
+    }
 }
 
 const USAGE: &str = "\

@@ -9,8 +9,8 @@ use dsr_ir::{NoMemory, Spec};
 use dsr_layout::LayoutFault;
 use dsr_layout_diagnosis::push_fault;
 use dsr_show::{ImageModel, image_model};
+use dsr_wording::Text;
 use std::alloc::Global;
-use std::fmt::Write;
 
 /// Why an image has no layout.
 pub fn without_layout(
@@ -20,13 +20,11 @@ pub fn without_layout(
     bytes: &[u8],
     fault: LayoutFault,
 ) -> Result<String, NoMemory> {
-    let mut text = String::new(alloc);
-    write!(
-        text,
-        "{name}: error: the image has no layout by this specification\n"
-    )?;
+    let mut text = Text::new(alloc);
+    text.push(name);
+    text.push(": error: the image has no layout by this specification\n");
     push_fault(&mut text, spec, bytes, fault)?;
-    Ok(text)
+    text.whole()
 }
 
 // Which constraints an image violates.
@@ -36,10 +34,11 @@ fn inconsistent(
     name: &str,
     image: &ImageModel<'_>,
 ) -> Result<String, NoMemory> {
-    let mut text = String::new(alloc);
-    write!(text, "{name}: error: the image is inconsistent\n")?;
+    let mut text = Text::new(alloc);
+    text.push(name);
+    text.push(": error: the image is inconsistent\n");
     violations_told(&mut text, image, &meaning.text, &meaning.tree)?;
-    Ok(text)
+    text.whole()
 }
 
 /// Which constraints an image violates, or why it has no layout; nothing where it is too long.
@@ -80,21 +79,35 @@ fn known_model<'a>(
     }
 }
 
+// Appends which records are members in the second image, and aren't in the first one, or the other
+// way round.
+fn push_difference(
+    alloc: Global,
+    text: &mut Text,
+    meaning: &Meaning,
+    before: &ImageModel<'_>,
+    after: Vec<u8>,
+) -> Result<(), NoMemory>
+    requires { IsTyped meaning.now.spec }
+{
+    if let Some(after) = known_model(alloc, meaning, after)? {
+        members_told(text, before, &after);
+    }
+    Ok(())
+}
+
 /// Appends which records are members after a repair, and weren't before, or the other way round.
 pub fn push_members(
     alloc: Global,
-    text: &mut String,
+    text: &mut Text,
     meaning: &Meaning,
     before: Vec<u8>,
     after: Vec<u8>,
 ) -> Result<(), NoMemory>
     requires { IsTyped meaning.now.spec }
 {
-    let Some(before) = known_model(alloc, meaning, before)? else {
-        return Ok(());
-    };
-    let Some(after) = known_model(alloc, meaning, after)? else {
-        return Ok(());
-    };
-    members_told(text, &before, &after)
+    match known_model(alloc, meaning, before)? {
+        Some(before) => push_difference(alloc, text, meaning, &before, after),
+        None => Ok(()),
+    }
 }

@@ -1,6 +1,5 @@
 // Lines of answers, by their words.
-use dsr_ir::NoMemory;
-use std::fmt::Write;
+use dsr_wording::Text;
 
 /// The word of a line at a place, counted from 0; nothing behind the last one.
 pub fn word_at(line: &str, place: usize) -> &str {
@@ -8,9 +7,16 @@ pub fn word_at(line: &str, place: usize) -> &str {
 }
 
 /// Appends for which records a constraint is violated; nothing where it has no quantifier.
-pub fn push_where(text: &mut String, binding: &str) -> Result<(), NoMemory> {
+pub fn push_where(text: &mut Text, binding: &str) {
     if binding != "-" {
-        write!(text, " at {binding}")?;
+        text.push(" at ");
+        text.push(binding);
     }
-    Ok(())
+}
+
+/// Appends all of these pieces.
+pub fn push_pieces(text: &mut Text, pieces: &[&str]) {
+    for piece in pieces {
+        text.push(piece);
+    }
 }

@@ -1,8 +1,8 @@
 // What keeps the literals of a constraint from being made true, and what could be added.
 use dsr_graph::{Graph, Position, falsifies, ways};
-use dsr_ir::{Atom, Constraint, Literal, Measure, NoMemory, Op, Spec};
+use dsr_ir::{Atom, Constraint, Literal, Measure, Op, Spec};
 use dsr_ways::{Variables, push_literal};
-use dsr_wording::numbered;
+use dsr_wording::{Text, numbered};
 
 const LEAVING: &str = "\
 each rule that gives it needs a guard that can be made false, or a reference that can be set to none";
@@ -87,34 +87,33 @@ fn hindrances(graph: &Graph, at: Position, literal: &Literal) -> &'static [&'sta
 
 // Appends what keeps a literal from being made true, if anything does.
 fn push_need(
-    text: &mut String,
+    text: &mut Text,
     spec: &Spec,
     variables: &Variables<'_>,
     literal: &Literal,
     hindrances: &[&str],
-) -> Result<(), NoMemory> {
+) {
     if hindrances.is_empty() {
-        return Ok(());
+        return;
     }
-    text.push_str("    nothing makes `")?;
-    push_literal(text, spec, variables, literal)?;
+    text.push("    nothing makes `");
+    push_literal(text, spec, variables, literal);
     for (place, hindrance) in hindrances.iter().enumerate() {
-        text.push_str(if place == 0 { "` true: " } else { ", and " })?;
-        text.push_str(hindrance)?;
+        text.push(if place == 0 { "` true: " } else { ", and " });
+        text.push(hindrance);
     }
-    text.push('\n')?;
-    Ok(())
+    text.push("\n");
 }
 
 /// Appends the literals of a constraint that can't be made true, each with what keeps it from that.
 pub fn push_needs(
-    text: &mut String,
+    text: &mut Text,
     spec: &Spec,
     graph: &Graph,
     variables: &Variables<'_>,
     number: u32,
     constraint: &Constraint,
-) -> Result<(), NoMemory> {
+) {
     for (conj, literals) in constraint.conjs.items().iter().enumerate() {
         for (place, literal) in literals.literals.items().iter().enumerate() {
             let at = Position {
@@ -122,14 +121,8 @@ pub fn push_needs(
                 conj: numbered(conj),
                 literal: numbered(place),
             };
-            push_need(
-                text,
-                spec,
-                variables,
-                literal,
-                hindrances(graph, at, literal),
-            )?;
+            let hindrances = hindrances(graph, at, literal);
+            push_need(text, spec, variables, literal, hindrances);
         }
     }
-    Ok(())
 }

@@ -1,8 +1,8 @@
 // What the last line of an answer means, of commands that did what they were asked for.
 use crate::lines::word_at;
 use dsr_ir::NoMemory;
+use dsr_wording::Text;
 use std::alloc::Global;
-use std::fmt::Write;
 
 // The number that the last line of an answer tells.
 fn count_of(out: &str) -> &str {
@@ -14,6 +14,29 @@ fn count_of(out: &str) -> &str {
     word_at(last, 1)
 }
 
+const AUDIT: &str = "the report tells each step of the repair of the image, ";
+
+const AUDITED: &str = " in all, and the other image is what they leave\n";
+
+const UNDO: &str = ": the image with the steps of the report taken back, ";
+
+const EDIT: &str = ": the image with all writes of the script; it is consistent after each group, ";
+
+const LOST: &str = "records to which no rule leads, and so in no set but complements: ";
+
+const IN_ALL: &str = " in all\n";
+
+// The name that a sentence begins with, if any, and what stands before and behind the number in it.
+fn words_of<'a>(command: &str, saved: &'a str) -> Option<(&'a str, &'static str, &'static str)> {
+    match command {
+        "audit" => Some(("", AUDIT, AUDITED)),
+        "undo" => Some((saved, UNDO, IN_ALL)),
+        "edit" => Some((saved, EDIT, IN_ALL)),
+        "lost" => Some(("", LOST, IN_ALL)),
+        _ => None,
+    }
+}
+
 /// What an answer means by its last line; nothing for a command whose answer says it.
 pub fn outcome_told(
     alloc: Global,
@@ -21,26 +44,12 @@ pub fn outcome_told(
     saved: &str,
     out: &str,
 ) -> Result<String, NoMemory> {
-    let count = count_of(out);
-    let mut text = String::new(alloc);
-    match command {
-        "audit" => write!(
-            text,
-            "the report tells each step of the repair of the image, {count} in all, and the other image is what they leave\n"
-        )?,
-        "undo" => write!(
-            text,
-            "{saved}: the image with the steps of the report taken back, {count} in all\n"
-        )?,
-        "edit" => write!(
-            text,
-            "{saved}: the image with all writes of the script; it is consistent after each group, {count} in all\n"
-        )?,
-        "lost" => write!(
-            text,
-            "records to which no rule leads, and so in no set but complements: {count} in all\n"
-        )?,
-        _ => {}
+    let mut text = Text::new(alloc);
+    if let Some((name, before, behind)) = words_of(command, saved) {
+        text.push(name);
+        text.push(before);
+        text.push(count_of(out));
+        text.push(behind);
     }
-    Ok(text)
+    text.whole()
 }

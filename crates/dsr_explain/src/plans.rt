@@ -8,8 +8,7 @@ use dsr_graph::{Graph, graph};
 use dsr_ir::{Atom, Constraint, Literal, NoMemory, Op, Spec};
 use dsr_tree::Tree;
 use dsr_ways::{push_literal, variables_of};
-use dsr_wording::numbered;
-use std::fmt::Write;
+use dsr_wording::{Text, numbered};
 
 /// A specification with its text and its tree.
 #[derive(Drop)]
@@ -30,40 +29,41 @@ fn constraint_named(spec: &Spec, name: &str) -> Option<u32> {
 }
 
 // Appends the name of a member of the stuck set, with its source.
-fn push_named(
-    text: &mut String,
-    declared: &Declared<'_>,
-    member: Option<u32>,
-    name: &str,
-) -> Result<(), NoMemory> {
-    write!(text, "  `{name}`")?;
+fn push_named(text: &mut Text, declared: &Declared<'_>, member: Option<u32>, name: &str) {
+    text.push("  `");
+    text.push(name);
+    text.push("`");
     if let Some(number) = member {
         let (line, words) = constraint_source(declared.text, declared.tree, number);
-        write!(text, " (line {line}: ")?;
-        push_words(text, words)?;
-        text.push(')')?;
+        text.push(" (line ");
+        text.number(line as u64);
+        text.push(": ");
+        push_words(text, words);
+        text.push(")");
     }
-    Ok(())
+}
+
+// Appends the literals of a member that can't be made true.
+fn push_hindered(text: &mut Text, declared: &Declared<'_>, graph: &Graph, number: u32) {
+    if let Some(constraint) = declared.spec.constraints.items().get(number as usize) {
+        let variables = variables_of(declared.tree, number);
+        push_needs(text, declared.spec, graph, &variables, number, constraint);
+    }
 }
 
 // Appends a member of the stuck set, with the literals that can't be made true.
 fn push_stuck(
-    text: &mut String,
+    text: &mut Text,
     declared: &Declared<'_>,
     graph: &Graph,
     member: Option<u32>,
     name: &str,
-) -> Result<(), NoMemory> {
-    push_named(text, declared, member, name)?;
-    text.push_str(" has no place in an order\n")?;
-    let Some(number) = member else {
-        return Ok(());
-    };
-    let Some(constraint) = declared.spec.constraints.items().get(number as usize) else {
-        return Ok(());
-    };
-    let variables = variables_of(declared.tree, number);
-    push_needs(text, declared.spec, graph, &variables, number, constraint)
+) {
+    push_named(text, declared, member, name);
+    text.push(" has no place in an order\n");
+    if let Some(number) = member {
+        push_hindered(text, declared, graph, number);
+    }
 }
 
 // A number of a line that counts from 1, counted from 0.
@@ -87,39 +87,30 @@ fn tried<'a>(declared: &Declared<'a>, member: Option<u32>, numbers: &str) -> Opt
 }
 
 // Appends the literal of a member for which a way is tried.
-fn push_tried(
-    text: &mut String,
-    declared: &Declared<'_>,
-    member: Option<u32>,
-    numbers: &str,
-) -> Result<(), NoMemory> {
+fn push_tried(text: &mut Text, declared: &Declared<'_>, member: Option<u32>, numbers: &str) {
     if let Some(literal) = tried(declared, member, numbers) {
         let variables = variables_of(declared.tree, member.unwrap_or(0));
-        text.push_str(" to make `")?;
-        push_literal(text, declared.spec, &variables, literal)?;
-        text.push_str("` true")?;
+        text.push(" to make `");
+        push_literal(text, declared.spec, &variables, literal);
+        text.push("` true");
     }
-    Ok(())
 }
 
 // Appends what a way of a member breaks: `way C.L.T breaks OTHER by gain of SYMBOL`.
-fn push_way(
-    text: &mut String,
-    declared: &Declared<'_>,
-    member: Option<u32>,
-    line: &str,
-) -> Result<(), NoMemory> {
-    let (way, other) = (word_at(line, 1), word_at(line, 3));
-    let (change, symbol) = (word_at(line, 5), word_at(line, 7));
-    let what = if change == "gain" {
-        "add facts to"
+fn push_way(text: &mut Text, declared: &Declared<'_>, member: Option<u32>, line: &str) {
+    let way = word_at(line, 1);
+    text.push("    way ");
+    text.push(way);
+    push_tried(text, declared, member, way);
+    text.push(if word_at(line, 5) == "gain" {
+        " may add facts to `"
     } else {
-        "take facts from"
-    };
-    write!(text, "    way {way}")?;
-    push_tried(text, declared, member, way)?;
-    write!(text, " may {what} `{symbol}`, and so break `{other}`\n")?;
-    Ok(())
+        " may take facts from `"
+    });
+    text.push(word_at(line, 7));
+    text.push("`, and so break `");
+    text.push(word_at(line, 3));
+    text.push("`\n");
 }
 
 const CYCLE: &str = "\
@@ -127,50 +118,52 @@ const CYCLE: &str = "\
 a constraint that is declared earlier, by a narrower rule, or by other words for the constraint\n";
 
 // Appends which member waits for which: `cycle NAME .. NAME`.
-fn push_cycle(text: &mut String, line: &str) -> Result<(), NoMemory> {
+fn push_cycle(text: &mut Text, line: &str) {
     for (place, name) in line.split_whitespace().skip(1).enumerate() {
-        let between = match place {
-            0 => "  ",
-            1 => " waits for ",
-            _ => ", which waits for ",
-        };
-        write!(text, "{between}`{name}`")?;
+        text.push(match place {
+            0 => "  `",
+            1 => " waits for `",
+            _ => ", which waits for `",
+        });
+        text.push(name);
+        text.push("`");
     }
-    text.push_str(CYCLE)?;
-    Ok(())
+    text.push(CYCLE);
 }
+
+// Appends which constraint relies on a member: `relied by NAME`.
+fn push_relied(text: &mut Text, line: &str) {
+    text.push("    `");
+    text.push(word_at(line, 2));
+    text.push("` relies on it, and so is repaired later\n");
+}
+
+const UNREPAIRABLE: &str = "`: each of its conjunctions has a literal that nothing makes true\n";
 
 // Appends what a line of the answer means, which is about a member of the stuck set.
 fn push_line(
-    text: &mut String,
+    text: &mut Text,
     declared: &Declared<'_>,
     graph: &Graph,
     member: Option<u32>,
     line: &str,
-) -> Result<(), NoMemory> {
-    let other = word_at(line, 1);
+) {
     match word_at(line, 0) {
-        "stuck" => return push_stuck(text, declared, graph, member, other),
-        "way" => return push_way(text, declared, member, line),
-        "cycle" => return push_cycle(text, line),
-        "relied" => {
-            let other = word_at(line, 2);
-            write!(
-                text,
-                "    `{other}` relies on it, and so is repaired later\n"
-            )?;
+        "stuck" => push_stuck(text, declared, graph, member, word_at(line, 1)),
+        "way" => push_way(text, declared, member, line),
+        "cycle" => push_cycle(text, line),
+        "relied" => push_relied(text, line),
+        "unrepairable" => {
+            text.push("  no order helps `");
+            text.push(word_at(line, 1));
+            text.push(UNREPAIRABLE);
         }
-        "unrepairable" => write!(
-            text,
-            "  no order helps `{other}`: each of its conjunctions has a literal that nothing makes true\n"
-        )?,
         _ => {}
     }
-    Ok(())
 }
 
-const ZERO: &str = "\
-  a size `= 0` may be broken by a loss; `<= 0` asks for the same, and can't be\n";
+const ZERO: &str =
+    "  a size `= 0` may be broken by a loss; `<= 0` asks for the same, and can't be\n";
 
 // Whether a constraint asks that a size is 0, and not that it is at most 0.
 fn asks_for_zero(constraint: &Constraint) -> bool {
@@ -198,22 +191,27 @@ fn breaks_zero(spec: &Spec, line: &str) -> bool {
     }
 }
 
-/// Appends what the answer means that there is no plan: of each constraint that is stuck what it
-/// waits for, and what nothing is tried for.
-pub fn refusal_told(text: &mut String, declared: &Declared<'_>, out: &str) -> Result<(), NoMemory>
-    requires { IsTyped declared.now.spec.now }
-{
-    let graph = graph(*text.allocator(), declared.spec)?;
-    text.push_str("error: the constraints have no order of repair\n")?;
+// Appends what each line of the answer means.
+fn push_lines(text: &mut Text, declared: &Declared<'_>, graph: &Graph, out: &str) {
     let mut member = None;
     for line in out.lines() {
         if word_at(line, 0) == "stuck" {
             member = constraint_named(declared.spec, word_at(line, 1));
         }
-        push_line(text, declared, &graph, member, line)?;
+        push_line(text, declared, graph, member, line);
     }
+}
+
+/// Appends what the answer means that there is no plan: of each constraint that is stuck what it
+/// waits for, and what nothing is tried for.
+pub fn refusal_told(text: &mut Text, declared: &Declared<'_>, out: &str) -> Result<(), NoMemory>
+    requires { IsTyped declared.now.spec.now }
+{
+    let graph = graph(text.allocator(), declared.spec)?;
+    text.push("error: the constraints have no order of repair\n");
+    push_lines(text, declared, &graph, out);
     if out.lines().any(|line| breaks_zero(declared.spec, line)) {
-        text.push_str(ZERO)?;
+        text.push(ZERO);
     }
     Ok(())
 }

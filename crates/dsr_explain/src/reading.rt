@@ -66,22 +66,36 @@ fn meaning_of(alloc: Global, text: Vec<u8>) -> Result<Result<Meaning, Vec<u8>>, 
     }
 }
 
-/// Reads a specification.
-pub fn read_spec<F: Shelf>(alloc: Global, shelf: &mut F, name: &str) -> Result<SpecRead, NoMemory>
-    ensures held { F.held shelf.new ≡ F.held shelf.old }
+// What is wrong with a text that means nothing.
+fn refused(alloc: Global, text: Vec<u8>) -> Result<SpecRead, NoMemory>
     ensures typed { IfOk result IsTypedRead }
 {
-    let Some(text) = loaded(alloc, shelf, name, MORE_THAN_SPEC)? else {
-        return Ok(SpecRead::Missed);
-    };
+    match diagnose(alloc, &text)? {
+        Some(diagnosis) => Ok(SpecRead::Refused(text, diagnosis)),
+        None => Ok(SpecRead::Missed),
+    }
+}
+
+// What comes of reading the first bytes of a file.
+fn read_text(alloc: Global, text: Vec<u8>) -> Result<SpecRead, NoMemory>
+    ensures typed { IfOk result IsTypedRead }
+{
     if text.len() as u64 > SPEC_LIMIT {
         return Ok(SpecRead::TooLong);
     }
     match meaning_of(alloc, text)? {
         Ok(meaning) => Ok(SpecRead::Means(meaning)),
-        Err(text) => match diagnose(alloc, &text)? {
-            Some(diagnosis) => Ok(SpecRead::Refused(text, diagnosis)),
-            None => Ok(SpecRead::Missed),
-        },
+        Err(text) => refused(alloc, text),
+    }
+}
+
+/// Reads a specification.
+pub fn read_spec<F: Shelf>(alloc: Global, shelf: &mut F, name: &str) -> Result<SpecRead, NoMemory>
+    ensures held { F.held shelf.new ≡ F.held shelf.old }
+    ensures typed { IfOk result IsTypedRead }
+{
+    match loaded(alloc, shelf, name, MORE_THAN_SPEC)? {
+        Some(text) => read_text(alloc, text),
+        None => Ok(SpecRead::Missed),
     }
 }

@@ -1,99 +1,125 @@
 // Why certificates, reports and scripts of edits are refused, in words.
-use crate::lines::{push_where, word_at};
+use crate::lines::{push_pieces, push_where, word_at};
 use dsr_ir::NoMemory;
+use dsr_wording::Text;
 use std::alloc::Global;
-use std::fmt::Write;
+
+const CERTIFICATE_LINE: &str = "\
+: error: this line isn't what a certificate of this specification has there, or isn't there\n";
+
+const NONE_LEFT: &str = "` fails, none of its conjunctions is left to be repaired\n";
+
+const NO_TEMPLATE: &str = ": error: no template with this number is listed for literal ";
+
+const FALSIFIED: &str = "` may make another literal of its conjunction false\n";
+
+const TESTED: &str = ": error: where all that is tested of `";
+
+const OF_LITERAL: &str = ": error: the template of literal ";
+
+const BREAKING: &str = ": error: a template of `";
+
+const NOT_HIGHER: &str = "`, which isn't on a higher level\n";
+
+const NOT_LOWER: &str = "`, which isn't on a lower level\n";
+
+const GIVEN: &str = "`, or the literal is `given`\n";
+
+// Appends why a certificate is refused.
+fn push_certificate(text: &mut Text, kind: &str, file: &str, name: &str, other: &str) {
+    match kind {
+        "1" => push_pieces(text, &[file, ":", name, CERTIFICATE_LINE]),
+        "2" => push_pieces(text, &[file, TESTED, name, NONE_LEFT]),
+        "3" => push_pieces(text, &[file, NO_TEMPLATE, other, " of `", name, GIVEN]),
+        "4" => push_pieces(text, &[file, OF_LITERAL, other, " of `", name, FALSIFIED]),
+        "5" => push_pieces(
+            text,
+            &[file, BREAKING, name, "` may break `", other, NOT_HIGHER],
+        ),
+        "6" => push_pieces(
+            text,
+            &[file, ": error: `", name, "` relies on `", other, NOT_LOWER],
+        ),
+        _ => {}
+    }
+}
 
 /// Why a certificate is refused, by the line that says so.
 pub fn certificate_refused(alloc: Global, file: &str, out: &str) -> Result<String, NoMemory> {
     let (kind, name, other) = (word_at(out, 1), word_at(out, 2), word_at(out, 3));
-    let mut text = String::new(alloc);
+    let mut text = Text::new(alloc);
+    push_certificate(&mut text, kind, file, name, other);
+    text.whole()
+}
+
+const REPORT_LINE: &str = ": error: this line isn't of the form of a report, or isn't there\n";
+
+const GOES_ON: &str = " steps are right, but the repair goes on behind them\n";
+
+const DIFFERS: &str = "\
+: error: its steps are right, but the repaired image differs from what they leave, first at byte ";
+
+const NOT_LEFT: &str = " isn't in the image, or hasn't the value that the step left\n";
+
+const TAKING: &str = ": error: taking back byte ";
+
+const FIXED: &str = " would change a fixed field\n";
+
+const NOT_DUE: &str = " isn't the one that is due there\n";
+
+// Appends why a report is refused.
+fn push_report(text: &mut Text, kind: &str, file: &str, number: &str, place: &str) {
     match kind {
-        "1" => write!(
+        "1" => push_pieces(text, &[file, ":", number, REPORT_LINE]),
+        "2" => push_pieces(text, &[file, ": error: step ", number, NOT_DUE]),
+        "3" => push_pieces(text, &[file, ": error: all its ", number, GOES_ON]),
+        "4" => push_pieces(text, &[file, DIFFERS, number, "\n"]),
+        "5" => push_pieces(
             text,
-            "{file}:{name}: error: this line isn't what a certificate of this specification has there, or isn't there\n"
-        )?,
-        "2" => write!(
-            text,
-            "{file}: error: where all that is tested of `{name}` fails, none of its conjunctions is left to be repaired\n"
-        )?,
-        "3" => write!(
-            text,
-            "{file}: error: no template with this number is listed for literal {other} of `{name}`, or the literal is `given`\n"
-        )?,
-        "4" => write!(
-            text,
-            "{file}: error: the template of literal {other} of `{name}` may make another literal of its conjunction false\n"
-        )?,
-        "5" => write!(
-            text,
-            "{file}: error: a template of `{name}` may break `{other}`, which isn't on a higher level\n"
-        )?,
-        "6" => write!(
-            text,
-            "{file}: error: `{name}` relies on `{other}`, which isn't on a lower level\n"
-        )?,
+            &[file, ": error: byte ", place, " of step ", number, NOT_LEFT],
+        ),
+        "6" => push_pieces(text, &[file, TAKING, place, " of step ", number, FIXED]),
         _ => {}
     }
-    Ok(text)
 }
 
 /// Why a report is refused, by the line that says so.
 pub fn report_refused(alloc: Global, file: &str, out: &str) -> Result<String, NoMemory> {
     let (kind, number, place) = (word_at(out, 1), word_at(out, 2), word_at(out, 3));
-    let mut text = String::new(alloc);
-    match kind {
-        "1" => write!(
-            text,
-            "{file}:{number}: error: this line isn't of the form of a report, or isn't there\n"
-        )?,
-        "2" => write!(
-            text,
-            "{file}: error: step {number} isn't the one that is due there\n"
-        )?,
-        "3" => write!(
-            text,
-            "{file}: error: all its {number} steps are right, but the repair goes on behind them\n"
-        )?,
-        "4" => write!(
-            text,
-            "{file}: error: its steps are right, but the repaired image differs from what they leave, first at byte {number}\n"
-        )?,
-        "5" => write!(
-            text,
-            "{file}: error: byte {place} of step {number} isn't in the image, or hasn't the value that the step left\n"
-        )?,
-        "6" => write!(
-            text,
-            "{file}: error: taking back byte {place} of step {number} would change a fixed field\n"
-        )?,
-        _ => {}
-    }
-    Ok(text)
+    let mut text = Text::new(alloc);
+    push_report(&mut text, kind, file, number, place);
+    text.whole()
+}
+
+const SCRIPT_LINE: &str = "\
+: error: this line is none of `set RECORD.FIELD VALUE`, `set RECORD.FIELD[INDEX] VALUE` and \
+`commit`, or isn't there: the last line is `commit`\n";
+
+const SCRIPT_FIELD: &str = "\
+: error: this line names no field of a record, or a fixed one, or its value is too great for the \
+field\n";
+
+// Appends which constraint would be violated after a group of a script.
+fn push_group(text: &mut Text, file: &str, number: &str, out: &str) {
+    text.push(file);
+    text.push(": error: after group ");
+    text.push(number);
+    text.push(" the constraint `");
+    text.push(word_at(out, 3));
+    text.push("` would be violated");
+    push_where(text, word_at(out, 4));
+    text.push("\n");
 }
 
 /// Why a script of edits is refused, by the line that says so.
 pub fn edit_refused(alloc: Global, file: &str, out: &str) -> Result<String, NoMemory> {
-    let (kind, number, name) = (word_at(out, 1), word_at(out, 2), word_at(out, 3));
-    let mut text = String::new(alloc);
+    let (kind, number) = (word_at(out, 1), word_at(out, 2));
+    let mut text = Text::new(alloc);
     match kind {
-        "1" => write!(
-            text,
-            "{file}:{number}: error: this line is none of `set RECORD.FIELD VALUE`, `set RECORD.FIELD[INDEX] VALUE` and `commit`, or isn't there: the last line is `commit`\n"
-        )?,
-        "2" => write!(
-            text,
-            "{file}:{number}: error: this line names no field of a record, or a fixed one, or its value is too great for the field\n"
-        )?,
-        "3" => {
-            write!(
-                text,
-                "{file}: error: after group {number} the constraint `{name}` would be violated"
-            )?;
-            push_where(&mut text, word_at(out, 4))?;
-            text.push('\n')?;
-        }
+        "1" => push_pieces(&mut text, &[file, ":", number, SCRIPT_LINE]),
+        "2" => push_pieces(&mut text, &[file, ":", number, SCRIPT_FIELD]),
+        "3" => push_group(&mut text, file, number, out),
         _ => {}
     }
-    Ok(text)
+    text.whole()
 }

@@ -1,8 +1,7 @@
 // The sources of rules and constraints: the line and the text of each.
-use dsr_ir::NoMemory;
 use dsr_passages::spot_of;
 use dsr_tree::Tree;
-use dsr_wording::text_of;
+use dsr_wording::{Text, text_of};
 
 // How many bytes of a declaration are shown.
 const MOST: usize = 400;
@@ -40,10 +39,9 @@ pub fn rule_source<'a>(text: &'a [u8], tree: &Tree, number: u32) -> (usize, &'a 
 }
 
 /// Appends a declaration in one line, with single spaces between its words.
-pub fn push_words(text: &mut String, words: &[u8]) -> Result<(), NoMemory> {
+pub fn push_words(text: &mut Text, words: &[u8]) {
     for (place, word) in text_of(words).split_whitespace().enumerate() {
-        text.push_str(if place > 0 { " " } else { "" })?;
-        text.push_str(word)?;
+        text.push(if place > 0 { " " } else { "" });
+        text.push(word);
     }
-    Ok(())
 }

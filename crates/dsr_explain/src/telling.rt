@@ -3,7 +3,7 @@ ghost use Rattle.std.specs.Prelude.{◌≡◌};
 ghost use Rattle.dsr_meaning.specs.Typed.{IsTyped};
 
 use crate::reading::Meaning;
-use crate::showing::{Shown, meaning_or_told};
+use crate::showing::{Shown, answer, meaning_or_told};
 use dsr_ir::NoMemory;
 use dsr_lint::lint;
 use dsr_store::Shelf;
@@ -22,7 +22,7 @@ pub enum Telling {
 }
 
 // What is told of a specification that means something.
-fn told(alloc: Global, meaning: &Meaning, telling: Telling) -> Result<String, NoMemory>
+fn text_told(alloc: Global, meaning: &Meaning, telling: Telling) -> Result<String, NoMemory>
     requires { IsTyped meaning.now.spec }
 {
     match telling {
@@ -30,6 +30,14 @@ fn told(alloc: Global, meaning: &Meaning, telling: Telling) -> Result<String, No
         Telling::Lint => lint(alloc, &meaning.spec),
         Telling::Graph => dependence_graph(alloc, &meaning.spec),
     }
+}
+
+// Tells something of a specification that means something.
+fn told(alloc: Global, meaning: &Meaning, telling: Telling) -> Result<Shown, NoMemory>
+    requires { IsTyped meaning.now.spec }
+{
+    let text = text_told(alloc, meaning, telling)?;
+    Ok(answer(alloc, text))
 }
 
 /// Tells something of a specification.
@@ -42,11 +50,7 @@ pub fn tell<F: Shelf>(
     ensures held { F.held shelf.new ≡ F.held shelf.old }
 {
     match meaning_or_told(alloc, shelf, name)? {
-        Ok(meaning) => Ok(Shown {
-            status: 0,
-            text: told(alloc, &meaning, telling)?,
-            told: String::new(alloc),
-        }),
+        Ok(meaning) => told(alloc, &meaning, telling),
         Err(told) => Ok(told),
     }
 }

@@ -3,8 +3,8 @@
 use crate::reading::{Member, Structure, is_known};
 use crate::spelling::name_with;
 use dsr_ir::NoMemory;
+use dsr_wording::Text;
 use std::alloc::Global;
-use std::fmt::Write;
 
 // The structure to which a member leads, of those that are known.
 fn known_target<'a>(structures: &[Structure], member: &'a Member) -> Option<&'a str> {
@@ -22,34 +22,43 @@ fn set_of(alloc: Global, structure: &str) -> Result<String, NoMemory> {
     name_with(alloc, structure, "_set")
 }
 
-// Appends bytes that belong to no field.
-fn push_gap(text: &mut String, bytes: u64) -> Result<(), NoMemory> {
-    if bytes > 0 {
-        write!(text, "  skip {bytes};\n")?;
+// The set of the records with an illegal address.
+fn astray_of(alloc: Global, structure: &str) -> Result<String, NoMemory> {
+    name_with(alloc, structure, "_astray")
+}
+
+// Appends pieces, one behind the other.
+fn push_pieces(text: &mut Text, pieces: &[&str]) {
+    for piece in pieces {
+        text.push(piece);
     }
-    Ok(())
+}
+
+// Appends bytes that belong to no field.
+fn push_gap(text: &mut Text, bytes: u64) {
+    if bytes > 0 {
+        text.push("  skip ");
+        text.number(bytes);
+        text.push(";\n");
+    }
 }
 
 // Appends a member as a field.
-fn push_member(
-    text: &mut String,
-    structures: &[Structure],
-    member: &Member,
-) -> Result<(), NoMemory> {
-    let alloc = *text.allocator();
-    let (bits, name) = (
-        member.width.saturating_mul(8),
-        name_with(alloc, member.name.as_str(), "")?,
-    );
-    write!(text, "  u{bits} {name}")?;
+fn push_member(text: &mut Text, structures: &[Structure], member: &Member) -> Result<(), NoMemory> {
+    let name = name_with(text.allocator(), member.name.as_str(), "")?;
+    text.push("  u");
+    text.number(member.width.saturating_mul(8));
+    push_pieces(text, &[" ", name.as_str()]);
     if let Some(count) = member.count {
-        write!(text, "[{count}]")?;
+        text.push("[");
+        text.number(count);
+        text.push("]");
     }
     if let Some(target) = known_target(structures, member) {
-        let pool = pool_of(alloc, target)?;
-        write!(text, " -> {pool}")?;
+        let pool = pool_of(text.allocator(), target)?;
+        push_pieces(text, &[" -> ", pool.as_str()]);
     }
-    text.push_str(";\n")?;
+    text.push(";\n");
     Ok(())
 }
 
@@ -61,22 +70,22 @@ fn bytes_of(member: &Member) -> u64 {
 // Appends a structure. Members that can be no fields are gaps, and so are all but the first of
 // those that share bytes.
 fn push_structure(
-    text: &mut String,
+    text: &mut Text,
     structures: &[Structure],
     structure: &Structure,
 ) -> Result<(), NoMemory> {
-    let name = name_with(*text.allocator(), structure.name.as_str(), "")?;
-    write!(text, "structure {name} {{\n")?;
+    let name = name_with(text.allocator(), structure.name.as_str(), "")?;
+    push_pieces(text, &["structure ", name.as_str(), " {\n"]);
     let mut end = 0u64;
     for member in &structure.members {
         if member.start >= end {
-            push_gap(text, member.start.saturating_sub(end))?;
+            push_gap(text, member.start.saturating_sub(end));
             push_member(text, structures, member)?;
             end = member.start.saturating_add(bytes_of(member));
         }
     }
-    push_gap(text, structure.size.saturating_sub(end))?;
-    text.push_str("}\n")?;
+    push_gap(text, structure.size.saturating_sub(end));
+    text.push("}\n");
     Ok(())
 }
 
@@ -84,19 +93,27 @@ fn push_structure(
 // program has anything in its first page.
 const BASE: u64 = 4096;
 
+// Appends a pool of one record, which begins at a byte.
+fn push_pool(text: &mut Text, structure: &Structure, start: u64) -> Result<(), NoMemory> {
+    let name = name_with(text.allocator(), structure.name.as_str(), "")?;
+    let pool = pool_of(text.allocator(), structure.name.as_str())?;
+    push_pieces(text, &["pool ", pool.as_str(), " : ", name.as_str()]);
+    text.push("[1] at ");
+    text.number(start);
+    text.push(" codes ");
+    text.number(start.saturating_add(BASE));
+    text.push(" step ");
+    text.number(structure.size);
+    text.push(" none 0;\n");
+    Ok(())
+}
+
 // Appends the pools, one record each, one behind the other.
-fn push_pools(text: &mut String, structures: &[Structure]) -> Result<(), NoMemory> {
-    let alloc = *text.allocator();
+fn push_pools(text: &mut Text, structures: &[Structure]) -> Result<(), NoMemory> {
     let mut start = 0u64;
     for structure in structures {
-        let name = name_with(alloc, structure.name.as_str(), "")?;
-        let pool = pool_of(alloc, structure.name.as_str())?;
-        let (size, address) = (structure.size, start.saturating_add(BASE));
-        write!(
-            text,
-            "pool {pool} : {name}[1] at {start} codes {address} step {size} none 0;\n"
-        )?;
-        start = start.saturating_add(size);
+        push_pool(text, structure, start)?;
+        start = start.saturating_add(structure.size);
     }
     Ok(())
 }
@@ -112,50 +129,64 @@ fn has_address(structures: &[Structure], structure: &Structure) -> bool {
 }
 
 // Appends the sets: the records of each structure, and those with an illegal address.
-fn push_sets(text: &mut String, structures: &[Structure]) -> Result<(), NoMemory> {
-    let alloc = *text.allocator();
+fn push_sets(text: &mut Text, structures: &[Structure]) -> Result<(), NoMemory> {
+    let alloc = text.allocator();
     for structure in structures {
         let pool = pool_of(alloc, structure.name.as_str())?;
         let set = set_of(alloc, structure.name.as_str())?;
-        write!(text, "set {set} of {pool};\n")?;
+        push_pieces(text, &["set ", set.as_str(), " of ", pool.as_str()]);
+        text.push(";\n");
         if has_address(structures, structure) {
-            let astray = name_with(alloc, structure.name.as_str(), "_astray")?;
-            write!(text, "set {astray} of {pool};\n")?;
+            let astray = astray_of(alloc, structure.name.as_str())?;
+            push_pieces(text, &["set ", astray.as_str(), " of ", pool.as_str()]);
+            text.push(";\n");
         }
     }
     Ok(())
 }
 
+// Appends where a rule begins: at a record, and at an entry where its field is an array.
+fn push_source(text: &mut Text, source: &str, field: &str, is_array: bool) {
+    push_pieces(text, &["rule x in ", source]);
+    if is_array {
+        push_pieces(text, &[", k in ", field]);
+    }
+}
+
+// Appends the field of a record, or its entry where it is an array.
+fn push_field(text: &mut Text, field: &str, is_array: bool) {
+    push_pieces(text, &["x.", field]);
+    if is_array {
+        text.push("[k]");
+    }
+}
+
 // Appends the rules of an address of a structure.
 fn push_address(
-    text: &mut String,
+    text: &mut Text,
     structure: &Structure,
     member: &Member,
     target: &str,
 ) -> Result<(), NoMemory> {
-    let alloc = *text.allocator();
-    let source = set_of(alloc, structure.name.as_str())?;
-    let astray = name_with(alloc, structure.name.as_str(), "_astray")?;
-    let target = set_of(alloc, target)?;
-    let field = name_with(alloc, member.name.as_str(), "")?;
-    let (index, entry) = match member.count {
-        Some(_) => (format!(in alloc; ", k in {field}")?, "[k]"),
-        None => (String::new(alloc), ""),
-    };
-    write!(
-        text,
-        "rule x in {source}{index} => x.{field}{entry} in {target};\n"
-    )?;
-    write!(
-        text,
-        "rule x in {source}{index} when illegal(x.{field}{entry}) => x in {astray};\n"
-    )?;
+    let source = set_of(text.allocator(), structure.name.as_str())?;
+    let astray = astray_of(text.allocator(), structure.name.as_str())?;
+    let target = set_of(text.allocator(), target)?;
+    let field = name_with(text.allocator(), member.name.as_str(), "")?;
+    let is_array = member.count.is_some();
+    push_source(text, source.as_str(), field.as_str(), is_array);
+    text.push(" => ");
+    push_field(text, field.as_str(), is_array);
+    push_pieces(text, &[" in ", target.as_str(), ";\n"]);
+    push_source(text, source.as_str(), field.as_str(), is_array);
+    text.push(" when illegal(");
+    push_field(text, field.as_str(), is_array);
+    push_pieces(text, &[") => x in ", astray.as_str(), ";\n"]);
     Ok(())
 }
 
 // Appends the rules of a structure.
 fn push_rules(
-    text: &mut String,
+    text: &mut Text,
     structures: &[Structure],
     structure: &Structure,
 ) -> Result<(), NoMemory> {
@@ -168,14 +199,12 @@ fn push_rules(
 }
 
 // Appends the constraint that no address of a structure is illegal.
-fn push_legal(text: &mut String, structure: &Structure) -> Result<(), NoMemory> {
-    let alloc = *text.allocator();
-    let legal = name_with(alloc, structure.name.as_str(), "_legal")?;
-    let astray = name_with(alloc, structure.name.as_str(), "_astray")?;
-    write!(
-        text,
-        "constraint {legal} : forall x in {astray} : not x in {astray};\n"
-    )?;
+fn push_legal(text: &mut Text, structure: &Structure) -> Result<(), NoMemory> {
+    let legal = name_with(text.allocator(), structure.name.as_str(), "_legal")?;
+    let astray = astray_of(text.allocator(), structure.name.as_str())?;
+    push_pieces(text, &["constraint ", legal.as_str(), " : forall x in "]);
+    push_pieces(text, &[astray.as_str(), " : not x in ", astray.as_str()]);
+    text.push(";\n");
     Ok(())
 }
 
@@ -191,16 +220,16 @@ structure Head {
 ";
 
 // Appends the rule by which all records of the first structure are there.
-fn push_first(text: &mut String, first: &Structure) -> Result<(), NoMemory> {
-    let alloc = *text.allocator();
-    let pool = pool_of(alloc, first.name.as_str())?;
-    let set = set_of(alloc, first.name.as_str())?;
-    write!(text, "rule head, k in pool {pool} => {pool}[k] in {set};\n")?;
+fn push_first(text: &mut Text, first: &Structure) -> Result<(), NoMemory> {
+    let pool = pool_of(text.allocator(), first.name.as_str())?;
+    let set = set_of(text.allocator(), first.name.as_str())?;
+    push_pieces(text, &["rule head, k in pool ", pool.as_str(), " => "]);
+    push_pieces(text, &[pool.as_str(), "[k] in ", set.as_str(), ";\n"]);
     Ok(())
 }
 
 // Appends the rules, and then the constraints.
-fn push_meaning(text: &mut String, structures: &[Structure]) -> Result<(), NoMemory> {
+fn push_meaning(text: &mut Text, structures: &[Structure]) -> Result<(), NoMemory> {
     for structure in structures {
         push_rules(text, structures, structure)?;
     }
@@ -213,11 +242,7 @@ fn push_meaning(text: &mut String, structures: &[Structure]) -> Result<(), NoMem
 }
 
 // Appends all declarations, where there is a first structure.
-fn push_all(
-    text: &mut String,
-    structures: &[Structure],
-    first: &Structure,
-) -> Result<(), NoMemory> {
+fn push_all(text: &mut Text, structures: &[Structure], first: &Structure) -> Result<(), NoMemory> {
     for structure in structures {
         push_structure(text, structures, structure)?;
     }
@@ -235,7 +260,8 @@ pub fn specification_of(
     let Some(first) = structures.first() else {
         return Ok(None);
     };
-    let mut text = String::from_str(alloc, HEADING)?;
+    let mut text = Text::new(alloc);
+    text.push(HEADING);
     push_all(&mut text, structures, first)?;
-    Ok(Some(text))
+    Ok(Some(text.whole()?))
 }

@@ -6,22 +6,20 @@ use dsr_answers::{constraint_name, field_name, pool_name};
 use dsr_ir::{FieldRef, NoMemory, Spec};
 use dsr_layout::LayoutFault;
 use dsr_schema::{declared_field, width_bits};
-use dsr_wording::{numbered, push_grouped, text_of};
-use std::fmt::Write;
+use dsr_wording::{Text, numbered};
 
 // That the image ends before the head does.
-fn push_short(text: &mut String, scene: &Scene<'_>) -> Result<(), NoMemory> {
-    text.push_str("the image ends before `Head` does: ")?;
-    push_length(text, scene)?;
+fn push_short(text: &mut Text, scene: &Scene<'_>) {
+    text.push("the image ends before `Head` does: ");
+    push_length(text, scene);
     match scene.head_bytes() {
         Some(size) => {
-            text.push_str(", and `Head` has ")?;
-            push_grouped(text, size)?;
+            text.push(", and `Head` has ");
+            text.grouped(size);
         }
-        None => text.push_str(", and a fixed field lies behind them")?,
+        None => text.push(", and a fixed field lies behind them"),
     }
-    text.push('\n')?;
-    Ok(())
+    text.push("\n");
 }
 
 // The first expression of a pool that has no value, in words.
@@ -57,175 +55,157 @@ const NO_NUMBER: &str =
     "isn't a number from 0 to 2^64 - 1: a difference is below 0, a divisor is 0, or a number is too great\n";
 
 // Appends the first structure whose size has no value, and tells whether there is one.
-fn push_unknown_structure(text: &mut String, scene: &Scene<'_>) -> Result<bool, NoMemory> {
+fn push_unknown_structure(text: &mut Text, scene: &Scene<'_>) -> bool {
     for (number, structure) in scene.spec.base.structures.items().iter().enumerate() {
         if scene.numbers.bytes_of(numbered(number)).is_none() {
-            let name = text_of(structure.name.bytes());
-            write!(text, "the size of structure `{name}` ")?;
-            text.push_str(NO_NUMBER)?;
-            return Ok(true);
+            text.push("the size of structure `");
+            text.name(structure.name.bytes());
+            text.push("` ");
+            text.push(NO_NUMBER);
+            return true;
         }
     }
-    Ok(false)
+    false
 }
 
 // Appends the first pool that has an expression without a value.
-fn push_unknown_pool(text: &mut String, scene: &Scene<'_>) -> Result<(), NoMemory> {
+fn push_unknown_pool(text: &mut Text, scene: &Scene<'_>) {
     for pool in scene.spec.base.pools.items() {
         if let Some(part) = unknown_part(&scene.numbers.pool(pool)) {
-            let name = text_of(pool.name.bytes());
-            write!(text, "the {part} of pool `{name}` ")?;
-            text.push_str(NO_NUMBER)?;
-            return Ok(());
+            text.push("the ");
+            text.push(part);
+            text.push(" of pool `");
+            text.name(pool.name.bytes());
+            text.push("` ");
+            text.push(NO_NUMBER);
+            return;
         }
     }
-    text.push_str("an expression ")?;
-    text.push_str(NO_NUMBER)?;
-    Ok(())
+    text.push("an expression ");
+    text.push(NO_NUMBER);
 }
 
 // That an expression has no value.
-fn push_arith(text: &mut String, scene: &Scene<'_>) -> Result<(), NoMemory> {
-    if !push_unknown_structure(text, scene)? {
-        push_unknown_pool(text, scene)?;
+fn push_arith(text: &mut Text, scene: &Scene<'_>) {
+    if !push_unknown_structure(text, scene) {
+        push_unknown_pool(text, scene);
     }
-    push_fixed(text, scene)
+    push_fixed(text, scene);
 }
 
 // That a pool ends behind the image.
-fn push_outside(text: &mut String, scene: &Scene<'_>, pool: u32) -> Result<(), NoMemory> {
-    push_extent(text, scene, pool)?;
-    text.push_str("; ")?;
-    push_length(text, scene)?;
-    text.push('\n')?;
-    push_fixed(text, scene)
+fn push_outside(text: &mut Text, scene: &Scene<'_>, pool: u32) {
+    push_extent(text, scene, pool);
+    text.push("; ");
+    push_length(text, scene);
+    text.push("\n");
+    push_fixed(text, scene);
 }
 
 // That two pools share a byte.
-fn push_overlap(
-    text: &mut String,
-    scene: &Scene<'_>,
-    pool: u32,
-    other: u32,
-) -> Result<(), NoMemory> {
-    push_extent(text, scene, pool)?;
-    text.push_str("; ")?;
-    push_extent(text, scene, other)?;
-    text.push_str(": they share bytes\n")?;
-    push_fixed(text, scene)
+fn push_overlap(text: &mut Text, scene: &Scene<'_>, pool: u32, other: u32) {
+    push_extent(text, scene, pool);
+    text.push("; ");
+    push_extent(text, scene, other);
+    text.push(": they share bytes\n");
+    push_fixed(text, scene);
 }
 
 // That a structure is larger than a slot.
-fn push_subtype(
-    text: &mut String,
-    scene: &Scene<'_>,
-    pool: u32,
-    structure: u32,
-) -> Result<(), NoMemory> {
-    let pool_text = text_of(pool_name(scene.spec, pool));
-    let name = scene.structure_name(structure);
-    write!(text, "structure `{name}` has ")?;
-    push_bytes(text, scene.numbers.bytes_of(structure))?;
-    write!(
-        text,
-        ", and a slot of pool `{pool_text}`, which is read by it, has "
-    )?;
+fn push_subtype(text: &mut Text, scene: &Scene<'_>, pool: u32, structure: u32) {
+    text.push("structure `");
+    text.push(scene.structure_name(structure));
+    text.push("` has ");
+    push_bytes(text, scene.numbers.bytes_of(structure));
+    text.push(", and a slot of pool `");
+    text.name(pool_name(scene.spec, pool));
+    text.push("`, which is read by it, has ");
     let slot = match scene.pool(pool) {
         Some(extent) => extent.slot,
         None => None,
     };
-    push_bytes(text, slot)?;
-    text.push_str(": give the slots more, by `slot N` in the pool's declaration\n")?;
-    Ok(())
+    push_bytes(text, slot);
+    text.push(": give the slots more, by `slot N` in the pool's declaration\n");
 }
 
 // That a slot or a step is 0.
-fn push_zero(text: &mut String, scene: &Scene<'_>, pool: u32) -> Result<(), NoMemory> {
-    let name = text_of(pool_name(scene.spec, pool));
+fn push_zero(text: &mut Text, scene: &Scene<'_>, pool: u32) {
+    let name = pool_name(scene.spec, pool);
     let step = match scene.pool(pool) {
         Some(extent) => extent.step,
         None => None,
     };
     if step == Some(0) {
-        write!(
-            text,
-            "the step between the codes of pool `{name}` is 0, so all its slots would have one code\n"
-        )?;
+        text.push("the step between the codes of pool `");
+        text.name(name);
+        text.push("` is 0, so all its slots would have one code\n");
     } else {
-        write!(text, "a slot of pool `{name}` has 0 bytes\n")?;
+        text.push("a slot of pool `");
+        text.name(name);
+        text.push("` has 0 bytes\n");
     }
-    push_fixed(text, scene)
+    push_fixed(text, scene);
 }
 
 // That the code of no slot is the code of one.
-fn push_none_code(text: &mut String, scene: &Scene<'_>, pool: u32) -> Result<(), NoMemory> {
+fn push_none_code(text: &mut Text, scene: &Scene<'_>, pool: u32) {
     let Some(extent) = scene.pool(pool) else {
-        return Ok(());
+        return;
     };
-    let name = text_of(pool_name(scene.spec, pool));
-    text.push_str("the value ")?;
-    push_known(text, extent.none)?;
-    write!(
-        text,
-        ", which is none of pool `{name}`, is the code of a slot: codes go from "
-    )?;
-    push_known(text, extent.code)?;
-    text.push_str(" to ")?;
-    push_known(text, extent.last_code())?;
-    text.push_str(" in steps of ")?;
-    push_known(text, extent.step)?;
-    text.push('\n')?;
-    push_fixed(text, scene)
+    text.push("the value ");
+    push_known(text, extent.none);
+    text.push(", which is none of pool `");
+    text.name(pool_name(scene.spec, pool));
+    text.push("`, is the code of a slot: codes go from ");
+    push_known(text, extent.code);
+    text.push(" to ");
+    push_known(text, extent.last_code());
+    text.push(" in steps of ");
+    push_known(text, extent.step);
+    text.push("\n");
+    push_fixed(text, scene);
 }
 
 // Appends a reference with its bits.
-fn push_reference(
-    text: &mut String,
-    scene: &Scene<'_>,
-    structure: u32,
-    field: u32,
-) -> Result<(), NoMemory> {
-    let owner = scene.structure_name(structure);
-    let name = text_of(field_name(scene.spec, structure, field));
+fn push_reference(text: &mut Text, scene: &Scene<'_>, structure: u32, field: u32) {
+    text.push("the reference `");
+    text.push(scene.structure_name(structure));
+    text.push(".");
+    text.name(field_name(scene.spec, structure, field));
+    text.push("` has ");
     let bits = match declared_field(&scene.spec.base, FieldRef { structure, field }) {
         Some(field) => width_bits(field.width),
         None => 0,
     };
-    write!(text, "the reference `{owner}.{name}` has {bits} bits")?;
-    Ok(())
+    text.number(bits);
+    text.push(" bits");
 }
 
 // That a code doesn't fit a reference.
-fn push_code(
-    text: &mut String,
-    scene: &Scene<'_>,
-    pool: u32,
-    structure: u32,
-    field: u32,
-) -> Result<(), NoMemory> {
-    let name = text_of(pool_name(scene.spec, pool));
-    push_reference(text, scene, structure, field)?;
-    write!(text, ", too few for the codes of pool `{name}`")?;
+fn push_code(text: &mut Text, scene: &Scene<'_>, pool: u32, structure: u32, field: u32) {
+    push_reference(text, scene, structure, field);
+    text.push(", too few for the codes of pool `");
+    text.name(pool_name(scene.spec, pool));
+    text.push("`");
     if let Some(extent) = scene.pool(pool) {
-        text.push_str(": none is ")?;
-        push_known(text, extent.none)?;
+        text.push(": none is ");
+        push_known(text, extent.none);
         if let Some(last) = extent.last_code() {
-            text.push_str(", and the last code is ")?;
-            push_grouped(text, last)?;
+            text.push(", and the last code is ");
+            text.grouped(last);
         }
     }
-    text.push('\n')?;
-    push_fixed(text, scene)
+    text.push("\n");
+    push_fixed(text, scene);
 }
 
 // That a count doesn't fit a field.
-fn push_great_count(text: &mut String, spec: &Spec, constraint: u32) -> Result<(), NoMemory> {
-    let name = text_of(constraint_name(spec, constraint));
-    write!(
-        text,
-        "constraint `{name}` compares a field with a count that may be greater than the field can hold: widen the field\n"
-    )?;
-    Ok(())
+fn push_great_count(text: &mut Text, spec: &Spec, constraint: u32) {
+    text.push("constraint `");
+    text.name(constraint_name(spec, constraint));
+    text.push(
+        "` compares a field with a count that may be greater than the field can hold: widen the field\n",
+    );
 }
 
 const MANY_INSTANCES: &str =
@@ -233,12 +213,12 @@ const MANY_INSTANCES: &str =
 
 /// Appends why the bytes of an image have no layout, in lines.
 pub fn push_fault(
-    text: &mut String,
+    text: &mut Text,
     spec: &Spec,
     bytes: &[u8],
     fault: LayoutFault,
 ) -> Result<(), NoMemory> {
-    let scene = Scene::new(*text.allocator(), spec, bytes)?;
+    let scene = Scene::new(text.allocator(), spec, bytes)?;
     match fault {
         LayoutFault::Short => push_short(text, &scene),
         LayoutFault::Arith => push_arith(text, &scene),
@@ -248,10 +228,11 @@ pub fn push_fault(
         LayoutFault::Zero(pool) => push_zero(text, &scene, pool),
         LayoutFault::NoneIsCode(pool) => push_none_code(text, &scene, pool),
         LayoutFault::CodeTooWide(pool, structure, field) => {
-            push_code(text, &scene, pool, structure, field)
+            push_code(text, &scene, pool, structure, field);
         }
         LayoutFault::CountTooWide(constraint) => push_great_count(text, spec, constraint),
-        LayoutFault::Instances => Ok(text.push_str(MANY_INSTANCES)?),
-        LayoutFault::NoMemory => Err(NoMemory),
+        LayoutFault::Instances => text.push(MANY_INSTANCES),
+        LayoutFault::NoMemory => return Err(NoMemory),
     }
+    Ok(())
 }

@@ -3,70 +3,77 @@ use crate::fields::push_fields;
 use crate::supplies::push_supplies;
 use crate::uses::{is_base_or_avoided, is_constrained, is_given, is_premise};
 use dsr_ir::{NoMemory, SetDecl, Spec, Symbol};
-use dsr_wording::{numbered, text_of};
+use dsr_wording::{Text, numbered};
 use std::alloc::Global;
-use std::fmt::Write;
 
-// Appends what is to be said of a set that no rule fills.
-fn push_empty(text: &mut String, name: &str, starts: bool) -> Result<(), NoMemory> {
-    write!(
-        text,
-        "set {name}: no rule gives it a member, so it is empty\n"
-    )?;
-    if starts {
-        write!(text, "set {name}: rules start from it, and never fire\n")?;
-    }
-    Ok(())
+// Appends a line on a set or a relation: what it is, its name, and what is said of it.
+fn push_remark(text: &mut Text, what: &str, name: &[u8], remark: &str) {
+    text.push(what);
+    text.name(name);
+    text.push(remark);
 }
 
+// Appends what is to be said of a set that no rule fills.
+fn push_empty(text: &mut Text, name: &[u8], starts: bool) {
+    push_remark(
+        text,
+        "set ",
+        name,
+        ": no rule gives it a member, so it is empty\n",
+    );
+    if starts {
+        push_remark(
+            text,
+            "set ",
+            name,
+            ": rules start from it, and never fire\n",
+        );
+    }
+}
+
+const UNUSED: &str = ": no constraint speaks of it, and no rule starts from it\n";
+
 // Appends what is to be said of a set.
-fn push_set(text: &mut String, spec: &Spec, number: u32, set: &SetDecl) -> Result<(), NoMemory> {
-    let name = text_of(set.name.bytes());
+fn push_set(text: &mut Text, spec: &Spec, number: u32, set: &SetDecl) {
+    let name = set.name.bytes();
     let (symbol, starts) = (Symbol::Set(number), is_premise(spec, number));
     if set.except.is_none() && !is_given(spec, symbol) {
-        push_empty(text, name, starts)?;
+        push_empty(text, name, starts);
     }
     if !starts && !is_constrained(spec, symbol) && !is_base_or_avoided(spec, number) {
-        write!(
-            text,
-            "set {name}: no constraint speaks of it, and no rule starts from it\n"
-        )?;
+        push_remark(text, "set ", name, UNUSED);
     }
-    Ok(())
 }
 
 // Appends what is to be said of the sets.
-fn push_sets(text: &mut String, spec: &Spec) -> Result<(), NoMemory> {
+fn push_sets(text: &mut Text, spec: &Spec) {
     for (number, set) in spec.base.sets.items().iter().enumerate() {
-        push_set(text, spec, numbered(number), set)?;
+        push_set(text, spec, numbered(number), set);
     }
-    Ok(())
 }
 
+const NO_PAIR: &str = ": no rule gives it a pair, so every bound on it holds\n";
+
 // Appends what is to be said of the relations.
-fn push_relations(text: &mut String, spec: &Spec) -> Result<(), NoMemory> {
+fn push_relations(text: &mut Text, spec: &Spec) {
     for (number, rel) in spec.base.rels.items().iter().enumerate() {
-        let (symbol, name) = (Symbol::Rel(numbered(number)), text_of(rel.name.bytes()));
+        let (symbol, name) = (Symbol::Rel(numbered(number)), rel.name.bytes());
         if !is_given(spec, symbol) {
-            write!(
-                text,
-                "relation {name}: no rule gives it a pair, so every bound on it holds\n"
-            )?;
+            push_remark(text, "relation ", name, NO_PAIR);
         }
         if !is_constrained(spec, symbol) {
-            write!(text, "relation {name}: no constraint speaks of it\n")?;
+            push_remark(text, "relation ", name, ": no constraint speaks of it\n");
         }
     }
-    Ok(())
 }
 
 /// What a specification says nothing about, a line each: sets, relations, fields, supplies, in
 /// order of declaration. It is empty where there is nothing to say.
 pub fn lint(alloc: Global, spec: &Spec) -> Result<String, NoMemory> {
-    let mut text = String::new(alloc);
-    push_sets(&mut text, spec)?;
-    push_relations(&mut text, spec)?;
-    push_fields(&mut text, spec)?;
-    push_supplies(&mut text, spec)?;
-    Ok(text)
+    let mut text = Text::new(alloc);
+    push_sets(&mut text, spec);
+    push_relations(&mut text, spec);
+    push_fields(&mut text, spec);
+    push_supplies(&mut text, spec);
+    text.whole()
 }

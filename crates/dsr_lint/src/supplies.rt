@@ -1,8 +1,7 @@
 // What is said of supplies of fresh records.
 use crate::uses::is_given;
-use dsr_ir::{NoMemory, Pool, Spec, Symbol};
-use dsr_wording::{numbered, text_of};
-use std::fmt::Write;
+use dsr_ir::{Pool, Spec, Symbol};
+use dsr_wording::{Text, numbered};
 
 // Whether each rule that gives a set gives the member of a premise that is avoided.
 fn comes_from(spec: &Spec, set: u32, avoided: &[u32]) -> bool {
@@ -19,12 +18,22 @@ fn comes_from(spec: &Spec, set: u32, avoided: &[u32]) -> bool {
     true
 }
 
+// Appends that a supply doesn't avoid a set.
+fn push_reset(text: &mut Text, pool: &[u8], set: &[u8]) {
+    text.push("fresh ");
+    text.name(pool);
+    text.push(": it doesn't avoid ");
+    text.name(set);
+    text.push(", so a member of it may be reset\n");
+}
+
+const TAKEN: &str = ": a record that nothing leads to is taken and reset, whatever it holds\n";
+
 // Appends which sets of a pool its supply doesn't avoid.
-fn push_pool(text: &mut String, spec: &Spec, number: u32, pool: &Pool) -> Result<(), NoMemory> {
+fn push_pool(text: &mut Text, spec: &Spec, number: u32, pool: &Pool) {
     let Some(avoided) = &pool.avoid else {
-        return Ok(());
+        return;
     };
-    let name = text_of(pool.name.bytes());
     for (place, set) in spec.base.sets.items().iter().enumerate() {
         let which = numbered(place);
         let is_other = set.pool != number || set.except.is_some();
@@ -32,24 +41,17 @@ fn push_pool(text: &mut String, spec: &Spec, number: u32, pool: &Pool) -> Result
             continue;
         }
         if !comes_from(spec, which, avoided.items()) {
-            let set = text_of(set.name.bytes());
-            write!(
-                text,
-                "fresh {name}: it doesn't avoid {set}, so a member of it may be reset\n"
-            )?;
+            push_reset(text, pool.name.bytes(), set.name.bytes());
         }
     }
-    write!(
-        text,
-        "fresh {name}: a record that nothing leads to is taken and reset, whatever it holds\n"
-    )?;
-    Ok(())
+    text.push("fresh ");
+    text.name(pool.name.bytes());
+    text.push(TAKEN);
 }
 
 /// Appends what is to be said of all supplies.
-pub fn push_supplies(text: &mut String, spec: &Spec) -> Result<(), NoMemory> {
+pub fn push_supplies(text: &mut Text, spec: &Spec) {
     for (number, pool) in spec.base.pools.items().iter().enumerate() {
-        push_pool(text, spec, numbered(number).saturating_add(1), pool)?;
+        push_pool(text, spec, numbered(number).saturating_add(1), pool);
     }
-    Ok(())
 }

@@ -8,119 +8,93 @@ use crate::listing::push_members;
 use crate::names::push_element;
 use crate::pairs::{push_given, push_sources, push_targets};
 use dsr_answers::symbol_name;
-use dsr_ir::{Atom, Binding, Bound, Literal, Measure, NoMemory, Rel, Symbol, Var};
+use dsr_ir::{Atom, Binding, Bound, Literal, Measure, Rel, Symbol, Var};
 use dsr_schema::element_of;
-use dsr_wording::{sign_of, text_of};
-use std::fmt::Write;
+use dsr_wording::{Text, sign_of};
 
 // Appends what a variable stands for.
-fn push_var(
-    text: &mut String,
-    image: &ImageModel<'_>,
-    binding: &Binding,
-    var: Var,
-) -> Result<(), NoMemory> {
-    match element_of(binding, var) {
-        Some(elem) => push_element(text, image.spec, elem),
-        None => Ok(()),
+fn push_var(text: &mut Text, image: &ImageModel<'_>, binding: &Binding, var: Var) {
+    if let Some(elem) = element_of(binding, var) {
+        push_element(text, image.spec, elem);
     }
+}
+
+// Appends the name of a relation.
+fn push_rel(text: &mut Text, image: &ImageModel<'_>, rel: u32) {
+    text.name(symbol_name(image.spec, Symbol::Rel(rel)));
 }
 
 // Appends a size.
-fn push_measure(
-    text: &mut String,
-    image: &ImageModel<'_>,
-    binding: &Binding,
-    measure: &Measure,
-) -> Result<(), NoMemory> {
-    text.push_str("size(")?;
+fn push_measure(text: &mut Text, image: &ImageModel<'_>, binding: &Binding, measure: &Measure) {
+    text.push("size(");
     match *measure {
-        Measure::Whole(set) => text.push_str(text_of(symbol_name(image.spec, Symbol::Set(set))))?,
+        Measure::Whole(set) => text.name(symbol_name(image.spec, Symbol::Set(set))),
         Measure::Out(var, rel) => {
-            push_var(text, image, binding, var)?;
-            let name = text_of(symbol_name(image.spec, Symbol::Rel(rel)));
-            write!(text, ".{name}")?;
+            push_var(text, image, binding, var);
+            text.push(".");
+            push_rel(text, image, rel);
         }
         Measure::Into(rel, var) => {
-            let name = text_of(symbol_name(image.spec, Symbol::Rel(rel)));
-            write!(text, "{name}.")?;
-            push_var(text, image, binding, var)?;
+            push_rel(text, image, rel);
+            text.push(".");
+            push_var(text, image, binding, var);
         }
     }
-    text.push(')')?;
-    Ok(())
+    text.push(")");
 }
 
 // Appends what a value is compared with.
-fn push_bound(
-    text: &mut String,
-    image: &ImageModel<'_>,
-    binding: &Binding,
-    bound: &Bound,
-) -> Result<(), NoMemory> {
+fn push_bound(text: &mut Text, image: &ImageModel<'_>, binding: &Binding, bound: &Bound) {
     match bound {
-        Bound::Num(number) => {
-            let number = *number;
-            write!(text, "{number}")?;
-            Ok(())
-        }
+        Bound::Num(number) => text.number(*number),
         Bound::Size(measure) => push_measure(text, image, binding, measure),
     }
 }
 
 // Appends an atom.
-fn push_atom(
-    text: &mut String,
-    image: &ImageModel<'_>,
-    binding: &Binding,
-    atom: &Atom,
-) -> Result<(), NoMemory> {
+fn push_atom(text: &mut Text, image: &ImageModel<'_>, binding: &Binding, atom: &Atom) {
     match atom {
         Atom::Member(var, set) => {
-            push_var(text, image, binding, *var)?;
-            let name = text_of(symbol_name(image.spec, Symbol::Set(*set)));
-            write!(text, " in {name}")?;
-            Ok(())
+            push_var(text, image, binding, *var);
+            text.push(" in ");
+            text.name(symbol_name(image.spec, Symbol::Set(*set)));
         }
         Atom::Pair(first, second, rel) => {
-            text.push('<')?;
-            push_var(text, image, binding, *first)?;
-            text.push_str(", ")?;
-            push_var(text, image, binding, *second)?;
-            let name = text_of(symbol_name(image.spec, Symbol::Rel(*rel)));
-            write!(text, "> in {name}")?;
-            Ok(())
+            text.push("<");
+            push_var(text, image, binding, *first);
+            text.push(", ");
+            push_var(text, image, binding, *second);
+            text.push("> in ");
+            push_rel(text, image, *rel);
         }
         Atom::Count(measure, op, number) => {
-            push_measure(text, image, binding, measure)?;
-            let (sign, number) = (sign_of(*op), *number);
-            write!(text, " {sign} {number}")?;
-            Ok(())
+            push_measure(text, image, binding, measure);
+            for piece in [" ", sign_of(*op), " "] {
+                text.push(piece);
+            }
+            text.number(*number);
         }
         Atom::Value(var, rel, op, bound) => {
-            push_var(text, image, binding, *var)?;
-            let name = text_of(symbol_name(image.spec, Symbol::Rel(*rel)));
-            let sign = sign_of(*op);
-            write!(text, ".{name} {sign} ")?;
-            push_bound(text, image, binding, bound)
+            push_var(text, image, binding, *var);
+            text.push(".");
+            push_rel(text, image, *rel);
+            for piece in [" ", sign_of(*op), " "] {
+                text.push(piece);
+            }
+            push_bound(text, image, binding, bound);
         }
     }
 }
 
 /// Appends a literal, with the records in place of its variables.
-pub fn push_literal(
-    text: &mut String,
-    image: &ImageModel<'_>,
-    binding: &Binding,
-    literal: &Literal,
-) -> Result<(), NoMemory> {
+pub fn push_literal(text: &mut Text, image: &ImageModel<'_>, binding: &Binding, literal: &Literal) {
     if literal.given {
-        text.push_str("given ")?;
+        text.push("given ");
     }
     if literal.negated {
-        text.push_str("not ")?;
+        text.push("not ");
     }
-    push_atom(text, image, binding, &literal.atom)
+    push_atom(text, image, binding, &literal.atom);
 }
 
 // The declaration of a relation.
@@ -151,119 +125,125 @@ fn size_of(image: &ImageModel<'_>, binding: &Binding, measure: &Measure) -> Opti
 }
 
 // Appends what is counted.
-fn push_counted(
-    text: &mut String,
-    image: &ImageModel<'_>,
-    binding: &Binding,
-    measure: &Measure,
-) -> Result<(), NoMemory> {
+fn push_counted(text: &mut Text, image: &ImageModel<'_>, binding: &Binding, measure: &Measure) {
     match *measure {
         Measure::Whole(set) => push_members(text, image, set),
         Measure::Out(var, rel) => {
             let Some(source) = element_of(binding, var) else {
-                return Ok(());
+                return;
             };
             if let Some(rel_declared) = declared(image, rel) {
-                let _listed = push_given(text, image, rel, rel_declared, source)?;
+                let _listed = push_given(text, image, rel, rel_declared, source);
             }
-            Ok(())
         }
         Measure::Into(rel, var) => {
             let Some(target) = element_of(binding, var) else {
-                return Ok(());
+                return;
             };
             if let Some(rel_declared) = declared(image, rel) {
-                let _listed = push_sources(text, image, rel, rel_declared.source, target)?;
+                let _listed = push_sources(text, image, rel, rel_declared.source, target);
             }
-            Ok(())
         }
     }
 }
 
-// Appends a size with its number, and what is counted.
+// Appends a size with its number, and what is counted, behind a lead.
 fn push_size_value(
-    text: &mut String,
+    text: &mut Text,
+    lead: &str,
     image: &ImageModel<'_>,
     binding: &Binding,
     measure: &Measure,
-) -> Result<(), NoMemory> {
+) {
     let Some(size) = size_of(image, binding, measure) else {
-        return Ok(());
+        return;
     };
-    push_measure(text, image, binding, measure)?;
-    write!(text, " is {size}")?;
+    text.push(lead);
+    push_measure(text, image, binding, measure);
+    text.push(" is ");
+    text.number(size);
     if size > 0 {
-        text.push_str(": ")?;
-        push_counted(text, image, binding, measure)?;
+        text.push(": ");
+        push_counted(text, image, binding, measure);
     }
-    Ok(())
 }
 
-// Appends the values that a relation gives to a variable.
+// Appends the values that a relation gives to a variable, behind a lead.
 fn push_value_of(
-    text: &mut String,
+    text: &mut Text,
+    lead: &str,
     image: &ImageModel<'_>,
     binding: &Binding,
     var: Var,
     rel: u32,
-) -> Result<(), NoMemory> {
+) {
     let Some(source) = element_of(binding, var) else {
-        return Ok(());
+        return;
     };
     let Some(rel_declared) = declared(image, rel) else {
-        return Ok(());
+        return;
     };
-    push_element(text, image.spec, source)?;
-    let name = text_of(symbol_name(image.spec, Symbol::Rel(rel)));
-    write!(text, ".{name} is ")?;
-    if push_given(text, image, rel, rel_declared, source)? == 0 {
-        text.push_str("nothing")?;
+    text.push(lead);
+    push_element(text, image.spec, source);
+    text.push(".");
+    push_rel(text, image, rel);
+    text.push(" is ");
+    if push_given(text, image, rel, rel_declared, source) == 0 {
+        text.push("nothing");
     }
-    Ok(())
 }
 
-// Appends the records to which a pair's relation leads.
+// Appends the records to which a pair's relation leads, behind a lead.
 fn push_pair_values(
-    text: &mut String,
+    text: &mut Text,
+    lead: &str,
     image: &ImageModel<'_>,
     binding: &Binding,
     var: Var,
     rel: u32,
-) -> Result<(), NoMemory> {
+) {
     let Some(source) = element_of(binding, var) else {
-        return Ok(());
+        return;
     };
     let Some(pool) = declared(image, rel).and_then(|rel| rel.target) else {
-        return Ok(());
+        return;
     };
-    let name = text_of(symbol_name(image.spec, Symbol::Rel(rel)));
-    write!(text, "{name} leads from ")?;
-    push_element(text, image.spec, source)?;
-    text.push_str(" to ")?;
-    if push_targets(text, image, rel, source, pool)? == 0 {
-        text.push_str("nothing")?;
+    text.push(lead);
+    push_rel(text, image, rel);
+    text.push(" leads from ");
+    push_element(text, image.spec, source);
+    text.push(" to ");
+    if push_targets(text, image, rel, source, pool) == 0 {
+        text.push("nothing");
     }
-    Ok(())
 }
 
-/// Appends the values on which the truth of a literal rests; nothing for a membership.
-pub fn push_values(
-    text: &mut String,
+/// Appends the values on which the truth of a literal rests, behind a lead; nothing at all where
+/// there are none.
+pub fn push_values_behind(
+    text: &mut Text,
+    lead: &str,
     image: &ImageModel<'_>,
     binding: &Binding,
     literal: &Literal,
-) -> Result<(), NoMemory> {
+) {
     match &literal.atom {
-        Atom::Member(_, _) => Ok(()),
-        Atom::Pair(first, _, rel) => push_pair_values(text, image, binding, *first, *rel),
-        Atom::Count(measure, _, _) => push_size_value(text, image, binding, measure),
-        Atom::Value(var, rel, _, bound) => {
-            push_value_of(text, image, binding, *var, *rel)?;
-            if let Bound::Size(measure) = bound {
-                text.push_str("; ")?;
-                push_size_value(text, image, binding, measure)?;
-            }
-            Ok(())
+        Atom::Member(_, _) => {}
+        Atom::Pair(first, _, rel) => push_pair_values(text, lead, image, binding, *first, *rel),
+        Atom::Count(measure, _, _) => push_size_value(text, lead, image, binding, measure),
+        Atom::Value(var, rel, _, Bound::Num(_)) => {
+            push_value_of(text, lead, image, binding, *var, *rel);
+        }
+        Atom::Value(var, rel, _, Bound::Size(measure)) => {
+            text.push(lead);
+            push_value_of(text, "", image, binding, *var, *rel);
+            text.push("; ");
+            push_size_value(text, "", image, binding, measure);
         }
     }
+}
+
+/// Appends the values on which the truth of a literal rests; nothing for a membership.
+pub fn push_values(text: &mut Text, image: &ImageModel<'_>, binding: &Binding, literal: &Literal) {
+    push_values_behind(text, "", image, binding, literal);
 }

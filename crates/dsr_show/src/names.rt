@@ -1,33 +1,29 @@
 // What things are called.
 use dsr_answers::pool_name;
-use dsr_ir::{Binding, Element, NoMemory, Spec};
-use dsr_wording::text_of;
-use std::fmt::Write;
+use dsr_ir::{Binding, Element, Spec};
+use dsr_wording::Text;
 
 /// Appends what a record is called.
-pub fn push_element(text: &mut String, spec: &Spec, elem: Element) -> Result<(), NoMemory> {
-    let pool = text_of(pool_name(spec, elem.pool));
-    let slot = elem.slot;
-    if elem.pool == 0 {
-        text.push_str(pool)?;
-    } else {
-        write!(text, "{pool}[{slot}]")?;
+pub fn push_element(text: &mut Text, spec: &Spec, elem: Element) {
+    text.name(pool_name(spec, elem.pool));
+    if elem.pool != 0 {
+        text.push("[");
+        text.number(u64::from(elem.slot));
+        text.push("]");
     }
-    Ok(())
 }
 
 /// Appends what a binding is called.
-pub fn push_binding(text: &mut String, spec: &Spec, binding: &Binding) -> Result<(), NoMemory> {
+pub fn push_binding(text: &mut Text, spec: &Spec, binding: &Binding) {
     match *binding {
-        Binding::Once => Ok(()),
+        Binding::Once => {}
         Binding::Each(elem) => push_element(text, spec, elem),
         Binding::Pair(first, second) => {
-            text.push('<')?;
-            push_element(text, spec, first)?;
-            text.push_str(", ")?;
-            push_element(text, spec, second)?;
-            text.push('>')?;
-            Ok(())
+            text.push("<");
+            push_element(text, spec, first);
+            text.push(", ");
+            push_element(text, spec, second);
+            text.push(">");
         }
     }
 }

@@ -3,66 +3,47 @@ use crate::facts::fact_after;
 use crate::images::ImageModel;
 use crate::names::push_element;
 use dsr_answers::constraint_name;
-use dsr_ir::{Binding, Element, Fact, NoMemory, Symbol, Target};
-use dsr_wording::{numbered, text_of};
-use std::fmt::Write;
+use dsr_ir::{Binding, Element, Fact, Symbol, Target};
+use dsr_wording::{Text, numbered};
 
 // How many facts of a symbol, and how many violations are drawn.
 const DRAWN: usize = 1000;
 
 // Appends a record, with what else is drawn of it.
-fn push_node(
-    text: &mut String,
-    image: &ImageModel<'_>,
-    elem: Element,
-    how: &str,
-) -> Result<(), NoMemory> {
-    text.push_str("  \"")?;
-    push_element(text, image.spec, elem)?;
-    write!(text, "\"{how};\n")?;
-    Ok(())
+fn push_node(text: &mut Text, image: &ImageModel<'_>, elem: Element, how: &str) {
+    text.push("  \"");
+    push_element(text, image.spec, elem);
+    for piece in ["\"", how, ";\n"] {
+        text.push(piece);
+    }
 }
 
-// Appends an edge between records.
-fn push_edge(
-    text: &mut String,
-    image: &ImageModel<'_>,
-    first: Element,
-    second: Element,
-    how: &str,
-) -> Result<(), NoMemory> {
-    text.push_str("  \"")?;
-    push_element(text, image.spec, first)?;
-    text.push_str("\" -> \"")?;
-    push_element(text, image.spec, second)?;
-    write!(text, "\" [{how}];\n")?;
-    Ok(())
+// Appends the beginning of an edge between records, up to its name.
+fn push_edge(text: &mut Text, image: &ImageModel<'_>, first: Element, second: Element) {
+    text.push("  \"");
+    push_element(text, image.spec, first);
+    text.push("\" -> \"");
+    push_element(text, image.spec, second);
+    text.push("\" [label=\"");
 }
 
 // Appends an edge to a record; numbers aren't drawn.
 fn push_pair(
-    text: &mut String,
+    text: &mut Text,
     image: &ImageModel<'_>,
     source: Element,
     target: Target,
-    name: &str,
-) -> Result<(), NoMemory> {
-    match target {
-        Target::Elem(target) => {
-            let how = format!(in *text.allocator(); "label=\"{name}\"")?;
-            push_edge(text, image, source, target, how.as_str())
-        }
-        Target::Num(_) => Ok(()),
+    name: &[u8],
+) {
+    if let Target::Elem(target) = target {
+        push_edge(text, image, source, target);
+        text.name(name);
+        text.push("\"];\n");
     }
 }
 
 // Appends a member or a pair.
-fn push_fact(
-    text: &mut String,
-    image: &ImageModel<'_>,
-    fact: Fact,
-    name: &str,
-) -> Result<(), NoMemory> {
+fn push_fact(text: &mut Text, image: &ImageModel<'_>, fact: Fact, name: &[u8]) {
     match fact {
         Fact::Member(_, elem) => push_node(text, image, elem, ""),
         Fact::Pair(_, source, target) => push_pair(text, image, source, target, name),
@@ -70,67 +51,53 @@ fn push_fact(
 }
 
 // Appends the facts of a symbol, the first ones where there are many.
-fn push_facts(
-    text: &mut String,
-    image: &ImageModel<'_>,
-    symbol: Symbol,
-    name: &str,
-) -> Result<(), NoMemory> {
+fn push_facts(text: &mut Text, image: &ImageModel<'_>, symbol: Symbol, name: &[u8]) {
     let mut last = None;
     for _turn in 0..DRAWN {
         let Some(fact) = fact_after(image, symbol, last) else {
-            return Ok(());
+            return;
         };
-        push_fact(text, image, fact, name)?;
+        push_fact(text, image, fact, name);
         last = Some(fact);
     }
-    Ok(())
 }
 
 // Appends a violation: its records, or its constraint where it has none.
-fn push_violated(
-    text: &mut String,
-    image: &ImageModel<'_>,
-    name: &str,
-    binding: &Binding,
-) -> Result<(), NoMemory> {
+fn push_violated(text: &mut Text, image: &ImageModel<'_>, name: &[u8], binding: &Binding) {
     match *binding {
         Binding::Once => {
-            write!(
-                text,
-                "  \"{name} is violated\" [shape=plaintext, fontcolor=red];\n"
-            )?;
-            Ok(())
+            text.push("  \"");
+            text.name(name);
+            text.push(" is violated\" [shape=plaintext, fontcolor=red];\n");
         }
         Binding::Each(elem) => push_node(text, image, elem, " [color=red, fontcolor=red]"),
         Binding::Pair(first, second) => {
-            let how = format!(in *text.allocator(); "label=\"{name}\", color=red, fontcolor=red")?;
-            push_edge(text, image, first, second, how.as_str())
+            push_edge(text, image, first, second);
+            text.name(name);
+            text.push("\", color=red, fontcolor=red];\n");
         }
     }
 }
 
 /// Appends the records that sets have, the pairs of relations between records, and in red what is
 /// violated, for Graphviz; the first ones where there are many.
-pub fn push_picture(
-    text: &mut String,
-    image: &ImageModel<'_>,
-    violated: &[(u32, Binding)],
-) -> Result<(), NoMemory> {
-    text.push_str("digraph image {\n  \"head\";\n")?;
+pub fn push_picture(text: &mut Text, image: &ImageModel<'_>, violated: &[(u32, Binding)]) {
+    text.push("digraph image {\n  \"head\";\n");
     for (number, set) in image.spec.base.sets.items().iter().enumerate() {
         if set.except.is_none() {
-            push_facts(text, image, Symbol::Set(numbered(number)), "")?;
+            push_facts(text, image, Symbol::Set(numbered(number)), b"");
         }
     }
     for (number, rel) in image.spec.base.rels.items().iter().enumerate() {
-        let name = text_of(rel.name.bytes());
-        push_facts(text, image, Symbol::Rel(numbered(number)), name)?;
+        push_facts(text, image, Symbol::Rel(numbered(number)), rel.name.bytes());
     }
     for (constraint, binding) in violated.iter().take(DRAWN) {
-        let name = text_of(constraint_name(image.spec, *constraint));
-        push_violated(text, image, name, binding)?;
+        push_violated(
+            text,
+            image,
+            constraint_name(image.spec, *constraint),
+            binding,
+        );
     }
-    text.push_str("}\n")?;
-    Ok(())
+    text.push("}\n");
 }

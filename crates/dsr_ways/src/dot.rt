@@ -3,9 +3,8 @@ ghost use Rattle.dsr_meaning.specs.Typed.{IsTyped};
 
 use dsr_graph::{Graph, Position, breaks, graph, relies, ways};
 use dsr_ir::{Constraint, NoMemory, Spec};
-use dsr_wording::{numbered, text_of};
+use dsr_wording::{Text, numbered};
 use std::alloc::Global;
-use std::fmt::Write;
 
 // Whether some template of a literal breaks another constraint.
 fn literal_breaks(graph: &Graph, at: Position, other: u32) -> bool {
@@ -43,31 +42,29 @@ fn may_break(graph: &Graph, number: u32, constraint: &Constraint, other: u32) ->
     false
 }
 
+// Appends an edge from a constraint to another one.
+fn push_edge(text: &mut Text, from: &Constraint, to: &Constraint, attributes: &str) {
+    text.push("  \"");
+    text.name(from.name.bytes());
+    text.push("\" -> \"");
+    text.name(to.name.bytes());
+    text.push(attributes);
+}
+
+const MAY_BREAK: &str = "\" [label=\"may break\"];\n";
+
+const RELIES_ON: &str = "\" [label=\"relies on\", style=dashed];\n";
+
 // Appends the edges from a constraint.
-fn push_edges(
-    text: &mut String,
-    spec: &Spec,
-    graph: &Graph,
-    number: u32,
-    constraint: &Constraint,
-) -> Result<(), NoMemory> {
-    let name = text_of(constraint.name.bytes());
+fn push_edges(text: &mut Text, spec: &Spec, graph: &Graph, number: u32, constraint: &Constraint) {
     for (other, its) in spec.constraints.items().iter().enumerate() {
-        let other_name = text_of(its.name.bytes());
         if may_break(graph, number, constraint, numbered(other)) {
-            write!(
-                text,
-                "  \"{name}\" -> \"{other_name}\" [label=\"may break\"];\n"
-            )?;
+            push_edge(text, constraint, its, MAY_BREAK);
         }
         if relies(graph, number, numbered(other)) {
-            write!(
-                text,
-                "  \"{name}\" -> \"{other_name}\" [label=\"relies on\", style=dashed];\n"
-            )?;
+            push_edge(text, constraint, its, RELIES_ON);
         }
     }
-    Ok(())
 }
 
 /// The dependence graph of a specification for Graphviz: an edge from each constraint to those that
@@ -76,12 +73,14 @@ pub fn dependence_graph(alloc: Global, spec: &Spec) -> Result<String, NoMemory>
     requires { IsTyped spec.now }
 {
     let graph = graph(alloc, spec)?;
-    let mut text = String::from_str(alloc, "digraph repairs {\n")?;
+    let mut text = Text::new(alloc);
+    text.push("digraph repairs {\n");
     for (number, constraint) in spec.constraints.items().iter().enumerate() {
-        let name = text_of(constraint.name.bytes());
-        write!(text, "  \"{name}\" [shape=box];\n")?;
-        push_edges(&mut text, spec, &graph, numbered(number), constraint)?;
+        text.push("  \"");
+        text.name(constraint.name.bytes());
+        text.push("\" [shape=box];\n");
+        push_edges(&mut text, spec, &graph, numbered(number), constraint);
     }
-    text.push_str("}\n")?;
-    Ok(text)
+    text.push("}\n");
+    text.whole()
 }

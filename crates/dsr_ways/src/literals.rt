@@ -1,9 +1,8 @@
 // Literals in the words of the specification.
 use dsr_answers::symbol_name;
-use dsr_ir::{Atom, Bound, Literal, Measure, NoMemory, Spec, Symbol, Var};
+use dsr_ir::{Atom, Bound, Literal, Measure, Op, Spec, Symbol, Var};
 use dsr_tree::{Binder, Tree};
-use dsr_wording::{sign_of, text_of};
-use std::fmt::Write;
+use dsr_wording::{Text, sign_of, text_of};
 
 /// The names of a constraint's variables.
 #[derive(Clone, Copy)]
@@ -49,99 +48,83 @@ pub fn var_name<'a>(variables: &Variables<'a>, var: Var) -> &'a str {
     }
 }
 
-fn set_name(spec: &Spec, set: u32) -> &str {
-    text_of(symbol_name(spec, Symbol::Set(set)))
+fn push_set(text: &mut Text, spec: &Spec, set: u32) {
+    text.name(symbol_name(spec, Symbol::Set(set)));
 }
 
-fn relation_name(spec: &Spec, rel: u32) -> &str {
-    text_of(symbol_name(spec, Symbol::Rel(rel)))
+fn push_relation(text: &mut Text, spec: &Spec, rel: u32) {
+    text.name(symbol_name(spec, Symbol::Rel(rel)));
 }
 
 /// Appends a size.
-pub fn push_measure(
-    text: &mut String,
-    spec: &Spec,
-    variables: &Variables<'_>,
-    measure: &Measure,
-) -> Result<(), NoMemory> {
+pub fn push_measure(text: &mut Text, spec: &Spec, variables: &Variables<'_>, measure: &Measure) {
+    text.push("size(");
     match *measure {
-        Measure::Whole(set) => {
-            let set = set_name(spec, set);
-            write!(text, "size({set})")?;
-        }
+        Measure::Whole(set) => push_set(text, spec, set),
         Measure::Out(var, rel) => {
-            let (var, rel) = (var_name(variables, var), relation_name(spec, rel));
-            write!(text, "size({var}.{rel})")?;
+            text.push(var_name(variables, var));
+            text.push(".");
+            push_relation(text, spec, rel);
         }
         Measure::Into(rel, var) => {
-            let (var, rel) = (var_name(variables, var), relation_name(spec, rel));
-            write!(text, "size({rel}.{var})")?;
+            push_relation(text, spec, rel);
+            text.push(".");
+            text.push(var_name(variables, var));
         }
     }
-    Ok(())
+    text.push(")");
 }
 
-fn push_value(
-    text: &mut String,
-    spec: &Spec,
-    variables: &Variables<'_>,
-    bound: &Bound,
-) -> Result<(), NoMemory> {
+fn push_value(text: &mut Text, spec: &Spec, variables: &Variables<'_>, bound: &Bound) {
     match bound {
-        Bound::Num(number) => {
-            let number = *number;
-            write!(text, "{number}")?;
-            Ok(())
-        }
+        Bound::Num(number) => text.number(*number),
         Bound::Size(measure) => push_measure(text, spec, variables, measure),
     }
 }
 
-fn push_atom(
-    text: &mut String,
-    spec: &Spec,
-    variables: &Variables<'_>,
-    atom: &Atom,
-) -> Result<(), NoMemory> {
+// Appends a sign of comparison, between spaces.
+fn push_sign(text: &mut Text, op: Op) {
+    for piece in [" ", sign_of(op), " "] {
+        text.push(piece);
+    }
+}
+
+fn push_atom(text: &mut Text, spec: &Spec, variables: &Variables<'_>, atom: &Atom) {
     match atom {
         Atom::Member(var, set) => {
-            let (var, set) = (var_name(variables, *var), set_name(spec, *set));
-            write!(text, "{var} in {set}")?;
-            Ok(())
+            text.push(var_name(variables, *var));
+            text.push(" in ");
+            push_set(text, spec, *set);
         }
         Atom::Pair(first, second, rel) => {
             let (first, second) = (var_name(variables, *first), var_name(variables, *second));
-            let rel = relation_name(spec, *rel);
-            write!(text, "<{first}, {second}> in {rel}")?;
-            Ok(())
+            for piece in ["<", first, ", ", second, "> in "] {
+                text.push(piece);
+            }
+            push_relation(text, spec, *rel);
         }
         Atom::Count(measure, op, number) => {
-            push_measure(text, spec, variables, measure)?;
-            let (sign, number) = (sign_of(*op), *number);
-            write!(text, " {sign} {number}")?;
-            Ok(())
+            push_measure(text, spec, variables, measure);
+            push_sign(text, *op);
+            text.number(*number);
         }
         Atom::Value(var, rel, op, bound) => {
-            let (var, rel) = (var_name(variables, *var), relation_name(spec, *rel));
-            let sign = sign_of(*op);
-            write!(text, "{var}.{rel} {sign} ")?;
-            push_value(text, spec, variables, bound)
+            text.push(var_name(variables, *var));
+            text.push(".");
+            push_relation(text, spec, *rel);
+            push_sign(text, *op);
+            push_value(text, spec, variables, bound);
         }
     }
 }
 
 /// Appends a literal.
-pub fn push_literal(
-    text: &mut String,
-    spec: &Spec,
-    variables: &Variables<'_>,
-    literal: &Literal,
-) -> Result<(), NoMemory> {
+pub fn push_literal(text: &mut Text, spec: &Spec, variables: &Variables<'_>, literal: &Literal) {
     if literal.given {
-        text.push_str("given ")?;
+        text.push("given ");
     }
     if literal.negated {
-        text.push_str("not ")?;
+        text.push("not ");
     }
-    push_atom(text, spec, variables, &literal.atom)
+    push_atom(text, spec, variables, &literal.atom);
 }

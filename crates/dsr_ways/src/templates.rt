@@ -1,9 +1,8 @@
 // Templates in words: what is written where.
 use crate::literals::{Variables, push_measure, var_name};
 use dsr_answers::{field_name, pool_name};
-use dsr_ir::{At, Goal, NoMemory, Pick, Place, Spec, Template, Update, Write as Writing};
-use dsr_wording::text_of;
-use std::fmt::Write;
+use dsr_ir::{At, Goal, Pick, Place, Spec, Template, Update, Write};
+use dsr_wording::Text;
 
 // What a template is for.
 fn purpose(goal: Goal) -> &'static str {
@@ -38,73 +37,52 @@ fn entry_name(at: At) -> &'static str {
 }
 
 // Appends the value that is written.
-fn push_pick(
-    text: &mut String,
-    spec: &Spec,
-    variables: &Variables<'_>,
-    pick: &Pick,
-) -> Result<(), NoMemory> {
+fn push_pick(text: &mut Text, spec: &Spec, variables: &Variables<'_>, pick: &Pick) {
     match pick {
-        Pick::Num(number) => {
-            let number = *number;
-            write!(text, "{number}")?;
-        }
-        Pick::NoneCode => text.push_str("none")?,
-        Pick::CodeOf(var) => {
-            let var = var_name(variables, *var);
-            write!(text, "{var}")?;
-        }
-        Pick::Fresh => text.push_str("the fresh record")?,
-        Pick::SizeOf(measure) => return push_measure(text, spec, variables, measure),
+        Pick::Num(number) => text.number(*number),
+        Pick::NoneCode => text.push("none"),
+        Pick::CodeOf(var) => text.push(var_name(variables, *var)),
+        Pick::Fresh => text.push("the fresh record"),
+        Pick::SizeOf(measure) => push_measure(text, spec, variables, measure),
     }
-    Ok(())
 }
 
 // Appends a write.
 fn push_write(
-    text: &mut String,
+    text: &mut Text,
     spec: &Spec,
     variables: &Variables<'_>,
     update: &Update,
-    writing: &Writing,
-) -> Result<(), NoMemory> {
-    let record = place_name(variables, update.place);
-    let number = writing.path.field;
-    let field = text_of(field_name(spec, number.structure, number.field));
-    let entry = entry_name(update.at);
-    write!(text, "; {record}.{field}{entry} := ")?;
-    push_pick(text, spec, variables, &writing.pick)
+    write: &Write,
+) {
+    let number = write.path.field;
+    text.push("; ");
+    text.push(place_name(variables, update.place));
+    text.push(".");
+    text.name(field_name(spec, number.structure, number.field));
+    text.push(entry_name(update.at));
+    text.push(" := ");
+    push_pick(text, spec, variables, &write.pick);
 }
 
 // Appends an update.
-fn push_update(
-    text: &mut String,
-    spec: &Spec,
-    variables: &Variables<'_>,
-    update: &Update,
-) -> Result<(), NoMemory> {
-    let rule = update.rule.saturating_add(1);
-    write!(text, "; by rule {rule}")?;
+fn push_update(text: &mut Text, spec: &Spec, variables: &Variables<'_>, update: &Update) {
+    text.push("; by rule ");
+    text.number(u64::from(update.rule.saturating_add(1)));
     if let Some(pool) = update.fresh {
-        let pool = text_of(pool_name(spec, pool));
-        write!(text, "; a fresh record of {pool} is reset")?;
+        text.push("; a fresh record of ");
+        text.name(pool_name(spec, pool));
+        text.push(" is reset");
     }
-    for writing in update.writes.items() {
-        push_write(text, spec, variables, update, writing)?;
+    for write in update.writes.items() {
+        push_write(text, spec, variables, update, write);
     }
-    Ok(())
 }
 
 /// Appends what a template writes.
-pub fn push_template(
-    text: &mut String,
-    spec: &Spec,
-    variables: &Variables<'_>,
-    template: &Template,
-) -> Result<(), NoMemory> {
-    text.push_str(purpose(template.goal))?;
+pub fn push_template(text: &mut Text, spec: &Spec, variables: &Variables<'_>, template: &Template) {
+    text.push(purpose(template.goal));
     for update in template.updates.items() {
-        push_update(text, spec, variables, update)?;
+        push_update(text, spec, variables, update);
     }
-    Ok(())
 }

@@ -9,9 +9,8 @@ use dsr_graph::{Graph, Position, breaks, falsifies, graph, ways};
 use dsr_ir::{Conj, Constraint, Literal, NoMemory, Spec};
 use dsr_plan_theory::{Row, Way};
 use dsr_tree::Tree;
-use dsr_wording::{numbered, text_of};
+use dsr_wording::{Text, numbered};
 use std::alloc::Global;
-use std::fmt::Write;
 
 // A specification with what is known of its repairs.
 #[derive(Drop)]
@@ -40,149 +39,129 @@ fn taken(repairs: &Repairs<'_>, at: Position) -> Option<u32> {
     }
 }
 
-// Appends the names of the constraints that a template breaks.
-fn push_names(
-    names: &mut String,
-    repairs: &Repairs<'_>,
-    at: Position,
-    way: u32,
-) -> Result<(), NoMemory> {
+// Appends the names of the constraints that a template breaks, in a line, where there are any.
+fn push_broken_names(text: &mut Text, repairs: &Repairs<'_>, at: Position, way: u32) {
+    let mut is_first = true;
     for (other, constraint) in repairs.spec.constraints.items().iter().enumerate() {
         if breaks(repairs.graph, at, way, numbered(other)).is_none() {
             continue;
         }
-        if !names.is_empty() {
-            names.push_str(", ")?;
-        }
-        names.push_str(text_of(constraint.name.bytes()))?;
+        text.push(if is_first { "      may break " } else { ", " });
+        text.name(constraint.name.bytes());
+        is_first = false;
     }
-    Ok(())
+    if !is_first {
+        text.push("\n");
+    }
 }
 
-// Appends what a template breaks.
-fn push_broken(
-    text: &mut String,
-    repairs: &Repairs<'_>,
-    at: Position,
-    way: u32,
-) -> Result<(), NoMemory> {
-    let mut names = String::new(*text.allocator());
-    push_names(&mut names, repairs, at, way)?;
-    if !names.is_empty() {
-        write!(text, "      may break {names}\n")?;
-    }
+// Appends what a template breaks, and whether it spoils its own conjunction.
+fn push_broken(text: &mut Text, repairs: &Repairs<'_>, at: Position, way: u32) {
+    push_broken_names(text, repairs, at, way);
     if falsifies(repairs.graph, at, way).is_some() {
-        text.push_str("      may make another literal of its conjunction false: not taken\n")?;
+        text.push("      may make another literal of its conjunction false: not taken\n");
     }
-    Ok(())
 }
 
 // Appends the templates that are listed for a literal.
 fn push_listed(
-    text: &mut String,
+    text: &mut Text,
     repairs: &Repairs<'_>,
     variables: &Variables<'_>,
     at: Position,
     taken: Option<u32>,
-) -> Result<(), NoMemory> {
+) {
     for (way, template) in ways(repairs.graph, at).iter().enumerate() {
         let way = numbered(way);
         let told = way.saturating_add(1);
-        let mark = if taken == Some(told) {
-            "taken"
+        text.push("    way ");
+        text.number(u64::from(told));
+        text.push(if taken == Some(told) {
+            " (taken): "
         } else {
-            "listed"
-        };
-        write!(text, "    way {told} ({mark}): ")?;
-        push_template(text, repairs.spec, variables, template)?;
-        text.push('\n')?;
-        push_broken(text, repairs, at, way)?;
+            " (listed): "
+        });
+        push_template(text, repairs.spec, variables, template);
+        text.push("\n");
+        push_broken(text, repairs, at, way);
     }
-    Ok(())
 }
 
 // Appends what is done for a literal.
-fn push_ways(
-    text: &mut String,
-    repairs: &Repairs<'_>,
-    variables: &Variables<'_>,
-    at: Position,
-) -> Result<(), NoMemory> {
+fn push_ways(text: &mut Text, repairs: &Repairs<'_>, variables: &Variables<'_>, at: Position) {
     let taken = taken(repairs, at);
-    push_listed(text, repairs, variables, at, taken)?;
+    push_listed(text, repairs, variables, at, taken);
     if taken == Some(0) {
-        text.push_str("    only tested\n")?;
+        text.push("    only tested\n");
     }
     if ways(repairs.graph, at).is_empty() {
-        text.push_str("    nothing is tried\n")?;
+        text.push("    nothing is tried\n");
     }
-    Ok(())
 }
 
 // Appends a literal with its ways.
 fn push_literal_ways(
-    text: &mut String,
+    text: &mut Text,
     repairs: &Repairs<'_>,
     variables: &Variables<'_>,
     at: Position,
     literal: &Literal,
-) -> Result<(), NoMemory> {
-    let (conj, number) = (at.conj.saturating_add(1), at.literal.saturating_add(1));
-    write!(text, "  {conj}.{number} ")?;
-    push_literal(text, repairs.spec, variables, literal)?;
-    text.push('\n')?;
-    push_ways(text, repairs, variables, at)
+) {
+    text.push("  ");
+    text.number(u64::from(at.conj.saturating_add(1)));
+    text.push(".");
+    text.number(u64::from(at.literal.saturating_add(1)));
+    text.push(" ");
+    push_literal(text, repairs.spec, variables, literal);
+    text.push("\n");
+    push_ways(text, repairs, variables, at);
 }
 
 // Appends the literals of a conjunction.
 fn push_conj(
-    text: &mut String,
+    text: &mut Text,
     repairs: &Repairs<'_>,
     variables: &Variables<'_>,
     constraint: u32,
     number: u32,
     conj: &Conj,
-) -> Result<(), NoMemory> {
+) {
     for (place, literal) in conj.literals.items().iter().enumerate() {
         let at = Position {
             constraint,
             conj: number,
             literal: numbered(place),
         };
-        push_literal_ways(text, repairs, variables, at, literal)?;
+        push_literal_ways(text, repairs, variables, at, literal);
     }
-    Ok(())
 }
 
 // Appends a constraint's name and level.
-fn push_heading(text: &mut String, repairs: &Repairs<'_>, number: u32) -> Result<(), NoMemory> {
-    let name = text_of(constraint_name(repairs.spec, number));
+fn push_heading(text: &mut Text, repairs: &Repairs<'_>, number: u32) {
+    text.push("constraint ");
+    text.name(constraint_name(repairs.spec, number));
     match row_of(repairs, number) {
         Some(row) => {
-            let level = row.level;
-            write!(text, "constraint {name}: level {level}\n")?;
+            text.push(": level ");
+            text.number(u64::from(row.level));
+            text.push("\n");
         }
-        None => write!(
-            text,
-            "constraint {name}: no level, since there is no plan\n"
-        )?,
+        None => text.push(": no level, since there is no plan\n"),
     }
-    Ok(())
 }
 
 // Appends a constraint with its literals.
 fn push_constraint(
-    text: &mut String,
+    text: &mut Text,
     repairs: &Repairs<'_>,
     variables: &Variables<'_>,
     number: u32,
     constraint: &Constraint,
-) -> Result<(), NoMemory> {
-    push_heading(text, repairs, number)?;
+) {
+    push_heading(text, repairs, number);
     for (conj, literals) in constraint.conjs.items().iter().enumerate() {
-        push_conj(text, repairs, variables, number, numbered(conj), literals)?;
+        push_conj(text, repairs, variables, number, numbered(conj), literals);
     }
-    Ok(())
 }
 
 /// How each constraint would be repaired: its level, its literals, and what would be written for
@@ -197,11 +176,11 @@ pub fn ways_told(alloc: Global, spec: &Spec, tree: &Tree) -> Result<String, NoMe
         graph: &graph,
         found: &found,
     };
-    let mut text = String::new(alloc);
+    let mut text = Text::new(alloc);
     for (number, constraint) in spec.constraints.items().iter().enumerate() {
         let number = numbered(number);
         let variables = variables_of(tree, number);
-        push_constraint(&mut text, &repairs, &variables, number, constraint)?;
+        push_constraint(&mut text, &repairs, &variables, number, constraint);
     }
-    Ok(text)
+    text.whole()
 }

@@ -1,11 +1,13 @@
-//! Small pieces of texts for people: names, numbers, signs.
+//! Texts for people, and small pieces of them: names, numbers, signs.
 #![tactic(auto)]
+
+mod text;
 
 ghost use Rattle.std.specs.Prelude.{◌≡◌, ◌-◌, ◌^◌, min};
 ghost use Rattle.dsr_wording.specs.Signs.{sign_text};
 
-use dsr_ir::{NoMemory, Op};
-use itoa::Buffer;
+use dsr_ir::Op;
+pub use text::Text;
 
 /// The bytes of a name as a text.
 pub fn text_of(bytes: &[u8]) -> &str {
@@ -31,18 +33,4 @@ pub fn sign_of(op: Op) -> &'static str
         Op::Gt => ">",
         Op::Ge => ">=",
     }
-}
-
-/// Appends a number with commas between its thousands.
-pub fn push_grouped(text: &mut String, number: u64) -> Result<(), NoMemory> {
-    let mut buffer = Buffer::new();
-    let digits = buffer.format(number);
-    let len = digits.len();
-    for (place, digit) in digits.bytes().enumerate() {
-        if place > 0 && len.saturating_sub(place) % 3 == 0 {
-            text.push(',')?;
-        }
-        text.push(char::from(digit))?;
-    }
-    Ok(())
 }

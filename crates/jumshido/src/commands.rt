@@ -52,7 +52,7 @@ fn program<'a>(alloc: Global) -> Result<Command<'a>, AllocError> {
 /// The whole command line. Words of any lifetime can be read by it.
 pub fn command_line<'a>(alloc: Global) -> Result<Command<'a>, AllocError> {
     let mut program = program(alloc)?;
-    for entry in &COMMANDS {
+    for entry in COMMANDS {
         program = program.subcommand(command_of(alloc, *entry)?)?;
     }
     Ok(program)

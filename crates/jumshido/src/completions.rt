@@ -1,6 +1,7 @@
 // What shells are to read to complete the words of this program.
 use crate::table::COMMANDS;
 use dsr_ir::NoMemory;
+use dsr_wording::Text;
 use std::alloc::Global;
 
 const BASH: &str = "\
@@ -63,69 +64,63 @@ complete -c jumshido -s V -l version -d 'Print version'
 const HELP: &str = "Print the help of a command";
 
 // Appends the names of all commands.
-fn push_names(text: &mut String) -> Result<(), NoMemory> {
-    for entry in &COMMANDS {
-        text.push_str(entry.name)?;
-        text.push(' ')?;
+fn push_names(text: &mut Text) {
+    for entry in COMMANDS {
+        text.push(entry.name);
+        text.push(" ");
     }
-    text.push_str("help")?;
-    Ok(())
+    text.push("help");
 }
 
-fn bash(text: &mut String) -> Result<(), NoMemory> {
-    text.push_str(BASH)?;
-    push_names(text)?;
-    text.push_str(BASH_END)?;
-    Ok(())
+fn bash(text: &mut Text) {
+    text.push(BASH);
+    push_names(text);
+    text.push(BASH_END);
 }
 
 // Appends a command as zsh describes it.
-fn push_zsh(text: &mut String, name: &str, about: &str) -> Result<(), NoMemory> {
+fn push_zsh(text: &mut Text, name: &str, about: &str) {
     for piece in ["        '", name, ":", about, "'\n"] {
-        text.push_str(piece)?;
+        text.push(piece);
     }
-    Ok(())
 }
 
-fn zsh(text: &mut String) -> Result<(), NoMemory> {
-    text.push_str(ZSH)?;
-    for entry in &COMMANDS {
-        push_zsh(text, entry.name, entry.about)?;
+fn zsh(text: &mut Text) {
+    text.push(ZSH);
+    for entry in COMMANDS {
+        push_zsh(text, entry.name, entry.about);
     }
-    push_zsh(text, "help", HELP)?;
-    text.push_str(ZSH_END)?;
-    Ok(())
+    push_zsh(text, "help", HELP);
+    text.push(ZSH_END);
 }
 
 // Appends a command as fish describes it.
-fn push_fish(text: &mut String, name: &str, about: &str) -> Result<(), NoMemory> {
+fn push_fish(text: &mut Text, name: &str, about: &str) {
     let asked = "complete -c jumshido -n __jumshido_wants_command -f -a ";
     for piece in [asked, name, " -d '", about, "'\n"] {
-        text.push_str(piece)?;
+        text.push(piece);
     }
-    Ok(())
 }
 
-fn fish(text: &mut String) -> Result<(), NoMemory> {
-    text.push_str(FISH)?;
-    push_names(text)?;
-    text.push_str("\nend\n")?;
-    for entry in &COMMANDS {
-        push_fish(text, entry.name, entry.about)?;
+fn fish(text: &mut Text) {
+    text.push(FISH);
+    push_names(text);
+    text.push("\nend\n");
+    for entry in COMMANDS {
+        push_fish(text, entry.name, entry.about);
     }
-    push_fish(text, "help", HELP)?;
-    text.push_str(FISH_END)?;
-    Ok(())
+    push_fish(text, "help", HELP);
+    text.push(FISH_END);
 }
 
 /// What a shell is to read; nothing where it is another one.
 pub fn completions_of(alloc: Global, shell: &str) -> Result<String, NoMemory> {
-    let mut text = String::new(alloc);
+    let mut text = Text::new(alloc);
     match shell {
-        "bash" => bash(&mut text)?,
-        "zsh" => zsh(&mut text)?,
-        "fish" => fish(&mut text)?,
+        "bash" => bash(&mut text),
+        "zsh" => zsh(&mut text),
+        "fish" => fish(&mut text),
         _ => {}
     }
-    Ok(text)
+    text.whole()
 }

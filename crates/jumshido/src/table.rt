@@ -151,7 +151,7 @@ const SHELL: Argument = Argument {
 };
 
 /// The commands: those of `dsr`, and then those that are of this program alone.
-pub const COMMANDS: [Entry; 18] = [
+pub const COMMANDS: &[Entry] = &[
     Entry {
         name: "check",
         about: "Tell whether images are consistent, and each violated constraint with its values",

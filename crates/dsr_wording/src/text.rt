@@ -1,0 +1,79 @@
+// A text that keeps that it couldn't grow.
+use crate::text_of;
+use dsr_ir::NoMemory;
+use itoa::Buffer;
+use std::alloc::Global;
+
+/// A text that grows by pieces. Where memory runs out, what is added from then on is left out, and
+/// that is told in the end: so what writes a text has nothing to pass on.
+#[derive(Drop)]
+pub struct Text {
+    text: String,
+    is_cut: bool,
+}
+
+impl Text {
+    /// No text.
+    pub fn new(alloc: Global) -> Text {
+        Text {
+            text: String::new(alloc),
+            is_cut: false,
+        }
+    }
+
+    /// Appends a piece as it is.
+    pub fn push(&mut self, piece: &str) {
+        if self.text.push_str(piece).is_err() {
+            self.is_cut = true;
+        }
+    }
+
+    /// Appends the bytes of a name.
+    pub fn name(&mut self, name: &[u8]) {
+        self.push(text_of(name));
+    }
+
+    /// Appends a number in decimal.
+    pub fn number(&mut self, number: u64) {
+        let mut buffer = Buffer::new();
+        self.push(buffer.format(number));
+    }
+
+    /// Appends a number with commas between its thousands.
+    pub fn grouped(&mut self, number: u64) {
+        let mut buffer = Buffer::new();
+        let digits = buffer.format(number);
+        let len = digits.len();
+        for (place, digit) in digits.bytes().enumerate() {
+            if place > 0 && len.saturating_sub(place) % 3 == 0 {
+                self.push(",");
+            }
+            self.push_letter(char::from(digit));
+        }
+    }
+
+    /// Appends a letter.
+    pub fn push_letter(&mut self, letter: char) {
+        if self.text.push(letter).is_err() {
+            self.is_cut = true;
+        }
+    }
+
+    /// Whether nothing was written.
+    pub fn is_empty(&self) -> bool {
+        self.text.is_empty()
+    }
+
+    /// The allocator of the text.
+    pub fn allocator(&self) -> Global {
+        *self.text.allocator()
+    }
+
+    /// All of the text, or that memory ran out.
+    pub fn whole(self) -> Result<String, NoMemory> {
+        if self.is_cut {
+            return Err(NoMemory);
+        }
+        Ok(self.text)
+    }
+}

@@ -4,9 +4,9 @@ ghost use Rattle.dsr_edit_text.specs.Lenient as lenient;
 ghost use Rattle.dsr_edit_text.specs.Scripts as said;
 ghost use Rattle.dsr_edit_text.specs.Shown.{shown};
 
-use crate::names::word_len;
 use dsr_answers::{push, push_number};
 use dsr_ir::NoMemory;
+use dsr_lexer::word_len;
 use dsr_report_read::{number_ahead, skip};
 use std::alloc::Global;
 

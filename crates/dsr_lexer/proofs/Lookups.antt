@@ -10,11 +10,11 @@ use Rattle.dsr_tree.specs.declared.tokens.Keyword.TheVariants as keyword
 use Rattle.dsr_tree.specs.declared.tokens.Sign.{Sign}
 use Rattle.dsr_tree.specs.declared.tokens.Sign.TheVariants as sign
 use Rattle.dsr_syntax_theory.specs.Tokens.{keyword_spelling, sign_spelling, is_keyword}
-use Rattle.dsr_lexer.specs.Spelled.{keyword_among, sign_among, BeginsWithSign, FindsSign}
-use Rattle.dsr_lexer.specs.declared.spellings.TheConstants.{KEYWORDS, LONG_SIGNS, SHORT_SIGNS}
+use Rattle.dsr_lexer.specs.Spelled.{candidates, keyword_among, sign_among, BeginsWithSign, FindsSign}
+use Rattle.dsr_lexer.specs.declared.spellings.TheConstants.{LONG_SIGNS, SHORT_SIGNS}
 
 -- a keyword is found by its own spelling
-pub finds_each_keyword : (k : Keyword) → keyword_among KEYWORDS (keyword_spelling k) ≡ Some k
+pub finds_each_keyword : (k : Keyword) → keyword_among (candidates (keyword_spelling k)) (keyword_spelling k) ≡ Some k
 finds_each_keyword keyword.Version = refl
 finds_each_keyword keyword.Order = refl
 finds_each_keyword keyword.Little = refl
@@ -58,6 +58,10 @@ finds_each_keyword keyword.Not = refl
 finds_each_keyword keyword.Given = refl
 finds_each_keyword keyword.Size = refl
 
+-- what is found among those that begin as the word does
+pub among_candidates : (bytes : List ℕ) (ks : List Keyword) (found : Option Keyword) → ks ≡ candidates bytes → found ≡ keyword_among ks bytes → keyword_among (candidates bytes) bytes ≡ found
+among_candidates bytes ks found these e = sym (e ∙ ap (λ ks. keyword_among ks bytes) these)
+
 pub is_keyword_found : (ks : List Keyword) (bytes : List ℕ) (k : Keyword) → keyword_among ks bytes ≡ Some k → bytes ≡ keyword_spelling k
 is_keyword_found [] bytes k = λ e. absurd cc
 is_keyword_found (j ∷ js) bytes k = elim (bytes_eq (keyword_spelling j) bytes) as (λ b. bytes_eq (keyword_spelling j) bytes ≡ b → cond b (Some j) (keyword_among js bytes) ≡ Some k → bytes ≡ keyword_spelling k) [
@@ -65,13 +69,13 @@ is_keyword_found (j ∷ js) bytes k = elim (bytes_eq (keyword_spelling j) bytes)
   | false ↦ λ _ e. is_keyword_found js bytes k e
 ] refl
 
-pub no_keyword_found : (bytes : List ℕ) → keyword_among KEYWORDS bytes ≡ None → (k : Keyword) → bytes ≢ keyword_spelling k
-no_keyword_found bytes e k q = let found : keyword_among KEYWORDS bytes ≡ Some k = ap (keyword_among KEYWORDS) q ∙ finds_each_keyword k in absurd cc
+pub no_keyword_found : (bytes : List ℕ) → keyword_among (candidates bytes) bytes ≡ None → (k : Keyword) → bytes ≢ keyword_spelling k
+no_keyword_found bytes e k q = let found : keyword_among (candidates bytes) bytes ≡ Some k = ap (λ word. keyword_among (candidates word) word) q ∙ finds_each_keyword k in absurd cc
 
 -- a word that is a keyword in the other version alone is none
-pub other_keyword_found : (second : Bool) (bytes : List ℕ) (j : Keyword) → keyword_among KEYWORDS bytes ≡ Some j → is_keyword second j ≡ false → (k : Keyword) → IsTrue (is_keyword second k) → bytes ≢ keyword_spelling k
+pub other_keyword_found : (second : Bool) (bytes : List ℕ) (j : Keyword) → keyword_among (candidates bytes) bytes ≡ Some j → is_keyword second j ≡ false → (k : Keyword) → IsTrue (is_keyword second k) → bytes ≢ keyword_spelling k
 other_keyword_found second bytes j e not_one k one q =
-    let found : keyword_among KEYWORDS bytes ≡ Some k = ap (keyword_among KEYWORDS) q ∙ finds_each_keyword k in
+    let found : keyword_among (candidates bytes) bytes ≡ Some k = ap (λ word. keyword_among (candidates word) word) q ∙ finds_each_keyword k in
     let same : j ≡ k = cc in
     absurd cc
 

@@ -10,8 +10,8 @@ use Rattle.dsr_tree.specs.declared.tokens.Token.{Token}
 use Rattle.dsr_tree.specs.declared.tokens.Token.TheVariants as token
 use Rattle.dsr_syntax_theory.specs.Tokens.{is_letter, is_digit, is_hexadecimal_digit, is_in_word, is_blank, every, keyword_spelling, sign_spelling, value_after, Spells, a_keyword, a_name, a_decimal, a_hexadecimal, a_sign}
 use Rattle.dsr_lexer.specs.Front.{begins}
-use Rattle.dsr_lexer.specs.declared.spellings.TheConstants.{KEYWORDS, LONG_SIGNS, SHORT_SIGNS}
-use Rattle.dsr_lexer.specs.Spelled.{keyword_among, sign_among}
+use Rattle.dsr_lexer.specs.declared.spellings.TheConstants.{LONG_SIGNS, SHORT_SIGNS}
+use Rattle.dsr_lexer.specs.Spelled.{candidates, keyword_among, sign_among}
 use Rattle.dsr_lexer.proofs.Lookups.{finds_each_keyword, finds_each_sign}
 
 pub both : (a b : Bool) → (a && b) ≡ true → (a ≡ true) × (b ≡ true)
@@ -144,7 +144,7 @@ apart f g differ {bytes = []} fs gs q = absurd cc
 apart f g differ {bytes = b ∷ bytes} fs gs q = differ b fs (subst (λ bytes. begins g bytes ≡ true) (sym q) gs)
 
 pub same_keyword : (j k : Keyword) → keyword_spelling j ≡ keyword_spelling k → j ≡ k
-same_keyword j k q = let found : Some j ≡ Some k = sym (finds_each_keyword j) ∙ (ap (keyword_among KEYWORDS) q ∙ finds_each_keyword k) in cc
+same_keyword j k q = let found : Some j ≡ Some k = sym (finds_each_keyword j) ∙ (ap (λ word. keyword_among (candidates word) word) q ∙ finds_each_keyword k) in cc
 
 same_sign : (s t : Sign) → sign_spelling s ≡ sign_spelling t → s ≡ t
 same_sign s t q = elim (finds_each_sign s []) as (λ _. s ≡ t) [

@@ -6,5 +6,7 @@ mod lexer;
 mod spellings;
 mod words;
 
+pub use bytes::word_len;
 pub use lexer::{TextFront, TokenFault, front, tokens};
-pub use spellings::{keyword_bytes, sign_bytes};
+pub use spellings::{find_keyword, keyword_bytes, sign_bytes};
+pub use words::{NAME_LIMIT, begins_word};

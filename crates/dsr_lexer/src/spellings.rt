@@ -1,54 +1,16 @@
 // How keywords and signs are spelled.
 ghost use Rattle.std.specs.Prelude.{◌≡◌};
 ghost use Rattle.dsr_syntax_theory.specs.Tokens.{is_keyword, keyword_spelling, sign_spelling};
-ghost use Rattle.dsr_lexer.specs.Spelled.{keyword_among, sign_among, FindsKeyword, FindsSign};
+ghost use Rattle.dsr_lexer.specs.Spelled.{
+  candidates,
+  keyword_among,
+  keywords_from,
+  sign_among,
+  FindsKeyword,
+  FindsSign,
+};
 
 use dsr_tree::{Keyword, Sign};
-
-const KEYWORDS: [Keyword; 42] = [
-    Keyword::Version,
-    Keyword::Order,
-    Keyword::Little,
-    Keyword::Big,
-    Keyword::Structure,
-    Keyword::Extends,
-    Keyword::Fixed,
-    Keyword::U8,
-    Keyword::U16,
-    Keyword::U32,
-    Keyword::U64,
-    Keyword::Bits,
-    Keyword::Init,
-    Keyword::Skip,
-    Keyword::Pool,
-    Keyword::Slot,
-    Keyword::At,
-    Keyword::Codes,
-    Keyword::Step,
-    Keyword::None,
-    Keyword::Set,
-    Keyword::Of,
-    Keyword::As,
-    Keyword::Except,
-    Keyword::Relation,
-    Keyword::Head,
-    Keyword::Number,
-    Keyword::Fresh,
-    Keyword::Avoid,
-    Keyword::Rule,
-    Keyword::In,
-    Keyword::When,
-    Keyword::And,
-    Keyword::Legal,
-    Keyword::Illegal,
-    Keyword::Some,
-    Keyword::Constraint,
-    Keyword::Forall,
-    Keyword::Or,
-    Keyword::Not,
-    Keyword::Given,
-    Keyword::Size,
-];
 
 const LONG_SIGNS: [Sign; 5] = [
     Sign::Arrow,
@@ -156,6 +118,50 @@ pub fn sign_bytes(sign: Sign) -> &'static [u8]
     }
 }
 
+// The keywords that begin with this letter.
+fn keywords_from(letter: u8) -> &'static [Keyword]
+    ensures { result.now ≡ keywords_from letter }
+{
+    match letter {
+        b'a' => &[Keyword::At, Keyword::As, Keyword::Avoid, Keyword::And],
+        b'b' => &[Keyword::Big, Keyword::Bits],
+        b'c' => &[Keyword::Codes, Keyword::Constraint],
+        b'e' => &[Keyword::Extends, Keyword::Except],
+        b'f' => &[Keyword::Fixed, Keyword::Fresh, Keyword::Forall],
+        b'g' => &[Keyword::Given],
+        b'h' => &[Keyword::Head],
+        b'i' => &[Keyword::Init, Keyword::In, Keyword::Illegal],
+        b'l' => &[Keyword::Little, Keyword::Legal],
+        b'n' => &[Keyword::None, Keyword::Number, Keyword::Not],
+        b'o' => &[Keyword::Order, Keyword::Of, Keyword::Or],
+        b'p' => &[Keyword::Pool],
+        b'r' => &[Keyword::Relation, Keyword::Rule],
+        b's' => &[
+            Keyword::Structure,
+            Keyword::Skip,
+            Keyword::Slot,
+            Keyword::Step,
+            Keyword::Set,
+            Keyword::Some,
+            Keyword::Size,
+        ],
+        b'u' => &[Keyword::U8, Keyword::U16, Keyword::U32, Keyword::U64],
+        b'v' => &[Keyword::Version],
+        b'w' => &[Keyword::When],
+        _ => &[],
+    }
+}
+
+// The keywords that begin as the word does.
+fn candidates(word: &[u8]) -> &'static [Keyword]
+    ensures { result.now ≡ candidates word.now }
+{
+    match word {
+        [] => &[],
+        [letter, ..] => keywords_from(*letter),
+    }
+}
+
 fn find_among(keywords: &[Keyword], word: &[u8]) -> Option<Keyword>
     ensures { result ≡ keyword_among keywords.now word.now }
 {
@@ -178,7 +184,7 @@ fn is_keyword_of(keyword: Keyword, second: bool) -> bool
 pub fn find_keyword(word: &[u8], second: bool) -> Option<Keyword>
     ensures { FindsKeyword second word.now result }
 {
-    let keyword = find_among(&KEYWORDS, word)?;
+    let keyword = find_among(candidates(word), word)?;
     if is_keyword_of(keyword, second) {
         Some(keyword)
     } else {

@@ -12,7 +12,8 @@ use dsr_ir::{Name, NoMemory};
 use dsr_tree::Token;
 use std::alloc::Global;
 
-const NAME_LIMIT: usize = 32;
+/// The most bytes of a name.
+pub const NAME_LIMIT: usize = 32;
 
 // A token with the number of bytes that spell it.
 #[derive(Drop)]
@@ -107,7 +108,8 @@ fn find_mark(text: &[u8]) -> Option<Found>
     })
 }
 
-fn begins_word(text: &[u8]) -> bool
+/// Whether a letter stands at the front, with which keywords and names begin.
+pub fn begins_word(text: &[u8]) -> bool
     ensures { result ≡ begins is_letter text.now }
 {
     text.first().is_some_and(|b| is_letter_byte(*b))

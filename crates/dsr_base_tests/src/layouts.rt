@@ -1,9 +1,9 @@
-// A layout with its numbers, and its copy.
+// A layout with its numbers.
 ghost use Rattle.std.specs.Prelude.{◌≡◌, IfOk, IsSome};
 ghost use Rattle.dsr_ir.specs.Layouts.{pool_numbers, field_place};
 
 use crate::copies::one;
-use dsr_ir::{FieldPlace, FieldRef, Layout, NoMemory, Order, PoolNumbers, TryClone, Width};
+use dsr_ir::{FieldPlace, FieldRef, Layout, NoMemory, Order, PoolNumbers, Width};
 use std::alloc::Global;
 
 const FIELD: FieldRef = FieldRef {
@@ -65,12 +65,6 @@ fn is_told(alloc: Global) -> Result<bool, NoMemory> {
     Ok(is_whole && tells_pool(&layout) && tells_field(&layout))
 }
 
-fn is_copied(alloc: Global) -> Result<bool, NoMemory> {
-    let layout = layout(alloc)?;
-    let copy = TryClone::clone(&layout, alloc)?;
-    Ok(copy.length() == 112)
-}
-
-pub fn are_told_and_copied(alloc: Global) -> bool {
-    is_told(alloc).unwrap_or(false) && is_copied(alloc).unwrap_or(false)
+pub fn are_told(alloc: Global) -> bool {
+    is_told(alloc).unwrap_or(false)
 }

@@ -8,7 +8,7 @@ use crate::{
 fn lowest_crates_answer(rt: HostRuntime) {
     let alloc = rt.alloc();
     assert!(rt; copies::are_equal(alloc));
-    assert!(rt; layouts::are_told_and_copied(alloc));
+    assert!(rt; layouts::are_told(alloc));
     assert!(rt; orders::are_kept(alloc));
     assert!(rt; orders::inclusions_give());
     assert!(rt; cells::hold_what_is_put(alloc));

@@ -1,6 +1,6 @@
-// Calls that nothing else makes, each once, and the copy of a specification: whether they answer as
-// they should, of a specification with a pool and two rules, whose first set has two members and
-// whose first relation gives the second the number 9.
+// Calls that nothing else makes, each once: whether they answer as they should, of a specification
+// with a pool and two rules, whose first set has two members and whose first relation gives the
+// second the number 9.
 //
 // A line `=== NAME HEX` begins a case, with the bytes of its image; the lines below it are its
 // specification's text.
@@ -17,7 +17,7 @@ use crate::built_models::model_of;
 use crate::bytes::bytes_of;
 use crate::headings::{heading_of, name_and_image};
 use dsr_given::Given;
-use dsr_ir::{Element, Fact, Instance, Layout, NoMemory, Pool, Rule, Spec, Target, TryClone};
+use dsr_ir::{Element, Fact, Instance, Layout, NoMemory, Spec, Target};
 use dsr_layout::record_count;
 use dsr_model::{Members, Model, is_premise};
 use dsr_related::Relation;
@@ -167,34 +167,6 @@ fn is_waiting_right(alloc: Global, spec: &Spec, layout: &Layout) -> bool
     asked.unwrap_or(false) && !unasked.unwrap_or(true)
 }
 
-fn are_same_pools(copies: &[Pool], sources: &[Pool]) -> bool {
-    match (copies, sources) {
-        ([copy], [source]) => {
-            copy.name == source.name && copy.start == source.start && copy.slot == source.slot
-        }
-        _ => false,
-    }
-}
-
-fn are_same_rules(copies: &[Rule], sources: &[Rule]) -> bool {
-    match (copies, sources) {
-        ([copy, second], [source, other]) => {
-            copy.inc == source.inc && copy.span == source.span && second.inc == other.inc
-        }
-        _ => false,
-    }
-}
-
-fn is_copied(alloc: Global, spec: &Spec) -> bool {
-    match TryClone::clone(spec, alloc) {
-        Ok(copy) => {
-            are_same_pools(copy.base.pools.items(), spec.base.pools.items())
-                && are_same_rules(copy.rules.items(), spec.rules.items())
-        }
-        Err(_) => false,
-    }
-}
-
 fn add_answer(lines: &mut Lines, word: &str, is: bool) {
     lines.word(word);
     lines.word(if is { "+" } else { "-" });
@@ -216,7 +188,6 @@ fn add_answers(lines: &mut Lines, alloc: Global, spec: &Spec, layout: &Layout, m
 fn add_calls(lines: &mut Lines, alloc: Global, spec: &Spec, image: Vec<u8>)
     requires { IsTyped spec.now }
 {
-    add_answer(lines, " copied", is_copied(alloc, spec));
     match model_of(alloc, spec, image) {
         Some(mut found) => {
             add_answers(lines, alloc, spec, &found.layout, &mut found.model);

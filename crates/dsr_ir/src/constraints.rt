@@ -1,6 +1,5 @@
 // Consistency constraints.
-use crate::{Name, NoMemory, Op, Seq, TryClone};
-use std::alloc::Global;
+use crate::{Name, Op, Seq};
 
 /// A variable of a constraint: `head`, or the first or second one of its quantifier.
 #[derive(Clone, Copy, PartialEq, Eq)]
@@ -61,14 +60,6 @@ impl Drop for Conj {
     }
 }
 
-impl TryClone for Conj {
-    fn clone(&self, alloc: Global) -> Result<Conj, NoMemory> {
-        Ok(Conj {
-            literals: self.literals.clone(alloc)?,
-        })
-    }
-}
-
 /// What a constraint's variables run over.
 #[derive(Clone, Copy)]
 pub enum Quant {
@@ -95,17 +86,5 @@ impl Drop for Constraint {
             quant: _,
             conjs: _,
         } = self;
-    }
-}
-
-impl TryClone for Constraint {
-    fn clone(&self, alloc: Global) -> Result<Constraint, NoMemory> {
-        let name = self.name.clone(alloc)?;
-        let conjs = self.conjs.clone(alloc)?;
-        Ok(Constraint {
-            name,
-            quant: self.quant,
-            conjs,
-        })
     }
 }

@@ -1,8 +1,5 @@
 // What a specification declares, with every name resolved to a number.
-ghost use Rattle.std.specs.Prelude.{◌≡◌, IfOk};
-
-use crate::{Constraint, Expr, Name, NoMemory, Rule, Seq, TryClone, copied};
-use std::alloc::Global;
+use crate::{Constraint, Expr, Name, Rule, Seq};
 
 /// The order of a number's bytes.
 #[derive(Clone, Copy, PartialEq, Eq)]
@@ -57,20 +54,6 @@ impl Drop for Field {
     }
 }
 
-impl TryClone for Field {
-    fn clone(&self, alloc: Global) -> Result<Field, NoMemory> {
-        let name = self.name.clone(alloc)?;
-        let len = copied(alloc, &self.len)?;
-        Ok(Field {
-            name,
-            fixed: self.fixed,
-            width: self.width,
-            len,
-            kind: self.kind,
-        })
-    }
-}
-
 /// A structure with the fields that it declares itself.
 pub struct Structure {
     pub name: Name,
@@ -86,18 +69,6 @@ impl Drop for Structure {
             parent: _,
             fields: _,
         } = self;
-    }
-}
-
-impl TryClone for Structure {
-    fn clone(&self, alloc: Global) -> Result<Structure, NoMemory> {
-        let name = self.name.clone(alloc)?;
-        let fields = self.fields.clone(alloc)?;
-        Ok(Structure {
-            name,
-            parent: self.parent,
-            fields,
-        })
     }
 }
 
@@ -138,49 +109,6 @@ impl Drop for Pool {
     }
 }
 
-// A copy is made in two halves: what a failure has to drop grows with all that is copied before.
-impl Pool {
-    fn copied_place(&self, alloc: Global) -> Result<(Name, Expr, Option<Expr>, Expr), NoMemory>
-        ensures { IfOk result (λ place.
-            place ≡ (self.now.name, self.now.count, self.now.slot, self.now.start)) }
-    {
-        let name = self.name.clone(alloc)?;
-        let count = self.count.clone(alloc)?;
-        let slot = copied(alloc, &self.slot)?;
-        let start = self.start.clone(alloc)?;
-        Ok((name, count, slot, start))
-    }
-
-    fn copied_codes(&self, alloc: Global) -> Result<(Expr, Expr, Expr, Option<Seq<u32>>), NoMemory>
-        ensures { IfOk result (λ codes.
-            codes ≡ (self.now.code, self.now.step, self.now.none, self.now.avoid)) }
-    {
-        let code = self.code.clone(alloc)?;
-        let step = self.step.clone(alloc)?;
-        let none = self.none.clone(alloc)?;
-        let avoid = copied(alloc, &self.avoid)?;
-        Ok((code, step, none, avoid))
-    }
-}
-
-impl TryClone for Pool {
-    fn clone(&self, alloc: Global) -> Result<Pool, NoMemory> {
-        let (name, count, slot, start) = self.copied_place(alloc)?;
-        let (code, step, none, avoid) = self.copied_codes(alloc)?;
-        Ok(Pool {
-            name,
-            structure: self.structure,
-            count,
-            slot,
-            start,
-            code,
-            step,
-            none,
-            avoid,
-        })
-    }
-}
-
 /// A set of slots of a pool.
 pub struct SetDecl {
     pub name: Name,
@@ -203,17 +131,6 @@ impl Drop for SetDecl {
     }
 }
 
-impl TryClone for SetDecl {
-    fn clone(&self, alloc: Global) -> Result<SetDecl, NoMemory> {
-        Ok(SetDecl {
-            name: self.name.clone(alloc)?,
-            pool: self.pool,
-            structure: self.structure,
-            except: self.except,
-        })
-    }
-}
-
 /// A relation between the records of a pool or the head and those of a pool, or numbers.
 pub struct Rel {
     pub name: Name,
@@ -230,16 +147,6 @@ impl Drop for Rel {
             source: _,
             target: _,
         } = self;
-    }
-}
-
-impl TryClone for Rel {
-    fn clone(&self, alloc: Global) -> Result<Rel, NoMemory> {
-        Ok(Rel {
-            name: self.name.clone(alloc)?,
-            source: self.source,
-            target: self.target,
-        })
     }
 }
 
@@ -278,24 +185,6 @@ impl Drop for Structures {
     }
 }
 
-impl TryClone for Structures {
-    fn clone(&self, alloc: Global) -> Result<Structures, NoMemory> {
-        let structures = self.structures.clone(alloc)?;
-        let pools = self.pools.clone(alloc)?;
-        let sets = self.sets.clone(alloc)?;
-        let rels = self.rels.clone(alloc)?;
-        Ok(Structures {
-            version: self.version,
-            order: self.order,
-            head: self.head,
-            structures,
-            pools,
-            sets,
-            rels,
-        })
-    }
-}
-
 /// A typed specification, with rules and constraints in order of declaration.
 pub struct Spec {
     pub base: Structures,
@@ -310,18 +199,5 @@ impl Drop for Spec {
             rules: _,
             constraints: _,
         } = self;
-    }
-}
-
-impl TryClone for Spec {
-    fn clone(&self, alloc: Global) -> Result<Spec, NoMemory> {
-        let base = self.base.clone(alloc)?;
-        let rules = self.rules.clone(alloc)?;
-        let constraints = self.constraints.clone(alloc)?;
-        Ok(Spec {
-            base,
-            rules,
-            constraints,
-        })
     }
 }

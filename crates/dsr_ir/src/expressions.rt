@@ -2,7 +2,7 @@
 ghost use Rattle.std.specs.Prelude.{◌≡◌, IfOk};
 ghost use Rattle.dsr_ir.specs.Exprs.{NumOf, FixedOf, SumOf, LessOf, TimesOf, OverOf, expr_shape, is_same};
 
-use crate::{NoMemory, TryClone};
+use crate::NoMemory;
 use std::alloc::Global;
 use std::marker::Model;
 
@@ -119,14 +119,6 @@ impl Expr {
     }
 }
 
-impl TryClone for Expr {
-    fn clone(&self, alloc: Global) -> Result<Expr, NoMemory> {
-        Ok(Expr {
-            node: copy(alloc, &self.node)?,
-        })
-    }
-}
-
 impl PartialEq for Expr {
     ghost use Rattle.std.specs.Cmp.{partial_equiv_from_equiv};
     ghost use Rattle.dsr_ir.specs.Exprs.{is_same, is_same_equiv};
@@ -158,26 +150,4 @@ fn say_the_same(left: &ExprNode, right: &ExprNode) -> bool
         (ExprNode::Over(a, b), ExprNode::Over(c, d)) => say_the_same(a, c) && say_the_same(b, d),
         _ => false,
     }
-}
-
-#[cycle(copies)]
-fn copy(alloc: Global, node: &ExprNode) -> Result<ExprNode, NoMemory>
-    ensures { IfOk result (λ copy. expr_shape copy ≡ expr_shape node.now) }
-{
-    Ok(match node {
-        ExprNode::Num(value) => ExprNode::Num(*value),
-        ExprNode::Fixed(field) => ExprNode::Fixed(*field),
-        ExprNode::Sum(left, right) => ExprNode::Sum(boxed(alloc, left)?, boxed(alloc, right)?),
-        ExprNode::Less(left, right) => ExprNode::Less(boxed(alloc, left)?, boxed(alloc, right)?),
-        ExprNode::Times(left, right) => ExprNode::Times(boxed(alloc, left)?, boxed(alloc, right)?),
-        ExprNode::Over(left, right) => ExprNode::Over(boxed(alloc, left)?, boxed(alloc, right)?),
-    })
-}
-
-// A copy of a part, in a box of its own.
-#[cycle(copies)]
-fn boxed(alloc: Global, node: &ExprNode) -> Result<Box<ExprNode>, NoMemory>
-    ensures { IfOk result (λ copy. expr_shape copy.value ≡ expr_shape node.now) }
-{
-    Ok(Box::new(alloc, copy(alloc, node)?)?)
 }

@@ -1,9 +1,8 @@
 // Formulas over statements about the model.
-ghost use Rattle.std.specs.Prelude.{◌≡◌, IfOk, map};
+ghost use Rattle.std.specs.Prelude.{◌≡◌};
 ghost use Rattle.dsr_ir.specs.Formulas.{formula_shape};
 
-use crate::{Atom, NoMemory, TryClone};
-use std::alloc::Global;
+use crate::Atom;
 use std::marker::Model;
 
 /// The parts of a formula. Each part of `Any` and `Every` is a formula of its own, and `Any` of no
@@ -55,45 +54,4 @@ impl Formula {
     {
         &self.node
     }
-}
-
-impl TryClone for Formula {
-    fn clone(&self, alloc: Global) -> Result<Formula, NoMemory> {
-        Ok(Formula {
-            node: copy(alloc, &self.node)?,
-        })
-    }
-}
-
-#[cycle(copies)]
-fn copy(alloc: Global, node: &FormulaNode) -> Result<FormulaNode, NoMemory>
-    ensures { IfOk result (λ copy. formula_shape copy ≡ formula_shape node.now) }
-{
-    match node {
-        FormulaNode::Any(parts) => Ok(FormulaNode::Any(all_copied(alloc, parts)?)),
-        FormulaNode::Every(parts) => Ok(FormulaNode::Every(all_copied(alloc, parts)?)),
-        FormulaNode::Not(part) => Ok(FormulaNode::Not(boxed(alloc, part)?)),
-        FormulaNode::Given(part) => Ok(FormulaNode::Given(boxed(alloc, part)?)),
-        FormulaNode::Leaf(atom) => Ok(FormulaNode::Leaf(*atom)),
-    }
-}
-
-// A copy, in a box of its own.
-#[cycle(copies)]
-fn boxed(alloc: Global, node: &FormulaNode) -> Result<Box<FormulaNode>, NoMemory>
-    ensures { IfOk result (λ copy. formula_shape copy.value ≡ formula_shape node.now) }
-{
-    Ok(Box::new(alloc, copy(alloc, node)?)?)
-}
-
-// Copies, in order.
-#[cycle(copies)]
-fn all_copied(alloc: Global, parts: &[FormulaNode]) -> Result<Vec<FormulaNode>, NoMemory>
-    ensures { IfOk result (λ copies. map formula_shape copies.items ≡ map formula_shape parts.now) }
-{
-    let mut copies = Vec::new(alloc);
-    for part in parts {
-        copies.push(copy(alloc, part)?)?;
-    }
-    Ok(copies)
 }

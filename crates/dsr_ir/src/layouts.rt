@@ -1,6 +1,5 @@
 // The layout of an image, as numbers.
-use crate::{FieldRef, NoMemory, Order, Seq, TryClone, Width};
-use std::alloc::Global;
+use crate::{FieldRef, Order, Seq, Width};
 
 /// The numbers of a pool: its first byte, the bytes of a slot, the number of slots, the code of
 /// slot 0, the step from one slot's code to the next, and the code of no slot.
@@ -146,19 +145,6 @@ impl Layout {
         ensures { field_place self.now field ≡ Some result }
     {
         self.fields.items()[field.structure as usize].items()[field.field as usize]
-    }
-}
-
-impl TryClone for Layout {
-    fn clone(&self, alloc: Global) -> Result<Layout, NoMemory> {
-        let pools = self.pools.clone(alloc)?;
-        let fields = self.fields.clone(alloc)?;
-        Ok(Layout {
-            length: self.length,
-            order: self.order,
-            pools,
-            fields,
-        })
     }
 }
 

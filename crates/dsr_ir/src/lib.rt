@@ -20,7 +20,7 @@ pub use declarations::{
 pub use expressions::{Expr, ExprNode};
 pub use formulas::{Formula, FormulaNode};
 pub use layouts::{Cell, FieldPlace, Layout, PoolNumbers};
-pub use memory::{NoMemory, TryClone, copied};
+pub use memory::{NoMemory, TryClone};
 pub use names::Name;
 pub use rules::{Guard, Inc, Op, Path, Rule, Span, Test};
 pub use sequences::Seq;

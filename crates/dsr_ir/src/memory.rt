@@ -33,13 +33,3 @@ impl<T: Copy> TryClone for T {
         Ok(*self)
     }
 }
-
-/// A copy of a value that may be missing, or `NoMemory`.
-pub fn copied<T: TryClone + Drop>(alloc: Global, value: &Option<T>) -> Result<Option<T>, NoMemory>
-    ensures { IfOk result (λ copy. copy ≡ value.now) }
-{
-    match value {
-        Some(value) => Ok(Some(value.clone(alloc)?)),
-        None => Ok(None),
-    }
-}

@@ -1,6 +1,5 @@
 // Model definition rules.
-use crate::{FieldRef, NoMemory, Seq, Symbol, TryClone};
-use std::alloc::Global;
+use crate::{FieldRef, Seq, Symbol};
 
 /// A comparison of two numbers.
 #[derive(Clone, Copy, PartialEq, Eq)]
@@ -127,16 +126,5 @@ impl Drop for Rule {
             guards: _,
             inc: _,
         } = self;
-    }
-}
-
-impl TryClone for Rule {
-    fn clone(&self, alloc: Global) -> Result<Rule, NoMemory> {
-        Ok(Rule {
-            premise: self.premise,
-            span: self.span,
-            guards: self.guards.clone(alloc)?,
-            inc: self.inc,
-        })
     }
 }

@@ -1,14 +1,13 @@
 -- The shape of an expression, a formula or their parts, by the lists in it.
 use Rattle.std.proofs.Common.{◌≡◌, map, Vec, refl, ap, sym, ◌∙◌}
 use Rattle.std.specs.declared.alloc.Global.{Global}
-use Rattle.dsr_tree.specs.declared.tree.Expr.{Expr, Expr-F, roll-Expr, out-roll-Expr, out-Expr, is-Expr', Row_of-MoreTerm, end_of-MoreTerm, more_of-MoreTerm, items-the_row-MoreTerm, items_hidden-the_row-MoreTerm-0}
-use Rattle.dsr_tree.specs.declared.tree.Factor.{Factor}
+use Rattle.dsr_tree.specs.declared.tree.Expr.{Expr, out-Expr, is-Expr', Row_of-MoreTerm, end_of-MoreTerm, more_of-MoreTerm, items-the_row-MoreTerm, items_hidden-the_row-MoreTerm-0}
 use Rattle.dsr_tree.specs.declared.tree.Factor.TheBlock.{hidden-the_row-MoreTerm-0, hidden-the_row-MoreFactor-1}
-use Rattle.dsr_tree.specs.declared.tree.Formula.{Formula, Formula-F, roll-Formula, out-roll-Formula, out-Formula, is-Formula', Row_of-Join, end_of-Join, more_of-Join, items-the_row-Join, items_hidden-the_row-Join-1}
+use Rattle.dsr_tree.specs.declared.tree.Formula.{Formula, out-Formula, is-Formula', Row_of-Join, end_of-Join, more_of-Join, items-the_row-Join, items_hidden-the_row-Join-1}
 use Rattle.dsr_tree.specs.declared.tree.Join.{Join, Row_of-Unit, end_of-Unit, more_of-Unit, items-the_row-Unit, items_shown-the_row-Unit-0, items_hidden-the_row-Unit-0}
 use Rattle.dsr_tree.specs.declared.tree.MoreFactor.{MoreFactor}
 use Rattle.dsr_tree.specs.declared.tree.MoreTerm.{MoreTerm, MoreTerm'}
-use Rattle.dsr_tree.specs.declared.tree.Term2.{Term2, Term2-F, roll-Term2, out-roll-Term2, out-Term2, is-Term2', Row_of-MoreFactor, end_of-MoreFactor, more_of-MoreFactor, items-the_row-MoreFactor, items_hidden-the_row-MoreFactor-1}
+use Rattle.dsr_tree.specs.declared.tree.Term2.{Term2, out-Term2, is-Term2', Row_of-MoreFactor, end_of-MoreFactor, more_of-MoreFactor, items-the_row-MoreFactor, items_hidden-the_row-MoreFactor-1}
 use Rattle.dsr_tree.specs.declared.tree.Unit.{Unit as UnitOf}
 use Rattle.dsr_tree.specs.declared.tree.Unit.TheBlock.{hidden-the_row-Unit-0, hidden-the_row-Join-1}
 use Rattle.dsr_tree.specs.Trees.{JoinTree, JoinTrees, formula_tree, join_tree, more_joins, more_units, in_joins, in_units, formula_shape, joins_shape, join_shape, units_shape, unit_shape}
@@ -57,25 +56,3 @@ formula_is f =
     ap formula_shape (is-Formula' f)
     ∙ ap (λ us. formula_tree (join_tree (unit_shape (out-Formula f).first.first) us) (joins_shape (hidden-the_row-Join-1 (out-Formula f).rest))) (units_list (out-Formula f).first.rest)
     ∙ ap (formula_tree (join_shape (out-Formula f).first)) (joins_list (out-Formula f).rest)
-
--- what is made of copies of the parts of a tree has its shape
-pub expr_copied : (x : Expr-F Factor Expr MoreFactor MoreTerm Term2) (e : Expr) → term_shape x.first ≡ term_shape (out-Expr e).first → map more_term_shape x.rest.items ≡ map more_term_shape (out-Expr e).rest.items → expr_shape (roll-Expr x) ≡ expr_shape e
-expr_copied x e first rest =
-    expr_is (roll-Expr x)
-    ∙ ap (λ y. expr_tree (term_shape y.first) (in_terms (map more_term_shape y.rest.items))) (out-roll-Expr x)
-    ∙ (λ i. expr_tree (first i) (in_terms (rest i)))
-    ∙ sym (expr_is e)
-
-pub term_copied : (x : Term2-F Factor Expr MoreFactor MoreTerm Term2) (t : Term2) → factor_shape x.first ≡ factor_shape (out-Term2 t).first → map more_factor_shape x.rest.items ≡ map more_factor_shape (out-Term2 t).rest.items → term_shape (roll-Term2 x) ≡ term_shape t
-term_copied x t first rest =
-    term_is (roll-Term2 x)
-    ∙ ap (λ y. term_tree (factor_shape y.first) (in_factors (map more_factor_shape y.rest.items))) (out-roll-Term2 x)
-    ∙ (λ i. term_tree (first i) (in_factors (rest i)))
-    ∙ sym (term_is t)
-
-pub formula_copied : (x : Formula-F UnitOf Formula Join) (f : Formula) → join_shape x.first ≡ join_shape (out-Formula f).first → map join_shape x.rest.items ≡ map join_shape (out-Formula f).rest.items → formula_shape (roll-Formula x) ≡ formula_shape f
-formula_copied x f first rest =
-    formula_is (roll-Formula x)
-    ∙ ap (λ y. formula_tree (join_shape y.first) (in_joins (map join_shape y.rest.items))) (out-roll-Formula x)
-    ∙ (λ i. formula_tree (first i) (in_joins (rest i)))
-    ∙ sym (formula_is f)

@@ -2,12 +2,10 @@
 //! it.
 #![tactic(auto)]
 
-mod copying;
 mod faults;
 mod tokens;
 mod tree;
 
-pub use copying::TryCloneTree;
 pub use faults::{Condition, Fault};
 pub use tokens::{Keyword, Lexeme, Sign, Token};
 pub use tree::{

@@ -1,6 +1,5 @@
 // The tokens of a specification's text.
-use dsr_ir::{Name, NoMemory, TryClone};
-use std::alloc::Global;
+use dsr_ir::Name;
 
 /// A word that is no name.
 #[derive(Clone, Copy, PartialEq, Eq)]
@@ -90,17 +89,6 @@ pub enum Token {
     Sign(Sign),
 }
 
-impl TryClone for Token {
-    fn clone(&self, alloc: Global) -> Result<Token, NoMemory> {
-        Ok(match self {
-            Token::Keyword(keyword) => Token::Keyword(*keyword),
-            Token::Name(name) => Token::Name(name.clone(alloc)?),
-            Token::Number(number) => Token::Number(*number),
-            Token::Sign(sign) => Token::Sign(*sign),
-        })
-    }
-}
-
 /// A token with the place of its first byte in the text, counted from 0.
 pub struct Lexeme {
     pub token: Token,
@@ -110,14 +98,5 @@ pub struct Lexeme {
 impl Drop for Lexeme {
     fn drop(self) {
         let Lexeme { token: _, place: _ } = self;
-    }
-}
-
-impl TryClone for Lexeme {
-    fn clone(&self, alloc: Global) -> Result<Lexeme, NoMemory> {
-        Ok(Lexeme {
-            token: self.token.clone(alloc)?,
-            place: self.place,
-        })
     }
 }

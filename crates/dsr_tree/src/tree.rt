@@ -2,9 +2,6 @@
 // begins with a keyword or a sign, its type keeps that token's place; places count bytes of the
 // text from 0. Of all other tokens no place is kept. Where a production begins with another
 // production, its place is that one's.
-mod copies;
-mod tree_copies;
-
 use dsr_ir::{Name, Order, Seq};
 
 /// A name and where it stands.

@@ -3,27 +3,12 @@ use crate::faults::add_syntax_fault;
 use dsr_ir::NoMemory;
 use dsr_parse::{SyntaxFault, parse, print};
 use dsr_test_text::Lines;
-use dsr_tree::{Tree, TryCloneTree};
 use std::alloc::Global;
 use std::str;
 
-// The canonical text of a tree, and that of its copy.
-#[derive(Drop)]
-struct Texts {
-    text: Result<Vec<u8>, NoMemory>,
-    copied: Result<Vec<u8>, NoMemory>,
-}
-
-fn printed_copy(alloc: Global, tree: &Tree) -> Result<Vec<u8>, NoMemory> {
-    let copy = TryCloneTree::clone(tree, alloc)?;
-    print(alloc, &copy)
-}
-
-fn printed(alloc: Global, text: &[u8]) -> Result<Texts, SyntaxFault> {
+fn printed(alloc: Global, text: &[u8]) -> Result<Result<Vec<u8>, NoMemory>, SyntaxFault> {
     let tree = parse(alloc, text)?;
-    let text = print(alloc, &tree);
-    let copied = printed_copy(alloc, &tree);
-    Ok(Texts { text, copied })
+    Ok(print(alloc, &tree))
 }
 
 fn add_bytes(lines: &mut Lines, bytes: &[u8]) {
@@ -43,30 +28,25 @@ fn is_same(found: &Result<Vec<u8>, NoMemory>, wanted: &[u8]) -> bool {
 // Whether the canonical text, when it is read again, is printed as it is.
 fn is_printed_again(alloc: Global, text: &[u8]) -> bool {
     match printed(alloc, text) {
-        Ok(again) => is_same(&again.text, text),
+        Ok(again) => is_same(&again, text),
         Err(_) => false,
     }
 }
 
-fn add_same(lines: &mut Lines, word: &str, is_same: bool) {
-    lines.word(word);
-    lines.word(if is_same {
-        "the same\n"
-    } else {
-        "another text\n"
-    });
-}
-
-// A canonical text, and whether it is printed again for a copy of its tree and for itself.
-fn add_printed(lines: &mut Lines, alloc: Global, printed: &Texts) {
-    let Ok(text) = &printed.text else {
+// A canonical text, and whether it is printed again as it is.
+fn add_printed(lines: &mut Lines, alloc: Global, printed: &Result<Vec<u8>, NoMemory>) {
+    let Ok(text) = printed else {
         lines.word(" no memory\n");
         return;
     };
     lines.word(" text\n");
     add_bytes(lines, text);
-    add_same(lines, "  copied: ", is_same(&printed.copied, text));
-    add_same(lines, "  read again: ", is_printed_again(alloc, text));
+    lines.word("  read again: ");
+    lines.word(if is_printed_again(alloc, text) {
+        "the same\n"
+    } else {
+        "another text\n"
+    });
 }
 
 /// What is told of a text: its canonical text, or the fault.

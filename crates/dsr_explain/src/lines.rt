@@ -13,10 +13,3 @@ pub fn push_where(text: &mut Text, binding: &str) {
         text.push(binding);
     }
 }
-
-/// Appends all of these pieces.
-pub fn push_pieces(text: &mut Text, pieces: &[&str]) {
-    for piece in pieces {
-        text.push(piece);
-    }
-}

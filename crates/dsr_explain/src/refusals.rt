@@ -1,5 +1,5 @@
 // Why certificates, reports and scripts of edits are refused, in words.
-use crate::lines::{push_pieces, push_where, word_at};
+use crate::lines::{push_where, word_at};
 use dsr_ir::NoMemory;
 use dsr_wording::Text;
 use std::alloc::Global;
@@ -28,18 +28,12 @@ const GIVEN: &str = "`, or the literal is `given`\n";
 // Appends why a certificate is refused.
 fn push_certificate(text: &mut Text, kind: &str, file: &str, name: &str, other: &str) {
     match kind {
-        "1" => push_pieces(text, &[file, ":", name, CERTIFICATE_LINE]),
-        "2" => push_pieces(text, &[file, TESTED, name, NONE_LEFT]),
-        "3" => push_pieces(text, &[file, NO_TEMPLATE, other, " of `", name, GIVEN]),
-        "4" => push_pieces(text, &[file, OF_LITERAL, other, " of `", name, FALSIFIED]),
-        "5" => push_pieces(
-            text,
-            &[file, BREAKING, name, "` may break `", other, NOT_HIGHER],
-        ),
-        "6" => push_pieces(
-            text,
-            &[file, ": error: `", name, "` relies on `", other, NOT_LOWER],
-        ),
+        "1" => text.pieces(&[file, ":", name, CERTIFICATE_LINE]),
+        "2" => text.pieces(&[file, TESTED, name, NONE_LEFT]),
+        "3" => text.pieces(&[file, NO_TEMPLATE, other, " of `", name, GIVEN]),
+        "4" => text.pieces(&[file, OF_LITERAL, other, " of `", name, FALSIFIED]),
+        "5" => text.pieces(&[file, BREAKING, name, "` may break `", other, NOT_HIGHER]),
+        "6" => text.pieces(&[file, ": error: `", name, "` relies on `", other, NOT_LOWER]),
         _ => {}
     }
 }
@@ -70,15 +64,12 @@ const NOT_DUE: &str = " isn't the one that is due there\n";
 // Appends why a report is refused.
 fn push_report(text: &mut Text, kind: &str, file: &str, number: &str, place: &str) {
     match kind {
-        "1" => push_pieces(text, &[file, ":", number, REPORT_LINE]),
-        "2" => push_pieces(text, &[file, ": error: step ", number, NOT_DUE]),
-        "3" => push_pieces(text, &[file, ": error: all its ", number, GOES_ON]),
-        "4" => push_pieces(text, &[file, DIFFERS, number, "\n"]),
-        "5" => push_pieces(
-            text,
-            &[file, ": error: byte ", place, " of step ", number, NOT_LEFT],
-        ),
-        "6" => push_pieces(text, &[file, TAKING, place, " of step ", number, FIXED]),
+        "1" => text.pieces(&[file, ":", number, REPORT_LINE]),
+        "2" => text.pieces(&[file, ": error: step ", number, NOT_DUE]),
+        "3" => text.pieces(&[file, ": error: all its ", number, GOES_ON]),
+        "4" => text.pieces(&[file, DIFFERS, number, "\n"]),
+        "5" => text.pieces(&[file, ": error: byte ", place, " of step ", number, NOT_LEFT]),
+        "6" => text.pieces(&[file, TAKING, place, " of step ", number, FIXED]),
         _ => {}
     }
 }
@@ -116,8 +107,8 @@ pub fn edit_refused(alloc: Global, file: &str, out: &str) -> Result<String, NoMe
     let (kind, number) = (word_at(out, 1), word_at(out, 2));
     let mut text = Text::new(alloc);
     match kind {
-        "1" => push_pieces(&mut text, &[file, ":", number, SCRIPT_LINE]),
-        "2" => push_pieces(&mut text, &[file, ":", number, SCRIPT_FIELD]),
+        "1" => text.pieces(&[file, ":", number, SCRIPT_LINE]),
+        "2" => text.pieces(&[file, ":", number, SCRIPT_FIELD]),
         "3" => push_group(&mut text, file, number, out),
         _ => {}
     }

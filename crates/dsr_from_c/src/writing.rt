@@ -27,13 +27,6 @@ fn astray_of(alloc: Global, structure: &str) -> Result<String, NoMemory> {
     name_with(alloc, structure, "_astray")
 }
 
-// Appends pieces, one behind the other.
-fn push_pieces(text: &mut Text, pieces: &[&str]) {
-    for piece in pieces {
-        text.push(piece);
-    }
-}
-
 // Appends bytes that belong to no field.
 fn push_gap(text: &mut Text, bytes: u64) {
     if bytes > 0 {
@@ -48,7 +41,7 @@ fn push_member(text: &mut Text, structures: &[Structure], member: &Member) -> Re
     let name = name_with(text.allocator(), member.name.as_str(), "")?;
     text.push("  u");
     text.number(member.width.saturating_mul(8));
-    push_pieces(text, &[" ", name.as_str()]);
+    text.pieces(&[" ", name.as_str()]);
     if let Some(count) = member.count {
         text.push("[");
         text.number(count);
@@ -56,7 +49,7 @@ fn push_member(text: &mut Text, structures: &[Structure], member: &Member) -> Re
     }
     if let Some(target) = known_target(structures, member) {
         let pool = pool_of(text.allocator(), target)?;
-        push_pieces(text, &[" -> ", pool.as_str()]);
+        text.pieces(&[" -> ", pool.as_str()]);
     }
     text.push(";\n");
     Ok(())
@@ -75,7 +68,7 @@ fn push_structure(
     structure: &Structure,
 ) -> Result<(), NoMemory> {
     let name = name_with(text.allocator(), structure.name.as_str(), "")?;
-    push_pieces(text, &["structure ", name.as_str(), " {\n"]);
+    text.pieces(&["structure ", name.as_str(), " {\n"]);
     let mut end = 0u64;
     for member in &structure.members {
         if member.start >= end {
@@ -97,7 +90,7 @@ const BASE: u64 = 4096;
 fn push_pool(text: &mut Text, structure: &Structure, start: u64) -> Result<(), NoMemory> {
     let name = name_with(text.allocator(), structure.name.as_str(), "")?;
     let pool = pool_of(text.allocator(), structure.name.as_str())?;
-    push_pieces(text, &["pool ", pool.as_str(), " : ", name.as_str()]);
+    text.pieces(&["pool ", pool.as_str(), " : ", name.as_str()]);
     text.push("[1] at ");
     text.number(start);
     text.push(" codes ");
@@ -134,11 +127,11 @@ fn push_sets(text: &mut Text, structures: &[Structure]) -> Result<(), NoMemory> 
     for structure in structures {
         let pool = pool_of(alloc, structure.name.as_str())?;
         let set = set_of(alloc, structure.name.as_str())?;
-        push_pieces(text, &["set ", set.as_str(), " of ", pool.as_str()]);
+        text.pieces(&["set ", set.as_str(), " of ", pool.as_str()]);
         text.push(";\n");
         if has_address(structures, structure) {
             let astray = astray_of(alloc, structure.name.as_str())?;
-            push_pieces(text, &["set ", astray.as_str(), " of ", pool.as_str()]);
+            text.pieces(&["set ", astray.as_str(), " of ", pool.as_str()]);
             text.push(";\n");
         }
     }
@@ -147,15 +140,15 @@ fn push_sets(text: &mut Text, structures: &[Structure]) -> Result<(), NoMemory> 
 
 // Appends where a rule begins: at a record, and at an entry where its field is an array.
 fn push_source(text: &mut Text, source: &str, field: &str, is_array: bool) {
-    push_pieces(text, &["rule x in ", source]);
+    text.pieces(&["rule x in ", source]);
     if is_array {
-        push_pieces(text, &[", k in ", field]);
+        text.pieces(&[", k in ", field]);
     }
 }
 
 // Appends the field of a record, or its entry where it is an array.
 fn push_field(text: &mut Text, field: &str, is_array: bool) {
-    push_pieces(text, &["x.", field]);
+    text.pieces(&["x.", field]);
     if is_array {
         text.push("[k]");
     }
@@ -176,11 +169,11 @@ fn push_address(
     push_source(text, source.as_str(), field.as_str(), is_array);
     text.push(" => ");
     push_field(text, field.as_str(), is_array);
-    push_pieces(text, &[" in ", target.as_str(), ";\n"]);
+    text.pieces(&[" in ", target.as_str(), ";\n"]);
     push_source(text, source.as_str(), field.as_str(), is_array);
     text.push(" when illegal(");
     push_field(text, field.as_str(), is_array);
-    push_pieces(text, &[") => x in ", astray.as_str(), ";\n"]);
+    text.pieces(&[") => x in ", astray.as_str(), ";\n"]);
     Ok(())
 }
 
@@ -202,8 +195,8 @@ fn push_rules(
 fn push_legal(text: &mut Text, structure: &Structure) -> Result<(), NoMemory> {
     let legal = name_with(text.allocator(), structure.name.as_str(), "_legal")?;
     let astray = astray_of(text.allocator(), structure.name.as_str())?;
-    push_pieces(text, &["constraint ", legal.as_str(), " : forall x in "]);
-    push_pieces(text, &[astray.as_str(), " : not x in ", astray.as_str()]);
+    text.pieces(&["constraint ", legal.as_str(), " : forall x in "]);
+    text.pieces(&[astray.as_str(), " : not x in ", astray.as_str()]);
     text.push(";\n");
     Ok(())
 }
@@ -223,8 +216,8 @@ structure Head {
 fn push_first(text: &mut Text, first: &Structure) -> Result<(), NoMemory> {
     let pool = pool_of(text.allocator(), first.name.as_str())?;
     let set = set_of(text.allocator(), first.name.as_str())?;
-    push_pieces(text, &["rule head, k in pool ", pool.as_str(), " => "]);
-    push_pieces(text, &[pool.as_str(), "[k] in ", set.as_str(), ";\n"]);
+    text.pieces(&["rule head, k in pool ", pool.as_str(), " => "]);
+    text.pieces(&[pool.as_str(), "[k] in ", set.as_str(), ";\n"]);
     Ok(())
 }
 

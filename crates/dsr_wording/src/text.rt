@@ -28,6 +28,13 @@ impl Text {
         }
     }
 
+    /// Appends pieces, one behind the other.
+    pub fn pieces(&mut self, pieces: &[&str]) {
+        for piece in pieces {
+            self.push(piece);
+        }
+    }
+
     /// Appends the bytes of a name.
     pub fn name(&mut self, name: &[u8]) {
         self.push(text_of(name));

@@ -1,63 +1,51 @@
 // Which symbols a write of each field affects.
 ghost use Rattle.dsr_meaning.specs.Typed.{IsTyped};
 
-use anyhow::bail;
 use dsr_affected::affected;
 use dsr_answers::symbol_name;
-use dsr_ir::{FieldRef, Spec, Structure};
+use dsr_ir::{FieldRef, Spec};
+use dsr_test_text::Lines;
 use std::alloc::Global;
 use std::str;
 
-fn add_field(
-    text: &mut String,
-    alloc: Global,
-    spec: &Spec,
-    place: FieldRef,
-    name: &[u8],
-) -> anyhow::Result<()>
+fn add_field(lines: &mut Lines, alloc: Global, spec: &Spec, place: FieldRef, name: &[u8])
     requires typed { IsTyped spec.now }
 {
-    text.push_str("affected ")?;
-    text.push_str(str::from_utf8(name)?)?;
+    lines.word("affected ");
+    lines.word(str::from_utf8(name).unwrap_or("?"));
     let Ok(symbols) = affected(alloc, spec, &[place]) else {
-        bail!("no memory");
+        lines.word(" no memory\n");
+        return;
     };
     for symbol in symbols {
-        text.push_str(" ")?;
-        text.push_str(str::from_utf8(symbol_name(spec, symbol))?)?;
+        lines.word(" ");
+        lines.word(str::from_utf8(symbol_name(spec, symbol)).unwrap_or("?"));
     }
-    text.push_str("\n")?;
-    Ok(())
+    lines.word("\n");
 }
 
-fn add_own(
-    text: &mut String,
-    alloc: Global,
-    spec: &Spec,
-    number: u32,
-    structure: &Structure,
-) -> anyhow::Result<()>
+// Adds the symbols that each field of a structure affects.
+fn add_own(lines: &mut Lines, alloc: Global, spec: &Spec, structure: u32)
     requires typed { IsTyped spec.now }
 {
-    for (field, its) in structure.fields.items().iter().enumerate() {
-        let Ok(field) = u32::try_from(field) else {
-            bail!("too many fields");
-        };
+    let Some(its) = spec.base.structures.items().get(structure as usize) else {
+        return;
+    };
+    for (number, field) in its.fields.items().iter().enumerate() {
         let place = FieldRef {
-            structure: number,
-            field,
+            structure,
+            field: u32::try_from(number).unwrap_or(u32::MAX),
         };
-        add_field(text, alloc, spec, place, its.name.bytes())?;
+        add_field(lines, alloc, spec, place, field.name.bytes());
     }
-    Ok(())
 }
 
-/// Appends the symbols that each field affects.
-pub fn add_fields(text: &mut String, alloc: Global, spec: &Spec) -> anyhow::Result<()>
+/// Adds the symbols that each field affects.
+pub fn add_fields(lines: &mut Lines, alloc: Global, spec: &Spec)
     requires typed { IsTyped spec.now }
 {
-    for (number, structure) in spec.base.structures.items().iter().enumerate() {
-        add_own(text, alloc, spec, number as u32, structure)?;
+    let count = u32::try_from(spec.base.structures.items().len()).unwrap_or(u32::MAX);
+    for structure in 0..count {
+        add_own(lines, alloc, spec, structure);
     }
-    Ok(())
 }

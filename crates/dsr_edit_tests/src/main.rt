@@ -13,33 +13,27 @@ mod edits;
 mod fields;
 mod sessions;
 
-use anyhow::bail;
+use dsr_test_text::Lines;
 use std::alloc::Global;
 use std::io;
 
-fn add_case(text: &mut String, alloc: Global, part: &str) -> anyhow::Result<()> {
-    let Some((heading, rest)) = part.split_once('\n') else {
-        bail!("a heading without its line feed: {part}");
-    };
-    let Some((name, digits)) = heading.split_once(' ') else {
-        bail!("a heading without an image: {heading}");
-    };
-    let Some((spec, script)) = rest.split_once('\n') else {
-        bail!("a case without a specification: {name}");
-    };
-    text.push_str("=== ")?;
-    text.push_str(name)?;
-    text.push_str("\n")?;
-    edits::add_edits(text, alloc, spec.as_bytes(), digits, script.as_bytes())
+fn add_case(lines: &mut Lines, alloc: Global, part: &str) {
+    let (heading, rest) = part.split_once('\n').unwrap_or((part, ""));
+    let (name, digits) = heading.split_once(' ').unwrap_or((heading, ""));
+    let (spec, script) = rest.split_once('\n').unwrap_or((rest, ""));
+    lines.word("=== ");
+    lines.word(name);
+    lines.word("\n");
+    edits::add_edits(lines, alloc, spec.as_bytes(), digits, script.as_bytes());
 }
 
 fn main(rt: HostRuntime) -> anyhow::Result<()> {
     let alloc = rt.alloc();
     let input = io::read_to_string(alloc, rt.stdin())?;
-    let mut text = String::new(alloc);
+    let mut lines = Lines::new(alloc);
     for part in input.split("=== ").skip(1) {
-        add_case(&mut text, alloc, part)?;
+        add_case(&mut lines, alloc, part);
     }
-    rt.print(text)?;
+    rt.print(lines.whole()?)?;
     Ok(())
 }

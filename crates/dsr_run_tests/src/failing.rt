@@ -1,6 +1,6 @@
 // The calls that fail.
-use anyhow::bail;
 use dsr_store::Missed;
+use dsr_test_text::Lines;
 use std::str;
 
 /// The calls that fail, counted from 1; 0 for none.
@@ -14,39 +14,33 @@ pub struct Failing {
     pub cut: u64,
 }
 
-/// The number that these digits are.
-pub fn number_of(digits: &str) -> anyhow::Result<u64> {
-    let Ok(number) = digits.parse::<u64>() else {
-        bail!("no number: {digits}");
-    };
-    Ok(number)
+/// The number that these digits are; 0 where they are none.
+pub fn number_of(digits: &str) -> u64 {
+    digits.parse::<u64>().unwrap_or(0)
 }
 
 /// The calls that fail by the first line; none where it isn't such a line.
-pub fn failing_of(given: &str) -> anyhow::Result<Failing> {
+pub fn failing_of(given: &str) -> Failing {
     let line = given.split('\n').next().unwrap_or(given);
     let numbers = line.strip_prefix("--- ").unwrap_or("0 0");
-    let Some((call, others)) = numbers.split_once(' ') else {
-        bail!("no two numbers: {line}");
-    };
+    let (call, others) = numbers.split_once(' ').unwrap_or((numbers, "0"));
     let (put, cut) = others.split_once(' ').unwrap_or((others, "0"));
-    Ok(Failing {
-        call: number_of(call)?,
-        put: number_of(put)?,
-        cut: number_of(cut)?,
-    })
+    Failing {
+        call: number_of(call),
+        put: number_of(put),
+        cut: number_of(cut),
+    }
 }
 
-/// Appends the call of the shelf that failed, if one did.
-pub fn add_missed(text: &mut String, last: &Option<Missed>) -> anyhow::Result<()> {
+/// Adds the call of the shelf that failed, if one did.
+pub fn add_missed(lines: &mut Lines, last: &Option<Missed>) {
     if let Some(missed) = last {
-        text.push_str(if missed.saving {
+        lines.word(if missed.saving {
             "--- save "
         } else {
             "--- load "
-        })?;
-        text.push_str(str::from_utf8(missed.name.bytes())?)?;
-        text.push_str("\n")?;
+        });
+        lines.word(str::from_utf8(missed.name.bytes()).unwrap_or("?"));
+        lines.word("\n");
     }
-    Ok(())
 }

@@ -1,17 +1,25 @@
 // The files of a run.
 use crate::pieces::add_piece;
+use dsr_ir::NoMemory;
 use dsr_store::{Content, Held, Label};
+use dsr_test_text::Lines;
 use std::alloc::Global;
 use std::str;
 
-fn file_of(alloc: Global, given: &str) -> anyhow::Result<Held> {
-    let (heading, text) = given.split_once('\n').unwrap_or((given, ""));
-    let text = text.strip_suffix('\n').unwrap_or(text);
-    let (name, pieces) = heading.split_once(' ').unwrap_or((heading, ""));
+// A text, and what the words behind the file's name make of it.
+fn content_of(alloc: Global, text: &str, pieces: &str) -> Result<Vec<u8>, NoMemory> {
     let mut bytes = Vec::from_slice(alloc, text.as_bytes())?;
     for word in pieces.split(' ') {
         add_piece(alloc, &mut bytes, word)?;
     }
+    Ok(bytes)
+}
+
+fn file_of(alloc: Global, given: &str) -> Result<Held, NoMemory> {
+    let (heading, text) = given.split_once('\n').unwrap_or((given, ""));
+    let text = text.strip_suffix('\n').unwrap_or(text);
+    let (name, pieces) = heading.split_once(' ').unwrap_or((heading, ""));
+    let bytes = content_of(alloc, text, pieces)?;
     let name = Vec::from_slice(alloc, name.as_bytes())?;
     Ok(Held {
         name: Label::new(name),
@@ -20,7 +28,7 @@ fn file_of(alloc: Global, given: &str) -> anyhow::Result<Held> {
 }
 
 /// The files that are given.
-pub fn files_of(alloc: Global, given: &str) -> anyhow::Result<Vec<Held>> {
+pub fn files_of(alloc: Global, given: &str) -> Result<Vec<Held>, NoMemory> {
     let mut files = Vec::new(alloc);
     for file in given.split("+++ ").skip(1) {
         files.push(file_of(alloc, file)?)?;
@@ -51,38 +59,29 @@ fn name_of<'a>(files: &'a [Held], bytes: &[u8]) -> Option<&'a [u8]> {
     None
 }
 
-// Appends these bytes, or the name of a file that had them before.
-fn add_bytes(
-    text: &mut String,
-    alloc: Global,
-    before: &[Held],
-    bytes: &[u8],
-) -> anyhow::Result<()> {
+// Adds these bytes, or the name of a file that had them before.
+fn add_bytes(lines: &mut Lines, alloc: Global, before: &[Held], bytes: &[u8]) {
     match name_of(before, bytes) {
         Some(name) if bytes.len() > LONG => {
-            text.push_str("= ")?;
-            text.push_str(str::from_utf8(name)?)?;
+            lines.word("= ");
+            lines.word(str::from_utf8(name).unwrap_or("?"));
         }
-        _ => text.push_str(hex::encode(alloc, bytes)?.as_str())?,
+        _ => match hex::encode(alloc, bytes) {
+            Ok(digits) => lines.word(digits.as_str()),
+            Err(_) => lines.word("no memory"),
+        },
     }
-    Ok(())
 }
 
-/// Appends the files that weren't so before.
-pub fn add_saved(
-    text: &mut String,
-    alloc: Global,
-    before: &[Held],
-    after: &[Held],
-) -> anyhow::Result<()> {
+/// Adds the files that weren't so before.
+pub fn add_saved(lines: &mut Lines, alloc: Global, before: &[Held], after: &[Held]) {
     for file in after {
         if !is_among(before, file) {
-            text.push_str("+++ ")?;
-            text.push_str(str::from_utf8(file.name.bytes())?)?;
-            text.push_str(" ")?;
-            add_bytes(text, alloc, before, file.bytes.bytes())?;
-            text.push_str("\n")?;
+            lines.word("+++ ");
+            lines.word(str::from_utf8(file.name.bytes()).unwrap_or("?"));
+            lines.word(" ");
+            add_bytes(lines, alloc, before, file.bytes.bytes());
+            lines.word("\n");
         }
     }
-    Ok(())
 }

@@ -23,18 +23,19 @@ mod files;
 mod pieces;
 mod repeating;
 
-use anyhow::bail;
 use dsr_cli::run;
-use dsr_store::{MemorySink, TornShelf};
-use failing::{add_missed, failing_of};
+use dsr_ir::NoMemory;
+use dsr_script::Status;
+use dsr_store::{Held, MemorySink, Missed, TornShelf};
+use dsr_test_text::Lines;
+use failing::{Failing, add_missed, failing_of};
 use files::add_saved;
-use itoa::Buffer;
 use repeating::{add_runs, begun};
-use std::alloc::Global;
+use std::alloc::{AllocError, Global};
 use std::{io, str};
 
 // The words behind the name.
-fn words_of(alloc: Global, heading: &str) -> anyhow::Result<Vec<String>> {
+fn words_of(alloc: Global, heading: &str) -> Result<Vec<String>, AllocError> {
     let mut words = Vec::new(alloc);
     for word in heading.split(' ').skip(1) {
         words.push(word.to_string(alloc)?)?;
@@ -42,43 +43,84 @@ fn words_of(alloc: Global, heading: &str) -> anyhow::Result<Vec<String>> {
     Ok(words)
 }
 
-fn add_run(text: &mut String, alloc: Global, given: &str) -> anyhow::Result<()> {
-    let Some((heading, files)) = given.split_once('\n') else {
-        bail!("a run without files: {given}");
-    };
-    let name = heading.split(' ').next().unwrap_or("");
-    let words = words_of(alloc, heading)?;
-    let failing = failing_of(files)?;
-    let mut shelf = TornShelf {
-        files: begun(alloc, files)?,
+// How a run ended.
+#[derive(Drop)]
+struct Ended {
+    status: Status,
+    text: Vec<u8>,
+    missed: Option<Missed>,
+    files: Vec<Held>,
+}
+
+// The files of a run, of which a call fails.
+fn shelf_of(alloc: Global, files: Vec<Held>, failing: Failing) -> Result<TornShelf, AllocError> {
+    Ok(TornShelf {
+        files,
         fail: vec![in alloc; failing.call]?,
         cut: failing.cut,
         calls: 0,
         last: None,
-    };
-    let mut out = MemorySink {
+    })
+}
+
+// What is put by a run, of which a put fails.
+fn sink_of(alloc: Global, failing: Failing) -> Result<MemorySink, AllocError> {
+    Ok(MemorySink {
         bytes: Vec::new(alloc),
         fail: vec![in alloc; failing.put]?,
         calls: 0,
-    };
-    let status = run(alloc, &words, &mut shelf, &mut out);
-    text.push_str("=== ")?;
-    text.push_str(name)?;
-    text.push_str(" ")?;
-    text.push_str(Buffer::new().format(status.number()))?;
-    text.push_str("\n")?;
-    text.push_str(str::from_utf8(&out.bytes)?)?;
-    add_missed(text, &shelf.last)?;
-    add_saved(text, alloc, &begun(alloc, files)?, &shelf.files)
+    })
+}
+
+fn ended(
+    alloc: Global,
+    words: &Vec<String>,
+    files: Vec<Held>,
+    failing: Failing,
+) -> Result<Ended, AllocError> {
+    let mut shelf = shelf_of(alloc, files, failing)?;
+    let mut out = sink_of(alloc, failing)?;
+    let status = run(alloc, words, &mut shelf, &mut out);
+    Ok(Ended {
+        status,
+        text: out.bytes,
+        missed: shelf.last,
+        files: shelf.files,
+    })
+}
+
+// The run of these words over the files that are given.
+fn run_given(alloc: Global, heading: &str, given: &str) -> Result<Ended, NoMemory> {
+    let words = words_of(alloc, heading)?;
+    let files = begun(alloc, given)?;
+    Ok(ended(alloc, &words, files, failing_of(given))?)
+}
+
+fn add_ended(lines: &mut Lines, alloc: Global, ended: &Ended, before: &[Held]) {
+    lines.part(" ", u64::from(ended.status.number()));
+    lines.word("\n");
+    lines.word(str::from_utf8(&ended.text).unwrap_or("no text\n"));
+    add_missed(lines, &ended.missed);
+    add_saved(lines, alloc, before, &ended.files);
+}
+
+fn add_run(lines: &mut Lines, alloc: Global, given: &str) {
+    let (heading, files) = given.split_once('\n').unwrap_or((given, ""));
+    lines.word("=== ");
+    lines.word(heading.split(' ').next().unwrap_or(""));
+    match (run_given(alloc, heading, files), begun(alloc, files)) {
+        (Ok(ended), Ok(before)) => add_ended(lines, alloc, &ended, &before),
+        _ => lines.word(" no memory\n"),
+    }
 }
 
 fn main(rt: HostRuntime) -> anyhow::Result<()> {
     let alloc = rt.alloc();
     let input = io::read_to_string(alloc, rt.stdin())?;
-    let mut text = String::new(alloc);
+    let mut lines = Lines::new(alloc);
     for given in input.split("=== ").skip(1) {
-        add_runs(&mut text, alloc, given)?;
+        add_runs(&mut lines, alloc, given);
     }
-    rt.print(text)?;
+    rt.print(lines.whole()?)?;
     Ok(())
 }

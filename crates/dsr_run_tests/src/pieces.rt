@@ -1,13 +1,14 @@
 // What the words behind a file's name make of it.
 use crate::failing::number_of;
-use anyhow::bail;
 use dsr_gen::trial_image;
+use dsr_ir::NoMemory;
 use std::alloc::Global;
 
-fn decoded(alloc: Global, digits: &str) -> anyhow::Result<Vec<u8>> {
+// The bytes that these digits are; none where they aren't hexadecimal ones.
+fn decoded(alloc: Global, digits: &str) -> Vec<u8> {
     match hex::decode(alloc, digits) {
-        Ok(bytes) => Ok(bytes),
-        Err(_) => bail!("no hexadecimal digits: {digits}"),
+        Ok(bytes) => bytes,
+        Err(_) => Vec::new(alloc),
     }
 }
 
@@ -23,42 +24,29 @@ fn add(number: &mut [u8], step: &[u8]) {
 }
 
 // Appends `HEX*COUNT+HEX`, of which the end may be left out.
-fn add_repeated(alloc: Global, bytes: &mut Vec<u8>, word: &str) -> anyhow::Result<()> {
+fn add_repeated(alloc: Global, bytes: &mut Vec<u8>, word: &str) -> Result<(), NoMemory> {
     let (digits, times) = word.split_once('*').unwrap_or((word, "1"));
     let (count, step) = times.split_once('+').unwrap_or((times, ""));
-    let count = number_of(count)?;
-    let step = decoded(alloc, step)?;
-    let mut piece = decoded(alloc, digits)?;
-    for _ in 0..count {
+    let step = decoded(alloc, step);
+    let mut piece = decoded(alloc, digits);
+    for _ in 0..number_of(count) {
         bytes.extend_from_slice(&piece)?;
         add(&mut piece, &step);
     }
     Ok(())
 }
 
-fn add_trial(alloc: Global, bytes: &mut Vec<u8>, digits: &str) -> anyhow::Result<()> {
-    let Ok(number) = digits.parse::<u16>() else {
-        bail!("no number of a trial");
-    };
-    match trial_image(alloc, number) {
-        Ok(image) => bytes.extend_from_slice(&image)?,
-        Err(_) => bail!("no memory"),
-    }
-    Ok(())
-}
-
-fn cut(bytes: &mut Vec<u8>, digits: &str) -> anyhow::Result<()> {
-    let Ok(count) = digits.parse::<usize>() else {
-        bail!("no number of bytes");
-    };
-    bytes.truncate(count);
+fn add_trial(alloc: Global, bytes: &mut Vec<u8>, digits: &str) -> Result<(), NoMemory> {
+    let image = trial_image(alloc, digits.parse::<u16>().unwrap_or(0))?;
+    bytes.extend_from_slice(&image)?;
     Ok(())
 }
 
 /// Does what the word says to the bytes so far.
-pub fn add_piece(alloc: Global, bytes: &mut Vec<u8>, word: &str) -> anyhow::Result<()> {
+pub fn add_piece(alloc: Global, bytes: &mut Vec<u8>, word: &str) -> Result<(), NoMemory> {
     if let Some(digits) = word.strip_prefix('<') {
-        return cut(bytes, digits);
+        bytes.truncate(digits.parse::<usize>().unwrap_or(0));
+        return Ok(());
     }
     match word.strip_prefix("trial:") {
         Some(digits) => add_trial(alloc, bytes, digits),

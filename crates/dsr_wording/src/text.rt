@@ -3,6 +3,7 @@ use crate::text_of;
 use dsr_ir::NoMemory;
 use itoa::Buffer;
 use std::alloc::Global;
+use std::fmt::{Display, Write};
 
 /// A text that grows by pieces. Where memory runs out, what is added from then on is left out, and
 /// that is told in the end: so what writes a text has nothing to pass on.
@@ -32,6 +33,13 @@ impl Text {
     pub fn pieces(&mut self, pieces: &[&str]) {
         for piece in pieces {
             self.push(piece);
+        }
+    }
+
+    /// Appends what a value shows of itself.
+    pub fn shown<D: Display>(&mut self, value: &D) {
+        if write!(self.text, "{value}").is_err() {
+            self.is_cut = true;
         }
     }
 

@@ -1,5 +1,6 @@
 // Colours of what is told on a terminal.
 use dsr_ir::NoMemory;
+use dsr_wording::Text;
 use std::alloc::Global;
 
 const RED: &str = "\x1b[1;31m";
@@ -34,13 +35,12 @@ fn colour_of(line: &str) -> &'static str {
 
 /// The text with its lines coloured.
 pub fn coloured(alloc: Global, text: &str) -> Result<String, NoMemory> {
-    let mut shown = String::new(alloc);
+    let mut shown = Text::new(alloc);
     for line in text.lines() {
-        let colour = colour_of(line);
-        shown.push_str(colour)?;
-        shown.push_str(line)?;
-        shown.push_str(if colour.is_empty() { "" } else { PLAIN })?;
-        shown.push('\n')?;
+        match colour_of(line) {
+            "" => shown.pieces(&[line, "\n"]),
+            colour => shown.pieces(&[colour, line, PLAIN, "\n"]),
+        }
     }
-    Ok(shown)
+    shown.whole()
 }

@@ -1,7 +1,7 @@
 // Why a file can't be read or saved, as the system tells it.
 use dsr_ir::NoMemory;
+use dsr_wording::Text;
 use std::alloc::Global;
-use std::fmt::Write;
 use std::fs::{self, OpenOptions};
 use std::os::unix::fs::MetadataExt;
 use std::path::Path;
@@ -16,16 +16,15 @@ fn is_folder<R: Files>(rt: &R, name: &str) -> bool {
 }
 
 // Why a file can't be read, as far as that can be told now.
-fn push_read_reason<R: Files>(text: &mut String, rt: &R, name: &str) -> Result<(), NoMemory> {
+fn push_read_reason<R: Files>(text: &mut Text, rt: &R, name: &str) {
     if is_folder(rt, name) {
-        text.push_str("it is a folder")?;
-        return Ok(());
+        text.push("it is a folder");
+        return;
     }
     match fs::open(rt, name) {
-        Ok(_file) => text.push_str("reading it failed")?,
-        Err(error) => write!(text, "{error}")?,
+        Ok(_file) => text.push("reading it failed"),
+        Err(error) => text.shown(&error),
     }
-    Ok(())
 }
 
 // The folder of a file.
@@ -37,36 +36,42 @@ fn folder_of(name: &str) -> &str {
     }
 }
 
+const NO_FILE: &str = ", for want of leave or of room";
+
 // Why no file can be made in a folder, as far as can be told without making one.
-fn push_folder_reason<R: Files>(text: &mut String, rt: &R, name: &str) -> Result<(), NoMemory> {
+fn push_folder_reason<R: Files>(text: &mut Text, rt: &R, name: &str) {
     let folder = folder_of(name);
     match fs::metadata(rt, folder) {
-        Ok(found) if !found.is_dir() => write!(text, "{folder} is no folder")?,
-        Ok(_found) => write!(
-            text,
-            "no file can be made in the folder {folder}, for want of leave or of room"
-        )?,
-        Err(error) => write!(text, "the folder {folder}: {error}")?,
+        Ok(found) if !found.is_dir() => text.pieces(&[folder, " is no folder"]),
+        Ok(_found) => text.pieces(&["no file can be made in the folder ", folder, NO_FILE]),
+        Err(error) => {
+            text.pieces(&["the folder ", folder, ": "]);
+            text.shown(&error);
+        }
     }
-    Ok(())
+}
+
+// Whether there is a file of this name that can't be written; then its reason is appended.
+fn is_held_back<R: Files>(text: &mut Text, rt: &R, name: &str) -> bool {
+    if fs::metadata(rt, name).is_err() {
+        return false;
+    }
+    match OpenOptions::new().write(true).open(rt, name) {
+        Ok(_file) => false,
+        Err(error) => {
+            text.shown(&error);
+            true
+        }
+    }
 }
 
 // Why a file can't be saved.
-fn push_save_reason<R: Files>(text: &mut String, rt: &R, name: &str) -> Result<(), NoMemory> {
+fn push_save_reason<R: Files>(text: &mut Text, rt: &R, name: &str) {
     if is_folder(rt, name) {
-        text.push_str("it is a folder")?;
-        return Ok(());
+        text.push("it is a folder");
+    } else if !is_held_back(text, rt, name) {
+        push_folder_reason(text, rt, name);
     }
-    if fs::metadata(rt, name).is_ok() {
-        match OpenOptions::new().write(true).open(rt, name) {
-            Ok(_file) => {}
-            Err(error) => {
-                write!(text, "{error}")?;
-                return Ok(());
-            }
-        }
-    }
-    push_folder_reason(text, rt, name)
 }
 
 /// Why a call for a file failed.
@@ -76,16 +81,17 @@ pub fn reason<R: Files>(
     saving: bool,
     name: &str,
 ) -> Result<String, NoMemory> {
-    let mut text = String::new(alloc);
+    let mut text = Text::new(alloc);
+    text.push(name);
     if saving {
-        write!(text, "{name} can't be saved: ")?;
-        push_save_reason(&mut text, rt, name)?;
+        text.push(" can't be saved: ");
+        push_save_reason(&mut text, rt, name);
     } else {
-        write!(text, "{name} can't be read: ")?;
-        push_read_reason(&mut text, rt, name)?;
+        text.push(" can't be read: ");
+        push_read_reason(&mut text, rt, name);
     }
-    text.push('\n')?;
-    Ok(text)
+    text.push("\n");
+    text.whole()
 }
 
 /// Whether two names are those of one file.

@@ -116,6 +116,17 @@ pub fn run_dsr<R: Files + Print + Eprint>(
     }
 }
 
+// Puts which image an answer is of, and gives the status.
+fn put_heading<R: Print + Eprint>(rt: &R, alloc: Global, image: &str) -> u8 {
+    for piece in ["image ", image, "\n"] {
+        let status = put(rt, alloc, piece.as_bytes(), 0);
+        if status != 0 {
+            return status;
+        }
+    }
+    0
+}
+
 /// Checks each image, and gives the greatest status.
 pub fn check_all<R: Files + Print + Eprint>(
     rt: &R,
@@ -127,8 +138,7 @@ pub fn check_all<R: Files + Print + Eprint>(
     let mut status = 0;
     for image in images {
         if images.len() > 1 && !manner.json {
-            let heading = format!(in alloc; "image {image}\n")?;
-            status = status.max(put(rt, alloc, heading.as_bytes(), 0));
+            status = status.max(put_heading(rt, alloc, image));
         }
         let words = with_file(alloc, words, image)?;
         status = status.max(run_dsr(rt, alloc, &words, manner)?);

@@ -1,8 +1,8 @@
 // What the words ask for.
-use crate::input::INPUT;
 use crate::table::{Argument, Kind, arguments_of};
 use clap::ArgMatches;
 use dsr_explain::Telling;
+use dsr_input::INPUT;
 use dsr_ir::NoMemory;
 use std::alloc::Global;
 

@@ -7,7 +7,6 @@ mod asking;
 mod colours;
 mod commands;
 mod completions;
-mod input;
 mod putting;
 mod reasons;
 mod running;

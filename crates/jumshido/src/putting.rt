@@ -1,7 +1,7 @@
 // What is put to the standard output, and told on the standard error.
 use crate::colours::coloured;
-use crate::input::InputShelf;
 use crate::reasons::reason;
+use dsr_input::InputShelf;
 use dsr_ir::NoMemory;
 use dsr_store::{Sink, StdSink};
 use std::alloc::Global;

@@ -1,9 +1,9 @@
 // Commands that are run, each to its status.
 use crate::asking::{Asked, with_file};
-use crate::input::InputShelf;
 use crate::putting::{Manner, missed_told, put, tell};
 use dsr_cli::run;
 use dsr_explain::{Shown, draw, explained, from_c, show, tell as tell_spec};
+use dsr_input::InputShelf;
 use dsr_ir::NoMemory;
 use dsr_json::document;
 use dsr_script::Status;

@@ -1,6 +1,10 @@
-// The system's files. What is no plain file, as the standard input or a pipe, can be read once
-// alone, and what was saved to it can't be read at all: so such bytes are kept.
-ghost use Rattle.std.specs.Prelude.{◌≡◌, ◌≤◌, IfOk, None, vec_len};
+//! The system's files, with the bytes of what is no plain file kept: the standard input or a pipe
+//! can be read once alone, and what was saved to it can't be read at all.
+#![tactic(auto)]
+
+ghost use Rattle.std.specs.Prelude.{◌≡◌, ◌≤◌, IfOk, None, Some, vec_len};
+ghost use Rattle.dsr_store.specs.Causes.{Rose};
+ghost use Rattle.dsr_store.specs.declared.outside.ShelfFault.TheVariants.{Failed};
 
 use dsr_store::{FileShelf, Label, Missed, Shelf, ShelfFault};
 use std::alloc::{AllocError, Global};
@@ -13,11 +17,11 @@ pub const INPUT: &str = "/dev/stdin";
 // The most bytes of a file that any command reads, and one more, which shows that it has more.
 const MOST: u64 = 67_108_865;
 
-/// What is no plain file, with the bytes that it gave or was given.
+// What is no plain file, with the bytes that it gave or was given.
 #[derive(Drop)]
-pub struct Kept {
-    pub name: String,
-    pub bytes: Vec<u8>,
+struct Kept {
+    name: String,
+    bytes: Vec<u8>,
 }
 
 /// The system's files, with the bytes of those that can't be read again.
@@ -149,6 +153,18 @@ impl<'a, R: Files> InputShelf<'a, R> {
     pub fn missed(&self) -> &Option<Missed> {
         &self.last
     }
+
+    // Counts a call that failed, and keeps that it is the last one.
+    fn failed(&mut self, missed: Missed) -> ShelfFault
+        ensures failed { result ≡ Failed }
+        ensures later { self.old.faults ≤ self.new.faults }
+        ensures counted { Rose self.old.faults self.new.faults }
+        ensures last { self.new.last ≡ Some missed }
+    {
+        self.faults = self.faults.saturating_add(1);
+        self.last = Some(missed);
+        ShelfFault::Failed
+    }
 }
 
 impl<'a, R: Files> Shelf for InputShelf<'a, R> {
@@ -163,22 +179,14 @@ impl<'a, R: Files> Shelf for InputShelf<'a, R> {
         match load_or_kept(self.rt, &mut self.kept, alloc, name, cap) {
             Ok(bytes) => Ok(bytes),
             Err(ShelfFault::NoMemory) => Err(ShelfFault::NoMemory),
-            Err(ShelfFault::Failed) => {
-                self.faults = self.faults.saturating_add(1);
-                self.last = Some(missed);
-                Err(ShelfFault::Failed)
-            }
+            Err(ShelfFault::Failed) => Err(self.failed(missed)),
         }
     }
 
     fn save(&mut self, alloc: Global, name: &str, bytes: &[u8]) -> Result<(), ShelfFault> {
         let missed = call_of(alloc, true, name)?;
         match save_and_keep(self.rt, &mut self.kept, alloc, name, bytes) {
-            Err(ShelfFault::Failed) => {
-                self.faults = self.faults.saturating_add(1);
-                self.last = Some(missed);
-                Err(ShelfFault::Failed)
-            }
+            Err(ShelfFault::Failed) => Err(self.failed(missed)),
             saved => saved,
         }
     }

@@ -9,7 +9,6 @@ ghost use Rattle.dsr_meaning.specs.Typed.{IsTyped};
 
 mod counted;
 
-use anyhow::bail;
 use counted::Counted;
 use dsr_command_image::laid_out;
 use dsr_command_plan::{Found, find};
@@ -19,7 +18,8 @@ use dsr_log::Log;
 use dsr_plan_theory::Plan;
 use dsr_repair::repair;
 use dsr_repair_theory::Outcome;
-use std::alloc::Global;
+use dsr_test_text::Lines;
+use std::alloc::{AllocError, Global};
 use std::io;
 
 /// How many slots the image has.
@@ -29,50 +29,81 @@ const SLOTS: u32 = 200_000;
 /// step would read it more than a thousand times as often.
 const MOST: u64 = 16_000_000;
 
+// The most bytes of an image.
+const MOST_BYTES: usize = 67_108_864;
+
+// What a repair took.
+#[derive(Clone, Copy)]
+struct Work {
+    updates: u64,
+    reads: u64,
+}
+
 // The image of so many slots.
-fn image(alloc: Global) -> anyhow::Result<Vec<u8>> {
+fn image(alloc: Global) -> Result<Vec<u8>, AllocError> {
     let mut bytes = Vec::with_capacity(alloc, 200_004)?;
     bytes.extend_from_slice(&SLOTS.to_le_bytes())?;
     bytes.resize(200_004, 0)?;
     Ok(bytes)
 }
 
-// Repairs it, and tells the number of steps and whether it was read too often.
-fn work(alloc: Global, plan: &Plan) -> anyhow::Result<String>
+// Repairs an image; nothing where it doesn't come to a consistent one.
+fn work(alloc: Global, plan: &Plan, bytes: Vec<u8>) -> Option<Work>
     requires { IsTyped plan.now.0 }
 {
-    let bytes = image(alloc)?;
-    if bytes.len() > 67_108_864 {
-        bail!("too long an image");
+    if bytes.len() > MOST_BYTES {
+        return None;
     }
     let Ok(layout) = laid_out(alloc, plan.spec(), &bytes) else {
-        bail!("no layout");
+        return None;
     };
     let mut counted = Counted::new(bytes);
     let mut log = Log::new(alloc);
-    let Ok(Outcome::Consistent) = repair(alloc, plan, &layout, &mut counted, &mut log) else {
-        bail!("no consistent image");
-    };
-    let within = counted.reads() <= MOST;
-    Ok(format!(in alloc; "updates {}, read within {MOST}: {within}\n", log.len())?)
+    match repair(alloc, plan, &layout, &mut counted, &mut log) {
+        Ok(Outcome::Consistent) => Some(Work {
+            updates: log.len() as u64,
+            reads: counted.reads(),
+        }),
+        _ => None,
+    }
 }
 
-fn plan_and_work(alloc: Global, spec: &Spec) -> anyhow::Result<String>
+fn plan_and_work(alloc: Global, spec: &Spec) -> Option<Work>
     requires { IsTyped spec.now }
 {
+    let Ok(bytes) = image(alloc) else {
+        return None;
+    };
     match find(alloc, spec) {
-        Ok(Found::Plan(choice)) => work(alloc, &Plan::adopt(spec, choice)),
-        _ => bail!("no plan"),
+        Ok(Found::Plan(choice)) => work(alloc, &Plan::adopt(spec, choice), bytes),
+        _ => None,
     }
+}
+
+// Tells the number of steps, and whether the image was read too often.
+fn add_work(lines: &mut Lines, work: Option<Work>) {
+    let Some(work) = work else {
+        lines.word("no repair\n");
+        return;
+    };
+    lines.part("updates ", work.updates);
+    lines.part(", read within ", MOST);
+    lines.word(if work.reads <= MOST {
+        ": true\n"
+    } else {
+        ": false\n"
+    });
 }
 
 fn main(rt: HostRuntime) -> anyhow::Result<()> {
     let alloc = rt.alloc();
     let text = io::read_to_string(alloc, rt.stdin())?;
-    let line = match read(alloc, text.as_bytes()) {
-        Ok(Reading::Means(_, spec)) => plan_and_work(alloc, &spec)?,
-        _ => bail!("no specification"),
+    let work = match read(alloc, text.as_bytes()) {
+        Ok(Reading::Means(_, spec)) => plan_and_work(alloc, &spec),
+        _ => None,
     };
-    rt.print(line)?;
+    let mut lines = Lines::new(alloc);
+    add_work(&mut lines, work);
+    rt.print(lines.whole()?)?;
     Ok(())
 }

@@ -17,7 +17,7 @@ use dsr_wording::{Text, text_of};
 use std::alloc::Global;
 
 // What an answer means, as far as a specification tells it.
-#[derive(Clone, Copy, PartialEq, Eq)]
+#[derive(Clone, Copy)]
 enum About {
     /// What is wrong with its text.
     Text,
@@ -124,7 +124,7 @@ fn push_by_spec<F: Shelf>(text: &mut Text, shelf: &mut F, words: &[String], abou
     match &read {
         SpecRead::Means(meaning) => push_about(text, shelf, meaning, words, about, out),
         SpecRead::Refused(source, diagnosis) => {
-            if about == About::Text {
+            if matches!(about, About::Text) {
                 push_diagnosis(text, word(words, 1), source, diagnosis);
             }
         }

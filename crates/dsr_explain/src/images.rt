@@ -65,8 +65,9 @@ pub fn image_told(text: &mut Text, meaning: &Meaning, name: &str, bytes: &[u8])
 
 // Keeps that memory ran out, where that is why there is no model.
 fn keep_fault(text: &mut Text, fault: LayoutFault) {
-    if fault == LayoutFault::NoMemory {
-        text.cut();
+    match fault {
+        LayoutFault::NoMemory => text.cut(),
+        _ => {}
     }
 }
 

@@ -9,3 +9,4 @@ IsTypedRead (reads.Means meaning) = IsTyped meaning.spec
 IsTypedRead (reads.Refused text diagnosis) = Unit {0}
 IsTypedRead reads.TooLong = Unit {0}
 IsTypedRead reads.Missed = Unit {0}
+IsTypedRead reads.NoMemory = Unit {0}

@@ -6,16 +6,30 @@ use crate::chains::chain_told;
 use crate::images::{image_told, push_members};
 use crate::limits::{IMAGE_LIMIT, too_long};
 use crate::outcomes::outcome_told;
-use crate::plans::{Declared, refusal_told};
-use crate::reading::{Meaning, SpecRead, loaded, read_spec};
+use crate::plans::refusal_told;
+use crate::reading::{Meaning, SpecRead, push_diagnosis, read_spec};
 use crate::refusals::{certificate_refused, edit_refused, report_refused};
 use crate::reports::report_told;
-use dsr_diagnosis::shown;
 use dsr_ir::NoMemory;
 use dsr_script::{Status, Verdict};
-use dsr_store::Shelf;
+use dsr_store::{Shelf, ShelfFault};
 use dsr_wording::{Text, text_of};
 use std::alloc::Global;
+
+// What an answer means, as far as a specification tells it.
+#[derive(Clone, Copy)]
+enum About {
+    /// What is wrong with its text.
+    Text,
+    /// What is wrong with an image.
+    Image,
+    /// What stands in the way of a plan.
+    Plan,
+    /// By which rules a chain goes.
+    Chain,
+    /// Which records are members of what is saved, and aren't of an image, or the other way round.
+    Saved,
+}
 
 // A word of a command, by its place.
 fn word(words: &[String], place: usize) -> &str {
@@ -25,162 +39,107 @@ fn word(words: &[String], place: usize) -> &str {
     }
 }
 
-// What is wrong with a specification.
-fn spec_refused<F: Shelf>(alloc: Global, shelf: &mut F, name: &str) -> Result<String, NoMemory>
-    ensures held { F.held shelf.new ≡ F.held shelf.old }
-{
-    match read_spec(alloc, shelf, name)? {
-        SpecRead::Refused(text, diagnosis) => shown(alloc, name, &text, &diagnosis),
-        _ => Ok(String::new(alloc)),
+// Keeps that memory ran out, where that is why a file wasn't read.
+fn keep_fault(text: &mut Text, fault: ShelfFault) {
+    match fault {
+        ShelfFault::Failed => {}
+        ShelfFault::NoMemory => text.cut(),
     }
 }
 
-// What is wrong with an image by a specification.
-fn image_file_refused<F: Shelf>(
-    alloc: Global,
+// Appends what is wrong with an image.
+fn push_image<F: Shelf>(text: &mut Text, shelf: &mut F, meaning: &Meaning, name: &str)
+    requires { IsTyped meaning.now.spec }
+    ensures held { F.held shelf.new ≡ F.held shelf.old }
+{
+    match shelf.load(text.allocator(), name, IMAGE_LIMIT) {
+        Ok(bytes) => image_told(text, meaning, name, &bytes),
+        Err(fault) => keep_fault(text, fault),
+    }
+}
+
+// Appends how the members of what is saved differ from those of an image.
+fn push_other<F: Shelf>(
+    text: &mut Text,
     shelf: &mut F,
     meaning: &Meaning,
-    name: &str,
-) -> Result<String, NoMemory>
+    before: &[u8],
+    saved: &str,
+)
     requires { IsTyped meaning.now.spec }
     ensures held { F.held shelf.new ≡ F.held shelf.old }
 {
-    match loaded(alloc, shelf, name, IMAGE_LIMIT)? {
-        Some(bytes) => image_told(alloc, meaning, name, bytes),
-        None => Ok(String::new(alloc)),
+    match shelf.load(text.allocator(), saved, IMAGE_LIMIT) {
+        Ok(after) => push_members(text, meaning, before, &after),
+        Err(fault) => keep_fault(text, fault),
     }
 }
 
-// What is wrong with an image.
-fn image_refused<F: Shelf>(
-    alloc: Global,
-    shelf: &mut F,
-    spec: &str,
-    name: &str,
-) -> Result<String, NoMemory>
+// The same, of an image that is read first.
+fn push_saved<F: Shelf>(text: &mut Text, shelf: &mut F, meaning: &Meaning, words: &[String])
+    requires { IsTyped meaning.now.spec }
     ensures held { F.held shelf.new ≡ F.held shelf.old }
 {
-    match read_spec(alloc, shelf, spec)? {
-        SpecRead::Means(meaning) => image_file_refused(alloc, shelf, &meaning, name),
-        _ => Ok(String::new(alloc)),
+    match shelf.load(text.allocator(), word(words, 2), IMAGE_LIMIT) {
+        Ok(before) => push_other(text, shelf, meaning, &before, word(words, 3)),
+        Err(fault) => keep_fault(text, fault),
     }
 }
 
-// What stands in the way of a plan for a specification.
-fn plan_told(alloc: Global, meaning: &Meaning, name: &str, out: &str) -> Result<String, NoMemory>
+// Appends what stands in the way of a plan.
+fn push_plan(text: &mut Text, meaning: &Meaning, name: &str, out: &str)
     requires { IsTyped meaning.now.spec }
 {
-    let mut text = Text::new(alloc);
     text.push(name);
     text.push(": ");
-    let declared = Declared {
-        text: &meaning.text,
-        tree: &meaning.tree,
-        spec: &meaning.spec,
-    };
-    refusal_told(&mut text, &declared, out)?;
-    text.whole()
+    refusal_told(text, meaning, out);
 }
 
-// What stands in the way of a plan.
-fn plan_refused<F: Shelf>(
-    alloc: Global,
-    shelf: &mut F,
-    name: &str,
-    out: &[u8],
-) -> Result<String, NoMemory>
-    ensures held { F.held shelf.new ≡ F.held shelf.old }
-{
-    match read_spec(alloc, shelf, name)? {
-        SpecRead::Means(meaning) => plan_told(alloc, &meaning, name, text_of(out)),
-        _ => Ok(String::new(alloc)),
-    }
-}
-
-// What the steps of a report did.
-fn reported(alloc: Global, out: &[u8]) -> Result<String, NoMemory> {
-    let mut text = Text::new(alloc);
-    report_told(&mut text, text_of(out));
-    text.whole()
-}
-
-// Appends which records are members of what is saved, and aren't of an image, or the other way
-// round.
-fn push_images<F: Shelf>(
-    alloc: Global,
-    shelf: &mut F,
+// Appends what an answer means by a specification that means something.
+fn push_about<F: Shelf>(
     text: &mut Text,
+    shelf: &mut F,
     meaning: &Meaning,
     words: &[String],
-) -> Result<(), NoMemory>
+    about: About,
+    out: &str,
+)
     requires { IsTyped meaning.now.spec }
     ensures held { F.held shelf.new ≡ F.held shelf.old }
 {
-    let Some(before) = loaded(alloc, shelf, word(words, 2), IMAGE_LIMIT)? else {
-        return Ok(());
-    };
-    match loaded(alloc, shelf, word(words, 3), IMAGE_LIMIT)? {
-        Some(after) => push_members(alloc, text, meaning, before, after),
-        None => Ok(()),
+    match about {
+        About::Text => {}
+        About::Image => push_image(text, shelf, meaning, word(words, 2)),
+        About::Plan => push_plan(text, meaning, word(words, 1), out),
+        About::Chain => chain_told(text, meaning, word(words, 3), out),
+        About::Saved => push_saved(text, shelf, meaning, words),
     }
 }
 
-// The same, by a specification that is read first.
-fn push_saved<F: Shelf>(
-    alloc: Global,
-    shelf: &mut F,
-    text: &mut Text,
-    words: &[String],
-) -> Result<(), NoMemory>
+// Appends what an answer means by a specification, which is read first.
+fn push_by_spec<F: Shelf>(text: &mut Text, shelf: &mut F, words: &[String], about: About, out: &str)
     ensures held { F.held shelf.new ≡ F.held shelf.old }
 {
-    match read_spec(alloc, shelf, word(words, 1))? {
-        SpecRead::Means(meaning) => push_images(alloc, shelf, text, &meaning, words),
-        _ => Ok(()),
+    let read = read_spec(text.allocator(), shelf, word(words, 1));
+    match &read {
+        SpecRead::Means(meaning) => push_about(text, shelf, meaning, words, about, out),
+        SpecRead::Refused(source, diagnosis) => {
+            if matches!(about, About::Text) {
+                push_diagnosis(text, word(words, 1), source, diagnosis);
+            }
+        }
+        SpecRead::TooLong | SpecRead::Missed => {}
+        SpecRead::NoMemory => text.cut(),
     }
 }
 
-// What a repair did, and which records are members or no longer are.
-fn repaired<F: Shelf>(
-    alloc: Global,
-    shelf: &mut F,
-    words: &[String],
-    out: &[u8],
-) -> Result<String, NoMemory>
+// Appends what a repair did, and which records are members or no longer are.
+fn push_repaired<F: Shelf>(text: &mut Text, shelf: &mut F, words: &[String], out: &str)
     ensures held { F.held shelf.new ≡ F.held shelf.old }
 {
-    let mut text = Text::new(alloc);
-    report_told(&mut text, text_of(out));
+    report_told(text, out);
     if !text.is_empty() && word(words, 2) != word(words, 3) {
-        push_saved(alloc, shelf, &mut text, words)?;
-    }
-    text.whole()
-}
-
-// By which rules a chain goes in a specification.
-fn chain_shown(
-    alloc: Global,
-    meaning: &Meaning,
-    asked: &str,
-    out: &str,
-) -> Result<String, NoMemory> {
-    let mut text = Text::new(alloc);
-    chain_told(&mut text, meaning, asked, out);
-    text.whole()
-}
-
-// By which rules a chain goes.
-fn chain_found<F: Shelf>(
-    alloc: Global,
-    shelf: &mut F,
-    words: &[String],
-    out: &[u8],
-) -> Result<String, NoMemory>
-    ensures held { F.held shelf.new ≡ F.held shelf.old }
-{
-    match read_spec(alloc, shelf, word(words, 1))? {
-        SpecRead::Means(meaning) => chain_shown(alloc, &meaning, word(words, 3), text_of(out)),
-        _ => Ok(String::new(alloc)),
+        push_by_spec(text, shelf, words, About::Saved, out);
     }
 }
 
@@ -188,43 +147,55 @@ const USAGE: &str = "\
 error: the words ask for nothing: no file has an empty name or one that begins with -, what is saved \
 has another name than the specification, and N is a number up to 65535\n";
 
-// What the answer of a command means that did what it was asked for.
-fn done<F: Shelf>(
-    alloc: Global,
-    shelf: &mut F,
-    words: &[String],
-    out: &[u8],
-) -> Result<String, NoMemory>
+// Appends what the answer of a command means that did what it was asked for.
+fn push_done<F: Shelf>(text: &mut Text, shelf: &mut F, words: &[String], out: &str)
     ensures held { F.held shelf.new ≡ F.held shelf.old }
 {
     match word(words, 0) {
-        "repair" => repaired(alloc, shelf, words, out),
-        "why" => chain_found(alloc, shelf, words, out),
-        command => outcome_told(alloc, command, word(words, 4), text_of(out)),
+        "repair" => push_repaired(text, shelf, words, out),
+        "why" => push_by_spec(text, shelf, words, About::Chain, out),
+        command => outcome_told(text, command, word(words, 4), out),
     }
 }
 
-// What a command's own verdict means.
-fn said<F: Shelf>(
-    alloc: Global,
+// Appends what a command's own verdict means.
+fn push_said<F: Shelf>(
+    text: &mut Text,
     shelf: &mut F,
     words: &[String],
     verdict: Verdict,
-    out: &[u8],
-) -> Result<String, NoMemory>
+    out: &str,
+)
     ensures held { F.held shelf.new ≡ F.held shelf.old }
 {
-    let (spec, file) = (word(words, 1), word(words, 2));
     match verdict {
-        Verdict::SpecRefused => spec_refused(alloc, shelf, spec),
-        Verdict::Inconsistent | Verdict::LayoutRefused => image_refused(alloc, shelf, spec, file),
-        Verdict::PlanRefused => plan_refused(alloc, shelf, spec, out),
-        Verdict::CertRefused => certificate_refused(alloc, file, text_of(out)),
-        Verdict::ReportRefused => report_refused(alloc, word(words, 3), text_of(out)),
-        Verdict::Usage => Ok(USAGE.to_string(alloc)?),
-        Verdict::Ok => done(alloc, shelf, words, out),
-        Verdict::SupplyEmpty => reported(alloc, out),
-        Verdict::EditRefused => edit_refused(alloc, word(words, 3), text_of(out)),
+        Verdict::SpecRefused => push_by_spec(text, shelf, words, About::Text, out),
+        Verdict::Inconsistent => push_by_spec(text, shelf, words, About::Image, out),
+        Verdict::LayoutRefused => push_by_spec(text, shelf, words, About::Image, out),
+        Verdict::PlanRefused => push_by_spec(text, shelf, words, About::Plan, out),
+        Verdict::CertRefused => certificate_refused(text, word(words, 2), out),
+        Verdict::ReportRefused => report_refused(text, word(words, 3), out),
+        Verdict::Usage => text.push(USAGE),
+        Verdict::Ok => push_done(text, shelf, words, out),
+        Verdict::SupplyEmpty => report_told(text, out),
+        Verdict::EditRefused => edit_refused(text, word(words, 3), out),
+    }
+}
+
+// Appends what an answer means.
+fn push_explained<F: Shelf>(
+    text: &mut Text,
+    shelf: &mut F,
+    words: &[String],
+    status: &Status,
+    out: &[u8],
+)
+    ensures held { F.held shelf.new ≡ F.held shelf.old }
+{
+    match status {
+        Status::Said(verdict) => push_said(text, shelf, words, *verdict, text_of(out)),
+        Status::TooLong => text.push(too_long(out)),
+        _ => {}
     }
 }
 
@@ -239,9 +210,7 @@ pub fn explained<F: Shelf>(
 ) -> Result<String, NoMemory>
     ensures held { F.held shelf.new ≡ F.held shelf.old }
 {
-    match status {
-        Status::Said(verdict) => said(alloc, shelf, words, *verdict, out),
-        Status::TooLong => Ok(too_long(out).to_string(alloc)?),
-        _ => Ok(String::new(alloc)),
-    }
+    let mut text = Text::new(alloc);
+    push_explained(&mut text, shelf, words, status, out);
+    text.whole()
 }

@@ -3,6 +3,8 @@
 //! image.
 #![tactic(auto)]
 
+mod answers;
+mod asking;
 mod chains;
 mod converting;
 mod explaining;
@@ -21,7 +23,8 @@ mod sources;
 mod telling;
 mod violations;
 
+pub use answers::Shown;
+pub use asking::{draw, show, tell};
 pub use converting::from_c;
 pub use explaining::explained;
-pub use showing::{Shown, draw, show};
-pub use telling::{Telling, tell};
+pub use telling::Telling;

@@ -1,8 +1,6 @@
 // What the last line of an answer means, of commands that did what they were asked for.
 use crate::lines::word_at;
-use dsr_ir::NoMemory;
 use dsr_wording::Text;
-use std::alloc::Global;
 
 // The number that the last line of an answer tells.
 fn count_of(out: &str) -> &str {
@@ -37,19 +35,12 @@ fn words_of<'a>(command: &str, saved: &'a str) -> Option<(&'a str, &'static str,
     }
 }
 
-/// What an answer means by its last line; nothing for a command whose answer says it.
-pub fn outcome_told(
-    alloc: Global,
-    command: &str,
-    saved: &str,
-    out: &str,
-) -> Result<String, NoMemory> {
-    let mut text = Text::new(alloc);
+/// Appends what an answer means by its last line; nothing for a command whose answer says it.
+pub fn outcome_told(text: &mut Text, command: &str, saved: &str, out: &str) {
     if let Some((name, before, behind)) = words_of(command, saved) {
         text.push(name);
         text.push(before);
         text.push(count_of(out));
         text.push(behind);
     }
-    text.whole()
 }

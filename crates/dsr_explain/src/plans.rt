@@ -3,20 +3,12 @@ ghost use Rattle.dsr_meaning.specs.Typed.{IsTyped};
 
 use crate::lines::word_at;
 use crate::needs::push_needs;
+use crate::reading::Meaning;
 use crate::sources::{constraint_source, push_words};
 use dsr_graph::{Graph, graph};
-use dsr_ir::{Atom, Constraint, Literal, NoMemory, Op, Spec};
-use dsr_tree::Tree;
+use dsr_ir::{Atom, Constraint, Literal, Op, Spec};
 use dsr_ways::{push_literal, variables_of};
 use dsr_wording::{Text, numbered};
-
-/// A specification with its text and its tree.
-#[derive(Drop)]
-pub struct Declared<'a> {
-    pub text: &'a [u8],
-    pub tree: &'a Tree,
-    pub spec: &'a Spec,
-}
 
 // The number of the constraint with this name.
 fn constraint_named(spec: &Spec, name: &str) -> Option<u32> {
@@ -29,12 +21,12 @@ fn constraint_named(spec: &Spec, name: &str) -> Option<u32> {
 }
 
 // Appends the name of a member of the stuck set, with its source.
-fn push_named(text: &mut Text, declared: &Declared<'_>, member: Option<u32>, name: &str) {
+fn push_named(text: &mut Text, meaning: &Meaning, member: Option<u32>, name: &str) {
     text.push("  `");
     text.push(name);
     text.push("`");
     if let Some(number) = member {
-        let (line, words) = constraint_source(declared.text, declared.tree, number);
+        let (line, words) = constraint_source(&meaning.text, &meaning.tree, number);
         text.push(" (line ");
         text.number(line as u64);
         text.push(": ");
@@ -44,25 +36,19 @@ fn push_named(text: &mut Text, declared: &Declared<'_>, member: Option<u32>, nam
 }
 
 // Appends the literals of a member that can't be made true.
-fn push_hindered(text: &mut Text, declared: &Declared<'_>, graph: &Graph, number: u32) {
-    if let Some(constraint) = declared.spec.constraints.items().get(number as usize) {
-        let variables = variables_of(declared.tree, number);
-        push_needs(text, declared.spec, graph, &variables, number, constraint);
+fn push_hindered(text: &mut Text, meaning: &Meaning, graph: &Graph, number: u32) {
+    if let Some(constraint) = meaning.spec.constraints.items().get(number as usize) {
+        let variables = variables_of(&meaning.tree, number);
+        push_needs(text, &meaning.spec, graph, &variables, number, constraint);
     }
 }
 
 // Appends a member of the stuck set, with the literals that can't be made true.
-fn push_stuck(
-    text: &mut Text,
-    declared: &Declared<'_>,
-    graph: &Graph,
-    member: Option<u32>,
-    name: &str,
-) {
-    push_named(text, declared, member, name);
+fn push_stuck(text: &mut Text, meaning: &Meaning, graph: &Graph, member: Option<u32>, name: &str) {
+    push_named(text, meaning, member, name);
     text.push(" has no place in an order\n");
     if let Some(number) = member {
-        push_hindered(text, declared, graph, number);
+        push_hindered(text, meaning, graph, number);
     }
 }
 
@@ -81,27 +67,27 @@ fn literal_of<'a>(constraint: &'a Constraint, numbers: &str) -> Option<&'a Liter
 }
 
 // The literal of a member for which a way is tried.
-fn tried<'a>(declared: &Declared<'a>, member: Option<u32>, numbers: &str) -> Option<&'a Literal> {
-    let constraint = declared.spec.constraints.items().get(member? as usize)?;
+fn tried<'a>(meaning: &'a Meaning, member: Option<u32>, numbers: &str) -> Option<&'a Literal> {
+    let constraint = meaning.spec.constraints.items().get(member? as usize)?;
     literal_of(constraint, numbers)
 }
 
 // Appends the literal of a member for which a way is tried.
-fn push_tried(text: &mut Text, declared: &Declared<'_>, member: Option<u32>, numbers: &str) {
-    if let Some(literal) = tried(declared, member, numbers) {
-        let variables = variables_of(declared.tree, member.unwrap_or(0));
+fn push_tried(text: &mut Text, meaning: &Meaning, member: Option<u32>, numbers: &str) {
+    if let Some(literal) = tried(meaning, member, numbers) {
+        let variables = variables_of(&meaning.tree, member.unwrap_or(0));
         text.push(" to make `");
-        push_literal(text, declared.spec, &variables, literal);
+        push_literal(text, &meaning.spec, &variables, literal);
         text.push("` true");
     }
 }
 
 // Appends what a way of a member breaks: `way C.L.T breaks OTHER by gain of SYMBOL`.
-fn push_way(text: &mut Text, declared: &Declared<'_>, member: Option<u32>, line: &str) {
+fn push_way(text: &mut Text, meaning: &Meaning, member: Option<u32>, line: &str) {
     let way = word_at(line, 1);
     text.push("    way ");
     text.push(way);
-    push_tried(text, declared, member, way);
+    push_tried(text, meaning, member, way);
     text.push(if word_at(line, 5) == "gain" {
         " may add facts to `"
     } else {
@@ -115,7 +101,7 @@ fn push_way(text: &mut Text, declared: &Declared<'_>, member: Option<u32>, line:
 
 const CYCLE: &str = "\
 . Of the ways above ask which can't happen in your structure, and say why in the specification: by \
-a constraint that is declared earlier, by a narrower rule, or by other words for the constraint\n";
+a constraint that is meaning earlier, by a narrower rule, or by other words for the constraint\n";
 
 // Appends which member waits for which: `cycle NAME .. NAME`.
 fn push_cycle(text: &mut Text, line: &str) {
@@ -141,16 +127,10 @@ fn push_relied(text: &mut Text, line: &str) {
 const UNREPAIRABLE: &str = "`: each of its conjunctions has a literal that nothing makes true\n";
 
 // Appends what a line of the answer means, which is about a member of the stuck set.
-fn push_line(
-    text: &mut Text,
-    declared: &Declared<'_>,
-    graph: &Graph,
-    member: Option<u32>,
-    line: &str,
-) {
+fn push_line(text: &mut Text, meaning: &Meaning, graph: &Graph, member: Option<u32>, line: &str) {
     match word_at(line, 0) {
-        "stuck" => push_stuck(text, declared, graph, member, word_at(line, 1)),
-        "way" => push_way(text, declared, member, line),
+        "stuck" => push_stuck(text, meaning, graph, member, word_at(line, 1)),
+        "way" => push_way(text, meaning, member, line),
         "cycle" => push_cycle(text, line),
         "relied" => push_relied(text, line),
         "unrepairable" => {
@@ -192,26 +172,42 @@ fn breaks_zero(spec: &Spec, line: &str) -> bool {
 }
 
 // Appends what each line of the answer means.
-fn push_lines(text: &mut Text, declared: &Declared<'_>, graph: &Graph, out: &str) {
+fn push_lines(text: &mut Text, meaning: &Meaning, graph: &Graph, out: &str) {
     let mut member = None;
     for line in out.lines() {
         if word_at(line, 0) == "stuck" {
-            member = constraint_named(declared.spec, word_at(line, 1));
+            member = constraint_named(&meaning.spec, word_at(line, 1));
         }
-        push_line(text, declared, graph, member, line);
+        push_line(text, meaning, graph, member, line);
+    }
+}
+
+// Whether some line of the answer tells that a loss breaks a constraint which asks for a size of 0.
+fn breaks_any_zero(spec: &Spec, out: &str) -> bool {
+    for line in out.lines() {
+        if breaks_zero(spec, line) {
+            return true;
+        }
+    }
+    false
+}
+
+// Appends what the answer means, once the graph is known.
+fn push_refusal(text: &mut Text, meaning: &Meaning, graph: &Graph, out: &str) {
+    text.push("error: the constraints have no order of repair\n");
+    push_lines(text, meaning, graph, out);
+    if breaks_any_zero(&meaning.spec, out) {
+        text.push(ZERO);
     }
 }
 
 /// Appends what the answer means that there is no plan: of each constraint that is stuck what it
 /// waits for, and what nothing is tried for.
-pub fn refusal_told(text: &mut Text, declared: &Declared<'_>, out: &str) -> Result<(), NoMemory>
-    requires { IsTyped declared.now.spec.now }
+pub fn refusal_told(text: &mut Text, meaning: &Meaning, out: &str)
+    requires { IsTyped meaning.now.spec }
 {
-    let graph = graph(text.allocator(), declared.spec)?;
-    text.push("error: the constraints have no order of repair\n");
-    push_lines(text, declared, &graph, out);
-    if out.lines().any(|line| breaks_zero(declared.spec, line)) {
-        text.push(ZERO);
+    match graph(text.allocator(), &meaning.spec) {
+        Ok(graph) => push_refusal(text, meaning, &graph, out),
+        Err(_) => text.cut(),
     }
-    Ok(())
 }

@@ -1,8 +1,6 @@
 // Why certificates, reports and scripts of edits are refused, in words.
 use crate::lines::{push_where, word_at};
-use dsr_ir::NoMemory;
 use dsr_wording::Text;
-use std::alloc::Global;
 
 const CERTIFICATE_LINE: &str = "\
 : error: this line isn't what a certificate of this specification has there, or isn't there\n";
@@ -38,12 +36,15 @@ fn push_certificate(text: &mut Text, kind: &str, file: &str, name: &str, other: 
     }
 }
 
-/// Why a certificate is refused, by the line that says so.
-pub fn certificate_refused(alloc: Global, file: &str, out: &str) -> Result<String, NoMemory> {
-    let (kind, name, other) = (word_at(out, 1), word_at(out, 2), word_at(out, 3));
-    let mut text = Text::new(alloc);
-    push_certificate(&mut text, kind, file, name, other);
-    text.whole()
+/// Appends why a certificate is refused, by the line that says so.
+pub fn certificate_refused(text: &mut Text, file: &str, out: &str) {
+    push_certificate(
+        text,
+        word_at(out, 1),
+        file,
+        word_at(out, 2),
+        word_at(out, 3),
+    );
 }
 
 const REPORT_LINE: &str = ": error: this line isn't of the form of a report, or isn't there\n";
@@ -74,12 +75,15 @@ fn push_report(text: &mut Text, kind: &str, file: &str, number: &str, place: &st
     }
 }
 
-/// Why a report is refused, by the line that says so.
-pub fn report_refused(alloc: Global, file: &str, out: &str) -> Result<String, NoMemory> {
-    let (kind, number, place) = (word_at(out, 1), word_at(out, 2), word_at(out, 3));
-    let mut text = Text::new(alloc);
-    push_report(&mut text, kind, file, number, place);
-    text.whole()
+/// Appends why a report is refused, by the line that says so.
+pub fn report_refused(text: &mut Text, file: &str, out: &str) {
+    push_report(
+        text,
+        word_at(out, 1),
+        file,
+        word_at(out, 2),
+        word_at(out, 3),
+    );
 }
 
 const SCRIPT_LINE: &str = "\
@@ -102,15 +106,13 @@ fn push_group(text: &mut Text, file: &str, number: &str, out: &str) {
     text.push("\n");
 }
 
-/// Why a script of edits is refused, by the line that says so.
-pub fn edit_refused(alloc: Global, file: &str, out: &str) -> Result<String, NoMemory> {
-    let (kind, number) = (word_at(out, 1), word_at(out, 2));
-    let mut text = Text::new(alloc);
-    match kind {
+/// Appends why a script of edits is refused, by the line that says so.
+pub fn edit_refused(text: &mut Text, file: &str, out: &str) {
+    let number = word_at(out, 2);
+    match word_at(out, 1) {
         "1" => text.pieces(&[file, ":", number, SCRIPT_LINE]),
         "2" => text.pieces(&[file, ":", number, SCRIPT_FIELD]),
-        "3" => push_group(&mut text, file, number, out),
+        "3" => push_group(text, file, number, out),
         _ => {}
     }
-    text.whole()
 }

@@ -1,71 +1,18 @@
-// The command `show`.
-ghost use Rattle.std.specs.Prelude.{◌≡◌, IfOk};
+// What is shown of an image.
+ghost use Rattle.std.specs.Prelude.{◌≡◌};
 ghost use Rattle.dsr_meaning.specs.Typed.{IsTyped};
 
-use crate::images::without_layout;
-use crate::limits::{IMAGE_LIMIT, LONG_IMAGE, LONG_SPEC, MORE_THAN_IMAGE};
-use crate::reading::{Meaning, SpecRead, loaded, read_spec};
+use crate::answers::{Answer, LAYOUT_REFUSED, STORE_FAILED, TOO_LONG, USAGE};
+use crate::images::{model_of, push_without_layout};
+use crate::limits::{IMAGE_LIMIT, LONG_IMAGE, MORE_THAN_IMAGE};
+use crate::reading::Meaning;
 use dsr_answers::pool_name;
-use dsr_diagnosis::{Diagnosis, shown};
-use dsr_ir::{Element, NoMemory, Spec, Symbol};
+use dsr_ir::{Element, Spec, Symbol};
 use dsr_layout::{LayoutFault, record_count};
-use dsr_show::{
-    ImageModel, image_model, push_picture, push_record, push_relation, push_set, push_summary,
-};
-use dsr_store::Shelf;
+use dsr_show::{ImageModel, push_picture, push_record, push_relation, push_set, push_summary};
+use dsr_store::{Shelf, ShelfFault};
 use dsr_truth::violations;
 use dsr_wording::{Text, numbered};
-use std::alloc::Global;
-
-// Statuses of `dsr`.
-const USAGE: u8 = 3;
-
-const SPEC_REFUSED: u8 = 4;
-
-const LAYOUT_REFUSED: u8 = 5;
-
-const STORE_FAILED: u8 = 7;
-
-const TOO_LONG: u8 = 9;
-
-/// What a command of this program answers.
-#[derive(Drop)]
-pub struct Shown {
-    pub status: u8,
-    /// What is put to the standard output.
-    pub text: String,
-    /// What is told on the standard error.
-    pub told: String,
-}
-
-/// An answer without anything told.
-pub fn answer(alloc: Global, text: String) -> Shown {
-    Shown {
-        status: 0,
-        text,
-        told: String::new(alloc),
-    }
-}
-
-/// An answer that is told alone.
-pub fn refusal(alloc: Global, status: u8, told: String) -> Shown {
-    Shown {
-        status,
-        text: String::new(alloc),
-        told,
-    }
-}
-
-/// An answer that is told alone, always in these words.
-pub fn refusal_in_words(alloc: Global, status: u8, words: &str) -> Result<Shown, NoMemory> {
-    let told = words.to_string(alloc)?;
-    Ok(refusal(alloc, status, told))
-}
-
-// That a file can't be read: the system tells why.
-fn store_failed(alloc: Global) -> Shown {
-    refusal(alloc, STORE_FAILED, String::new(alloc))
-}
 
 // The number of the pool of a name, counted from 0.
 fn pool_named(spec: &Spec, name: &str) -> Option<u32> {
@@ -127,47 +74,48 @@ fn push_slots(told: &mut Text, name: &[u8], count: u64) {
     told.push(" slots, from 0 on\n");
 }
 
-// Appends a record, or that its pool hasn't got it.
-fn push_slot(text: &mut Text, told: &mut Text, image: &ImageModel<'_>, elem: Element) -> u8 {
+// Shows a record, or tells that its pool hasn't got it.
+fn show_slot(answer: &mut Answer, image: &ImageModel<'_>, elem: Element) {
     let count = record_count(&image.layout, elem.pool);
     if u64::from(elem.slot) < count {
-        push_record(text, image, elem);
-        return 0;
+        push_record(&mut answer.text, image, elem);
+        return;
     }
-    push_slots(told, pool_name(image.spec, elem.pool), count);
-    USAGE
+    answer.status = USAGE;
+    push_slots(&mut answer.told, pool_name(image.spec, elem.pool), count);
 }
 
-// Appends a set or a relation, or that none has this name.
-fn push_symbol(text: &mut Text, told: &mut Text, image: &ImageModel<'_>, what: &str) -> u8 {
+// Tells that a word names nothing.
+fn refuse_name(answer: &mut Answer, what: &str) {
+    answer.refuse(USAGE, "error: `");
+    answer.told.push(what);
+    answer.told.push("` is no record, as nodes[3] or head, and no set or relation\n");
+}
+
+// Shows a set or a relation, or tells that none has this name.
+fn show_symbol(answer: &mut Answer, image: &ImageModel<'_>, what: &str) {
     match symbol_named(image.spec, what) {
-        Some(Symbol::Set(set)) => push_set(text, image, set),
-        Some(Symbol::Rel(rel)) => push_relation(text, image, rel),
-        None => {
-            told.push("error: `");
-            told.push(what);
-            told.push("` is no record, as nodes[3] or head, and no set or relation\n");
-            return USAGE;
-        }
+        Some(Symbol::Set(set)) => push_set(&mut answer.text, image, set),
+        Some(Symbol::Rel(rel)) => push_relation(&mut answer.text, image, rel),
+        None => refuse_name(answer, what),
     }
-    0
 }
 
-// Appends what is asked for.
-fn push_what(text: &mut Text, told: &mut Text, image: &ImageModel<'_>, what: &str) -> u8 {
+// Shows what a word names of an image.
+fn show_what(answer: &mut Answer, image: &ImageModel<'_>, what: &str) {
     if what.is_empty() {
-        push_summary(text, image);
-        return 0;
+        push_summary(&mut answer.text, image);
+        return;
     }
     match record_named(image.spec, what) {
-        Some(elem) => push_slot(text, told, image, elem),
-        None => push_symbol(text, told, image, what),
+        Some(elem) => show_slot(answer, image, elem),
+        None => show_symbol(answer, image, what),
     }
 }
 
-// What is to be shown of an image.
+/// How an image is shown.
 #[derive(Clone, Copy)]
-enum Asked<'a> {
+pub enum View<'a> {
     /// What this word names, or all.
     What(&'a str),
     /// A picture of all of it.
@@ -175,168 +123,55 @@ enum Asked<'a> {
 }
 
 // Draws an image, with its violations.
-fn picture(alloc: Global, image: &ImageModel<'_>) -> Result<String, NoMemory> {
-    let violated = violations(alloc, &image.model, image.spec)?;
-    let mut text = Text::new(alloc);
-    push_picture(&mut text, image, &violated);
-    text.whole()
-}
-
-// An answer with all of its texts.
-fn answered(status: u8, text: Text, told: Text) -> Result<Shown, NoMemory> {
-    let text = text.whole()?;
-    let told = told.whole()?;
-    Ok(Shown { status, text, told })
-}
-
-// Shows what a word names of an image.
-fn show_what(alloc: Global, image: &ImageModel<'_>, what: &str) -> Result<Shown, NoMemory> {
-    let mut text = Text::new(alloc);
-    let mut told = Text::new(alloc);
-    let status = push_what(&mut text, &mut told, image, what);
-    answered(status, text, told)
+fn draw_image(text: &mut Text, image: &ImageModel<'_>) {
+    match violations(text.allocator(), &image.model, image.spec) {
+        Ok(violated) => push_picture(text, image, &violated),
+        Err(_) => text.cut(),
+    }
 }
 
 // Shows an image that has a layout.
-fn show_model(alloc: Global, image: &ImageModel<'_>, asked: Asked<'_>) -> Result<Shown, NoMemory> {
-    match asked {
-        Asked::Picture => {
-            let text = picture(alloc, image)?;
-            Ok(answer(alloc, text))
-        }
-        Asked::What(what) => show_what(alloc, image, what),
+fn show_model(answer: &mut Answer, image: &ImageModel<'_>, view: View<'_>) {
+    match view {
+        View::What(what) => show_what(answer, image, what),
+        View::Picture => draw_image(&mut answer.text, image),
     }
 }
 
 // Tells why an image has no layout.
-fn layout_refused(
-    alloc: Global,
-    spec: &Spec,
-    name: &str,
-    bytes: &[u8],
-    fault: LayoutFault,
-) -> Result<Shown, NoMemory> {
-    let told = without_layout(alloc, spec, name, bytes, fault)?;
-    Ok(refusal(alloc, LAYOUT_REFUSED, told))
-}
-
-// Shows an image that isn't too long.
-fn show_bytes(
-    alloc: Global,
-    meaning: &Meaning,
-    name: &str,
-    bytes: Vec<u8>,
-    asked: Asked<'_>,
-) -> Result<Shown, NoMemory>
-    requires { IsTyped meaning.now.spec }
-{
-    let copy = Vec::from_slice(alloc, &bytes)?;
-    match image_model(alloc, &meaning.spec, bytes) {
-        Ok(image) => show_model(alloc, &image, asked),
-        Err(LayoutFault::NoMemory) => Err(NoMemory),
-        Err(fault) => layout_refused(alloc, &meaning.spec, name, &copy, fault),
-    }
+fn refuse_layout(answer: &mut Answer, spec: &Spec, name: &str, bytes: &[u8], fault: LayoutFault) {
+    answer.status = LAYOUT_REFUSED;
+    push_without_layout(&mut answer.told, spec, name, bytes, fault);
 }
 
 // Shows an image.
-fn show_image(
-    alloc: Global,
-    meaning: &Meaning,
-    name: &str,
-    bytes: Vec<u8>,
-    asked: Asked<'_>,
-) -> Result<Shown, NoMemory>
+fn show_bytes(answer: &mut Answer, meaning: &Meaning, name: &str, bytes: &[u8], view: View<'_>)
     requires { IsTyped meaning.now.spec }
 {
     if bytes.len() as u64 > IMAGE_LIMIT {
-        return refusal_in_words(alloc, TOO_LONG, LONG_IMAGE);
+        answer.refuse(TOO_LONG, LONG_IMAGE);
+        return;
     }
-    show_bytes(alloc, meaning, name, bytes, asked)
+    match model_of(answer.allocator(), meaning, bytes) {
+        Ok(image) => show_model(answer, &image, view),
+        Err(fault) => refuse_layout(answer, &meaning.spec, name, bytes, fault),
+    }
 }
 
-// Tells what is wrong with a specification.
-fn spec_refused(
-    alloc: Global,
-    name: &str,
-    text: &[u8],
-    diagnosis: &Diagnosis,
-) -> Result<Shown, NoMemory> {
-    let told = shown(alloc, name, text, diagnosis)?;
-    Ok(refusal(alloc, SPEC_REFUSED, told))
-}
-
-/// What a specification means, or what is told where it can't be read or means nothing.
-pub fn meaning_or_told<F: Shelf>(
-    alloc: Global,
-    shelf: &mut F,
-    name: &str,
-) -> Result<Result<Meaning, Shown>, NoMemory>
-    ensures held { F.held shelf.new ≡ F.held shelf.old }
-    ensures typed { IfOk result (λ found. IfOk found (λ meaning. IsTyped meaning.spec)) }
-{
-    let told = match read_spec(alloc, shelf, name)? {
-        SpecRead::Means(meaning) => return Ok(Ok(meaning)),
-        SpecRead::Refused(text, diagnosis) => spec_refused(alloc, name, &text, &diagnosis),
-        SpecRead::TooLong => refusal_in_words(alloc, TOO_LONG, LONG_SPEC),
-        SpecRead::Missed => Ok(store_failed(alloc)),
-    };
-    Ok(Err(told?))
-}
-
-// Reads an image, and shows it.
-fn show_file<F: Shelf>(
-    alloc: Global,
+/// Reads an image, and shows it. Of a file that can't be read the system tells why.
+pub fn show_file<F: Shelf>(
+    answer: &mut Answer,
     shelf: &mut F,
     meaning: &Meaning,
     name: &str,
-    asked: Asked<'_>,
-) -> Result<Shown, NoMemory>
+    view: View<'_>,
+)
     requires { IsTyped meaning.now.spec }
     ensures held { F.held shelf.new ≡ F.held shelf.old }
 {
-    match loaded(alloc, shelf, name, MORE_THAN_IMAGE)? {
-        Some(bytes) => show_image(alloc, meaning, name, bytes, asked),
-        None => Ok(store_failed(alloc)),
+    match shelf.load(answer.allocator(), name, MORE_THAN_IMAGE) {
+        Ok(bytes) => show_bytes(answer, meaning, name, &bytes, view),
+        Err(ShelfFault::Failed) => answer.refuse(STORE_FAILED, ""),
+        Err(ShelfFault::NoMemory) => answer.cut(),
     }
-}
-
-// Reads a specification and an image, and shows the image.
-fn show_asked<F: Shelf>(
-    alloc: Global,
-    shelf: &mut F,
-    spec: &str,
-    image: &str,
-    asked: Asked<'_>,
-) -> Result<Shown, NoMemory>
-    ensures held { F.held shelf.new ≡ F.held shelf.old }
-{
-    match meaning_or_told(alloc, shelf, spec)? {
-        Ok(meaning) => show_file(alloc, shelf, &meaning, image, asked),
-        Err(told) => Ok(told),
-    }
-}
-
-/// Shows what a specification says of an image: what a word names, or all sets where it is empty.
-pub fn show<F: Shelf>(
-    alloc: Global,
-    shelf: &mut F,
-    spec: &str,
-    image: &str,
-    what: &str,
-) -> Result<Shown, NoMemory>
-    ensures held { F.held shelf.new ≡ F.held shelf.old }
-{
-    show_asked(alloc, shelf, spec, image, Asked::What(what))
-}
-
-/// Draws what a specification says of an image, for Graphviz.
-pub fn draw<F: Shelf>(
-    alloc: Global,
-    shelf: &mut F,
-    spec: &str,
-    image: &str,
-) -> Result<Shown, NoMemory>
-    ensures held { F.held shelf.new ≡ F.held shelf.old }
-{
-    show_asked(alloc, shelf, spec, image, Asked::Picture)
 }

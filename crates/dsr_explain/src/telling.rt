@@ -1,14 +1,10 @@
-// The commands that tell something of a specification alone.
-ghost use Rattle.std.specs.Prelude.{◌≡◌};
+// What is told of a specification alone.
 ghost use Rattle.dsr_meaning.specs.Typed.{IsTyped};
 
 use crate::reading::Meaning;
-use crate::showing::{Shown, answer, meaning_or_told};
-use dsr_ir::NoMemory;
-use dsr_lint::lint;
-use dsr_store::Shelf;
-use dsr_ways::{dependence_graph, ways_told};
-use std::alloc::Global;
+use dsr_lint::push_lint;
+use dsr_ways::{push_graph, push_repairs};
+use dsr_wording::Text;
 
 /// What is told of a specification.
 #[derive(Clone, Copy)]
@@ -21,36 +17,13 @@ pub enum Telling {
     Graph,
 }
 
-// What is told of a specification that means something.
-fn text_told(alloc: Global, meaning: &Meaning, telling: Telling) -> Result<String, NoMemory>
+/// Appends what is told of a specification.
+pub fn push_telling(text: &mut Text, meaning: &Meaning, telling: Telling)
     requires { IsTyped meaning.now.spec }
 {
     match telling {
-        Telling::Ways => ways_told(alloc, &meaning.spec, &meaning.tree),
-        Telling::Lint => lint(alloc, &meaning.spec),
-        Telling::Graph => dependence_graph(alloc, &meaning.spec),
-    }
-}
-
-// Tells something of a specification that means something.
-fn told(alloc: Global, meaning: &Meaning, telling: Telling) -> Result<Shown, NoMemory>
-    requires { IsTyped meaning.now.spec }
-{
-    let text = text_told(alloc, meaning, telling)?;
-    Ok(answer(alloc, text))
-}
-
-/// Tells something of a specification.
-pub fn tell<F: Shelf>(
-    alloc: Global,
-    shelf: &mut F,
-    name: &str,
-    telling: Telling,
-) -> Result<Shown, NoMemory>
-    ensures held { F.held shelf.new ≡ F.held shelf.old }
-{
-    match meaning_or_told(alloc, shelf, name)? {
-        Ok(meaning) => told(alloc, &meaning, telling),
-        Err(told) => Ok(told),
+        Telling::Ways => push_repairs(text, &meaning.spec, &meaning.tree),
+        Telling::Lint => push_lint(text, &meaning.spec),
+        Telling::Graph => push_graph(text, &meaning.spec),
     }
 }

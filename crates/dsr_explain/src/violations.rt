@@ -1,8 +1,8 @@
 // Which constraints are violated, with values.
+use crate::reading::Meaning;
 use crate::sources::{constraint_source, push_words};
-use dsr_ir::{Binding, NoMemory};
+use dsr_ir::Binding;
 use dsr_show::{ImageModel, push_violation};
-use dsr_tree::Tree;
 use dsr_truth::violations;
 use dsr_wording::Text;
 
@@ -10,8 +10,8 @@ use dsr_wording::Text;
 const TOLD: usize = 10;
 
 // Appends the source of a constraint.
-fn push_source(text: &mut Text, source: &[u8], tree: &Tree, constraint: u32) {
-    let (line, words) = constraint_source(source, tree, constraint);
+fn push_source(text: &mut Text, meaning: &Meaning, constraint: u32) {
+    let (line, words) = constraint_source(&meaning.text, &meaning.tree, constraint);
     text.push("line ");
     text.number(line as u64);
     text.push(": ");
@@ -23,14 +23,13 @@ fn push_source(text: &mut Text, source: &[u8], tree: &Tree, constraint: u32) {
 fn push_first(
     text: &mut Text,
     image: &ImageModel<'_>,
-    source: &[u8],
-    tree: &Tree,
+    meaning: &Meaning,
     found: &[(u32, Binding)],
 ) {
     let mut last = None;
     for (constraint, binding) in found.iter().take(TOLD) {
         if last != Some(*constraint) {
-            push_source(text, source, tree, *constraint);
+            push_source(text, meaning, *constraint);
         }
         last = Some(*constraint);
         push_violation(text, image, *constraint, binding);
@@ -48,14 +47,12 @@ fn push_more(text: &mut Text, found: usize) {
 
 /// Appends which constraints are violated: the source of each, the records, and the truth of each
 /// literal with its values. Of many the first ones are told, and then how many more there are.
-pub fn violations_told(
-    text: &mut Text,
-    image: &ImageModel<'_>,
-    source: &[u8],
-    tree: &Tree,
-) -> Result<(), NoMemory> {
-    let found = violations(text.allocator(), &image.model, image.spec)?;
-    push_first(text, image, source, tree, &found);
-    push_more(text, found.len());
-    Ok(())
+pub fn violations_told(text: &mut Text, image: &ImageModel<'_>, meaning: &Meaning) {
+    match violations(text.allocator(), &image.model, image.spec) {
+        Ok(found) => {
+            push_first(text, image, meaning, &found);
+            push_more(text, found.len());
+        }
+        Err(_) => text.cut(),
+    }
 }

@@ -8,34 +8,55 @@
 //! and what is shown. Of `%from-c` structures of C stand in the place of the specification.
 #![tactic(auto)]
 
-use anyhow::{anyhow, bail};
+use anyhow::bail;
 use dsr_explain::{Shown, Telling, draw, explained, from_c, show, tell};
 use dsr_ir::NoMemory;
 use dsr_script::{Status, Verdict};
 use dsr_store::{Content, Held, Label, SureShelf};
+use dsr_wording::Text;
 use std::alloc::Global;
 use std::io;
 
-fn held(alloc: Global, name: &str, bytes: Vec<u8>) -> anyhow::Result<Held> {
+fn held(alloc: Global, name: &str, bytes: &[u8]) -> Result<Held, NoMemory> {
+    let name = Vec::from_slice(alloc, name.as_bytes())?;
+    let bytes = Vec::from_slice(alloc, bytes)?;
     Ok(Held {
-        name: Label::new(Vec::from_slice(alloc, name.as_bytes())?),
+        name: Label::new(name),
         bytes: Content::new(bytes),
     })
 }
 
-// The specification `s`, the image `i`, and what was saved as `x`, if anything.
-fn shelf_of(alloc: Global, spec: &str, images: &str) -> anyhow::Result<SureShelf> {
-    let mut files = Vec::new(alloc);
-    files.push(held(alloc, "s", Vec::from_slice(alloc, spec.as_bytes())?)?)?;
-    for (place, bytes) in images.trim().split(' ').enumerate() {
-        let name = if place == 0 { "i" } else { "x" };
-        files.push(held(alloc, name, hex::decode(alloc, bytes)?)?)?;
+fn add_file(text: &mut Text, files: &mut Vec<Held>, name: &str, bytes: &[u8]) {
+    match held(text.allocator(), name, bytes) {
+        Ok(held) => {
+            if files.push(held).is_err() {
+                text.cut();
+            }
+        }
+        Err(_) => text.cut(),
     }
-    Ok(SureShelf { files, last: None })
 }
 
-fn status_of(word: &str) -> anyhow::Result<Status> {
-    Ok(match word {
+fn add_image(text: &mut Text, files: &mut Vec<Held>, name: &str, digits: &str) {
+    match hex::decode(text.allocator(), digits) {
+        Ok(bytes) => add_file(text, files, name, &bytes),
+        Err(_) => text.push("no bytes in hexadecimal digits\n"),
+    }
+}
+
+// The specification `s`, the image `i`, and what was saved as `x`, if anything.
+fn shelf_of(text: &mut Text, spec: &str, images: &str) -> SureShelf {
+    let mut files = Vec::new(text.allocator());
+    add_file(text, &mut files, "s", spec.as_bytes());
+    for (place, digits) in images.trim().split(' ').enumerate() {
+        let name = if place == 0 { "i" } else { "x" };
+        add_image(text, &mut files, name, digits);
+    }
+    SureShelf { files, last: None }
+}
+
+fn status_of(word: &str) -> Option<Status> {
+    Some(match word {
         "inconsistent" => Status::Said(Verdict::Inconsistent),
         "layout" => Status::Said(Verdict::LayoutRefused),
         "spec" => Status::Said(Verdict::SpecRefused),
@@ -47,34 +68,46 @@ fn status_of(word: &str) -> anyhow::Result<Status> {
         "usage" => Status::Said(Verdict::Usage),
         "long" => Status::TooLong,
         "ok" => Status::Said(Verdict::Ok),
-        _ => bail!("no such status: {word}"),
+        _ => return None,
     })
 }
 
 // The words of a command. The fourth one stands behind it after a `/`, or else is the file `x`.
-fn words_of(alloc: Global, command: &str) -> anyhow::Result<Vec<String>> {
+fn words_of(alloc: Global, command: &str) -> Result<Vec<String>, NoMemory> {
     let mut words = Vec::new(alloc);
     let (command, fourth) = command.split_once('/').unwrap_or((command, "x"));
-    for word in [command, "s", "i", fourth, "y"] {
-        words.push(word.to_string(alloc)?)?;
-    }
+    words.push(command.to_string(alloc)?)?;
+    words.push("s".to_string(alloc)?)?;
+    words.push("i".to_string(alloc)?)?;
+    words.push(fourth.to_string(alloc)?)?;
+    words.push("y".to_string(alloc)?)?;
     Ok(words)
 }
 
-fn add_told(
-    text: &mut String,
-    alloc: Global,
+fn push_told(
+    text: &mut Text,
+    shelf: &mut SureShelf,
+    words: &[String],
+    status: Status,
+    answer: &str,
+) {
+    match explained(text.allocator(), shelf, words, &status, answer.as_bytes()) {
+        Ok(told) => text.push(told.as_str()),
+        Err(_) => text.cut(),
+    }
+}
+
+fn push_meaning(
+    text: &mut Text,
     shelf: &mut SureShelf,
     command: &str,
-    status: &Status,
+    status: Status,
     answer: &str,
-) -> anyhow::Result<()> {
-    let words = words_of(alloc, command)?;
-    let told = explained(alloc, shelf, &words, status, answer.as_bytes()).map_err(|_| anyhow!(
-        "out of memory"
-    ))?;
-    text.push_str(told.as_str())?;
-    Ok(())
+) {
+    match words_of(text.allocator(), command) {
+        Ok(words) => push_told(text, shelf, &words, status, answer),
+        Err(_) => text.cut(),
+    }
 }
 
 // What is shown of the specification and the image.
@@ -89,47 +122,53 @@ fn shown_of(alloc: Global, shelf: &mut SureShelf, what: &str) -> Result<Shown, N
     }
 }
 
-fn add_shown(
-    text: &mut String,
-    alloc: Global,
-    shelf: &mut SureShelf,
-    what: &str,
-) -> anyhow::Result<()> {
-    let shown = shown_of(alloc, shelf, what).map_err(|_| anyhow!("out of memory"))?;
-    text.push_str(shown.told.as_str())?;
-    text.push_str(shown.text.as_str())?;
-    Ok(())
+fn push_shown(text: &mut Text, shelf: &mut SureShelf, what: &str) {
+    match shown_of(text.allocator(), shelf, what) {
+        Ok(shown) => {
+            text.push(shown.told.as_str());
+            text.push(shown.text.as_str());
+        }
+        Err(_) => text.cut(),
+    }
 }
 
-fn add_case(text: &mut String, alloc: Global, given: &str) -> anyhow::Result<()> {
-    let Some((heading, rest)) = given.split_once('\n') else {
-        bail!("a case without a text: {given}");
-    };
-    let Some((spec, rest)) = rest.split_once("+++ ") else {
-        bail!("a case without an image: {given}");
-    };
-    let (images, answer) = rest.split_once('\n').unwrap_or((rest, ""));
-    let mut shelf = shelf_of(alloc, spec, images)?;
-    text.push_str("=== ")?;
-    text.push_str(heading)?;
-    text.push_str("\n")?;
+fn push_answers(text: &mut Text, shelf: &mut SureShelf, heading: &str, answer: &str) {
     let mut words = heading.split(' ').skip(1);
     let command = words.next().unwrap_or("");
-    let status = status_of(words.next().unwrap_or(""))?;
-    add_told(text, alloc, &mut shelf, command, &status, answer)?;
-    for what in words {
-        add_shown(text, alloc, &mut shelf, what)?;
+    match status_of(words.next().unwrap_or("")) {
+        Some(status) => push_meaning(text, shelf, command, status, answer),
+        None => text.push("no such status\n"),
     }
-    Ok(())
+    for what in words {
+        push_shown(text, shelf, what);
+    }
+}
+
+fn push_case(text: &mut Text, given: &str) {
+    let (heading, rest) = given.split_once('\n').unwrap_or((given, ""));
+    text.push("=== ");
+    text.push(heading);
+    text.push("\n");
+    let (spec, rest) = rest.split_once("+++ ").unwrap_or((rest, ""));
+    let (images, answer) = rest.split_once('\n').unwrap_or((rest, ""));
+    let mut shelf = shelf_of(text, spec, images);
+    push_answers(text, &mut shelf, heading, answer);
+}
+
+fn all_told(alloc: Global, input: &str) -> Result<String, NoMemory> {
+    let mut text = Text::new(alloc);
+    for given in input.split("=== ").skip(1) {
+        push_case(&mut text, given);
+    }
+    text.whole()
 }
 
 fn main(rt: HostRuntime) -> anyhow::Result<()> {
     let alloc = rt.alloc();
     let input = io::read_to_string(alloc, rt.stdin())?;
-    let mut text = String::new(alloc);
-    for given in input.split("=== ").skip(1) {
-        add_case(&mut text, alloc, given)?;
+    match all_told(alloc, input.as_str()) {
+        Ok(text) => rt.print(text)?,
+        Err(_) => bail!("out of memory"),
     }
-    rt.print(text)?;
     Ok(())
 }

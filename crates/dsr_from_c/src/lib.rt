@@ -6,4 +6,4 @@ mod spelling;
 mod writing;
 
 pub use reading::{Member, Structure, structures_of};
-pub use writing::specification_of;
+pub use writing::push_specification;

@@ -1,9 +1,9 @@
 // The structures that gdb prints, with the places and sizes of their members.
 use dsr_ir::NoMemory;
+use dsr_wording::Text;
 use std::alloc::Global;
 
 /// A member of a structure that can be a field: a number or an address, or an array of these.
-#[derive(Drop)]
 pub struct Member {
     pub name: String,
     /// The byte at which it begins.
@@ -16,13 +16,34 @@ pub struct Member {
     pub target: Option<String>,
 }
 
+impl Drop for Member {
+    fn drop(self) {
+        let Member {
+            name: _,
+            start: _,
+            width: _,
+            count: _,
+            target: _,
+        } = self;
+    }
+}
+
 /// A structure.
-#[derive(Drop)]
 pub struct Structure {
     pub name: String,
     pub members: Vec<Member>,
     /// How many bytes it has.
     pub size: u64,
+}
+
+impl Drop for Structure {
+    fn drop(self) {
+        let Structure {
+            name: _,
+            members: _,
+            size: _,
+        } = self;
+    }
 }
 
 // A line that tells a member.
@@ -37,15 +58,21 @@ fn number_of(text: &str) -> Option<u64> {
     text.trim().parse::<u64>().ok()
 }
 
-// What a line tells of a member: `/* PLACE | SIZE */ DECLARATION;`. A member of some bits has
-// another place.
+// The place and the size that a line tells: `PLACE | SIZE`. A member of some bits has another place.
+fn extent_of(numbers: &str) -> Option<(u64, u64)> {
+    let (start, size) = numbers.split_once('|')?;
+    Some((number_of(start)?, number_of(size)?))
+}
+
+// What a line tells of a member: `/* PLACE | SIZE */ DECLARATION;`.
 fn line_of(text: &str) -> Option<Line<'_>> {
     let (numbers, rest) = text.strip_prefix("/*")?.split_once("*/")?;
-    let (start, size) = numbers.split_once('|')?;
+    let declaration = rest.trim().strip_suffix(";")?;
+    let (start, size) = extent_of(numbers)?;
     Some(Line {
-        start: number_of(start)?,
-        size: number_of(size)?,
-        declaration: rest.trim().strip_suffix(";")?,
+        start,
+        size,
+        declaration,
     })
 }
 
@@ -112,65 +139,112 @@ fn width_of(size: u64, count: Option<u64>) -> Option<u64> {
     }
 }
 
-// The member that a line tells.
-fn member_of(alloc: Global, text: &str) -> Result<Option<Member>, NoMemory> {
-    let Some(line) = line_of(text) else {
-        return Ok(None);
-    };
-    let Some(shape) = shape_of(line.declaration) else {
-        return Ok(None);
-    };
-    let Some(width) = width_of(line.size, shape.count) else {
-        return Ok(None);
-    };
-    let Some(name) = name_of(shape.front) else {
-        return Ok(None);
-    };
-    let target = match target_of(shape.front) {
-        Some(target) => Some(target.to_string(alloc)?),
-        None => None,
-    };
-    Ok(Some(Member {
-        name: name.to_string(alloc)?,
+// What a line tells of a member, where a field can be made of it.
+#[derive(Clone, Copy)]
+struct Told<'a> {
+    name: &'a str,
+    start: u64,
+    width: u64,
+    shape: Shape<'a>,
+}
+
+// What a line tells of a member.
+fn told_by(text: &str) -> Option<Told<'_>> {
+    let line = line_of(text)?;
+    let shape = shape_of(line.declaration)?;
+    Some(Told {
+        name: name_of(shape.front)?,
         start: line.start,
-        width,
-        count: shape.count,
+        width: width_of(line.size, shape.count)?,
+        shape,
+    })
+}
+
+// A copy of a text, if there is one.
+fn copied(alloc: Global, text: Option<&str>) -> Result<Option<String>, NoMemory> {
+    match text {
+        Some(text) => Ok(Some(text.to_string(alloc)?)),
+        None => Ok(None),
+    }
+}
+
+// A member as it is told.
+fn member_of(alloc: Global, told: &Told<'_>) -> Result<Member, NoMemory> {
+    let name = told.name.to_string(alloc)?;
+    let target = copied(alloc, target_of(told.shape.front))?;
+    Ok(Member {
+        name,
+        start: told.start,
+        width: told.width,
+        count: told.shape.count,
         target,
-    }))
+    })
 }
 
 // The name of a structure, or a number where it has none.
 fn name_or_number(alloc: Global, name: &str, place: usize) -> Result<String, NoMemory> {
+    let mut text = Text::new(alloc);
+    text.push(name);
     if name.is_empty() {
-        let number = place.saturating_add(1);
-        return Ok(format!(in alloc; "unnamed_{number}")?);
+        text.push("unnamed_");
+        text.number(place.saturating_add(1) as u64);
     }
-    Ok(name.to_string(alloc)?)
+    text.whole()
 }
 
-// The structure that begins with its name and a brace. What stands in inner braces is passed over.
-fn structure_of(alloc: Global, text: &str, place: usize) -> Result<Structure, NoMemory> {
-    let (name, rest) = text.split_once('{').unwrap_or((text, ""));
-    let mut members = Vec::new(alloc);
+// How many braces are open behind a line.
+fn depth_behind(depth: u64, line: &str) -> u64 {
+    if line.ends_with("{") {
+        depth.saturating_add(1)
+    } else if line.starts_with("}") {
+        depth.saturating_sub(1)
+    } else {
+        depth
+    }
+}
+
+// The size that is told behind the members of a structure; 0 where none is.
+fn size_within(text: &str) -> u64 {
     let mut size = 0;
     let mut depth = 0u64;
-    for line in rest.lines() {
+    for line in text.lines() {
         let line = line.trim();
-        if line.ends_with("{") {
-            depth = depth.saturating_add(1);
-        } else if line.starts_with("}") {
-            depth = depth.saturating_sub(1);
-        } else if depth == 0 {
+        let behind = depth_behind(depth, line);
+        if depth == 0 && behind == 0 {
             size = size_of(line).unwrap_or(size);
-            if let Some(member) = member_of(alloc, line)? {
-                members.push(member)?;
-            }
         }
+        depth = behind;
     }
+    size
+}
+
+// The members of a structure. What stands in inner braces is passed over.
+fn members_of(alloc: Global, text: &str) -> Result<Vec<Member>, NoMemory> {
+    let mut members = Vec::new(alloc);
+    let mut depth = 0u64;
+    for line in text.lines() {
+        let line = line.trim();
+        let behind = depth_behind(depth, line);
+        if depth == 0
+            && behind == 0
+            && let Some(told) = told_by(line)
+        {
+            members.push(member_of(alloc, &told)?)?;
+        }
+        depth = behind;
+    }
+    Ok(members)
+}
+
+// The structure that begins with its name and a brace.
+fn structure_of(alloc: Global, text: &str, place: usize) -> Result<Structure, NoMemory> {
+    let (name, rest) = text.split_once('{').unwrap_or((text, ""));
+    let name = name_or_number(alloc, name.trim(), place)?;
+    let members = members_of(alloc, rest)?;
     Ok(Structure {
-        name: name_or_number(alloc, name.trim(), place)?,
+        name,
         members,
-        size,
+        size: size_within(rest),
     })
 }
 

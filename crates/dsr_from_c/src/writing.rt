@@ -1,10 +1,8 @@
 // The specification of structures: a pool and a set for each, a rule for each address, and that no
 // address is illegal.
 use crate::reading::{Member, Structure, is_known};
-use crate::spelling::name_with;
-use dsr_ir::NoMemory;
+use crate::spelling::push_name;
 use dsr_wording::Text;
-use std::alloc::Global;
 
 // The structure to which a member leads, of those that are known.
 fn known_target<'a>(structures: &[Structure], member: &'a Member) -> Option<&'a str> {
@@ -14,17 +12,19 @@ fn known_target<'a>(structures: &[Structure], member: &'a Member) -> Option<&'a 
     }
 }
 
-fn pool_of(alloc: Global, structure: &str) -> Result<String, NoMemory> {
-    name_with(alloc, structure, "s")
+// Appends the name of a structure's pool.
+fn push_pool_name(text: &mut Text, structure: &str) {
+    push_name(text, structure, "s");
 }
 
-fn set_of(alloc: Global, structure: &str) -> Result<String, NoMemory> {
-    name_with(alloc, structure, "_set")
+// Appends the name of a structure's set.
+fn push_set_name(text: &mut Text, structure: &str) {
+    push_name(text, structure, "_set");
 }
 
-// The set of the records with an illegal address.
-fn astray_of(alloc: Global, structure: &str) -> Result<String, NoMemory> {
-    name_with(alloc, structure, "_astray")
+// Appends the name of the set of the records with an illegal address.
+fn push_astray_name(text: &mut Text, structure: &str) {
+    push_name(text, structure, "_astray");
 }
 
 // Appends bytes that belong to no field.
@@ -36,23 +36,27 @@ fn push_gap(text: &mut Text, bytes: u64) {
     }
 }
 
+// Appends how many entries an array has.
+fn push_count(text: &mut Text, count: u64) {
+    text.push("[");
+    text.number(count);
+    text.push("]");
+}
+
 // Appends a member as a field.
-fn push_member(text: &mut Text, structures: &[Structure], member: &Member) -> Result<(), NoMemory> {
-    let name = name_with(text.allocator(), member.name.as_str(), "")?;
+fn push_member(text: &mut Text, structures: &[Structure], member: &Member) {
     text.push("  u");
     text.number(member.width.saturating_mul(8));
-    text.pieces(&[" ", name.as_str()]);
+    text.push(" ");
+    push_name(text, member.name.as_str(), "");
     if let Some(count) = member.count {
-        text.push("[");
-        text.number(count);
-        text.push("]");
+        push_count(text, count);
     }
     if let Some(target) = known_target(structures, member) {
-        let pool = pool_of(text.allocator(), target)?;
-        text.pieces(&[" -> ", pool.as_str()]);
+        text.push(" -> ");
+        push_pool_name(text, target);
     }
     text.push(";\n");
-    Ok(())
 }
 
 // How many bytes a member has.
@@ -60,26 +64,28 @@ fn bytes_of(member: &Member) -> u64 {
     member.width.saturating_mul(member.count.unwrap_or(1))
 }
 
-// Appends a structure. Members that can be no fields are gaps, and so are all but the first of
-// those that share bytes.
-fn push_structure(
-    text: &mut Text,
-    structures: &[Structure],
-    structure: &Structure,
-) -> Result<(), NoMemory> {
-    let name = name_with(text.allocator(), structure.name.as_str(), "")?;
-    text.pieces(&["structure ", name.as_str(), " {\n"]);
+// Appends the members of a structure, and tells where they end. Members that can be no fields are
+// gaps, and so are all but the first of those that share bytes.
+fn push_members(text: &mut Text, structures: &[Structure], structure: &Structure) -> u64 {
     let mut end = 0u64;
     for member in &structure.members {
         if member.start >= end {
             push_gap(text, member.start.saturating_sub(end));
-            push_member(text, structures, member)?;
+            push_member(text, structures, member);
             end = member.start.saturating_add(bytes_of(member));
         }
     }
+    end
+}
+
+// Appends a structure.
+fn push_structure(text: &mut Text, structures: &[Structure], structure: &Structure) {
+    text.push("structure ");
+    push_name(text, structure.name.as_str(), "");
+    text.push(" {\n");
+    let end = push_members(text, structures, structure);
     push_gap(text, structure.size.saturating_sub(end));
     text.push("}\n");
-    Ok(())
 }
 
 // The address of the image's first byte, until somebody says which it is: 0 is none, and no
@@ -87,10 +93,11 @@ fn push_structure(
 const BASE: u64 = 4096;
 
 // Appends a pool of one record, which begins at a byte.
-fn push_pool(text: &mut Text, structure: &Structure, start: u64) -> Result<(), NoMemory> {
-    let name = name_with(text.allocator(), structure.name.as_str(), "")?;
-    let pool = pool_of(text.allocator(), structure.name.as_str())?;
-    text.pieces(&["pool ", pool.as_str(), " : ", name.as_str()]);
+fn push_pool(text: &mut Text, structure: &Structure, start: u64) {
+    text.push("pool ");
+    push_pool_name(text, structure.name.as_str());
+    text.push(" : ");
+    push_name(text, structure.name.as_str(), "");
     text.push("[1] at ");
     text.number(start);
     text.push(" codes ");
@@ -98,17 +105,15 @@ fn push_pool(text: &mut Text, structure: &Structure, start: u64) -> Result<(), N
     text.push(" step ");
     text.number(structure.size);
     text.push(" none 0;\n");
-    Ok(())
 }
 
 // Appends the pools, one record each, one behind the other.
-fn push_pools(text: &mut Text, structures: &[Structure]) -> Result<(), NoMemory> {
+fn push_pools(text: &mut Text, structures: &[Structure]) {
     let mut start = 0u64;
     for structure in structures {
-        push_pool(text, structure, start)?;
+        push_pool(text, structure, start);
         start = start.saturating_add(structure.size);
     }
-    Ok(())
 }
 
 // Whether a structure has an address of one that is known.
@@ -121,84 +126,86 @@ fn has_address(structures: &[Structure], structure: &Structure) -> bool {
     false
 }
 
-// Appends the sets: the records of each structure, and those with an illegal address.
-fn push_sets(text: &mut Text, structures: &[Structure]) -> Result<(), NoMemory> {
-    let alloc = text.allocator();
-    for structure in structures {
-        let pool = pool_of(alloc, structure.name.as_str())?;
-        let set = set_of(alloc, structure.name.as_str())?;
-        text.pieces(&["set ", set.as_str(), " of ", pool.as_str()]);
-        text.push(";\n");
-        if has_address(structures, structure) {
-            let astray = astray_of(alloc, structure.name.as_str())?;
-            text.pieces(&["set ", astray.as_str(), " of ", pool.as_str()]);
-            text.push(";\n");
-        }
+// Appends the end of a set's declaration.
+fn push_set_end(text: &mut Text, structure: &str) {
+    text.push(" of ");
+    push_pool_name(text, structure);
+    text.push(";\n");
+}
+
+// Appends the sets of a structure: its records, and those with an illegal address.
+fn push_own_sets(text: &mut Text, structures: &[Structure], structure: &Structure) {
+    let name = structure.name.as_str();
+    text.push("set ");
+    push_set_name(text, name);
+    push_set_end(text, name);
+    if has_address(structures, structure) {
+        text.push("set ");
+        push_astray_name(text, name);
+        push_set_end(text, name);
     }
-    Ok(())
+}
+
+// Appends the sets.
+fn push_sets(text: &mut Text, structures: &[Structure]) {
+    for structure in structures {
+        push_own_sets(text, structures, structure);
+    }
 }
 
 // Appends where a rule begins: at a record, and at an entry where its field is an array.
-fn push_source(text: &mut Text, source: &str, field: &str, is_array: bool) {
-    text.pieces(&["rule x in ", source]);
-    if is_array {
-        text.pieces(&[", k in ", field]);
+fn push_source(text: &mut Text, structure: &Structure, member: &Member) {
+    text.push("rule x in ");
+    push_set_name(text, structure.name.as_str());
+    if member.count.is_some() {
+        text.push(", k in ");
+        push_name(text, member.name.as_str(), "");
     }
 }
 
 // Appends the field of a record, or its entry where it is an array.
-fn push_field(text: &mut Text, field: &str, is_array: bool) {
-    text.pieces(&["x.", field]);
-    if is_array {
+fn push_field(text: &mut Text, member: &Member) {
+    text.push("x.");
+    push_name(text, member.name.as_str(), "");
+    if member.count.is_some() {
         text.push("[k]");
     }
 }
 
 // Appends the rules of an address of a structure.
-fn push_address(
-    text: &mut Text,
-    structure: &Structure,
-    member: &Member,
-    target: &str,
-) -> Result<(), NoMemory> {
-    let source = set_of(text.allocator(), structure.name.as_str())?;
-    let astray = astray_of(text.allocator(), structure.name.as_str())?;
-    let target = set_of(text.allocator(), target)?;
-    let field = name_with(text.allocator(), member.name.as_str(), "")?;
-    let is_array = member.count.is_some();
-    push_source(text, source.as_str(), field.as_str(), is_array);
+fn push_address(text: &mut Text, structure: &Structure, member: &Member, target: &str) {
+    push_source(text, structure, member);
     text.push(" => ");
-    push_field(text, field.as_str(), is_array);
-    text.pieces(&[" in ", target.as_str(), ";\n"]);
-    push_source(text, source.as_str(), field.as_str(), is_array);
+    push_field(text, member);
+    text.push(" in ");
+    push_set_name(text, target);
+    text.push(";\n");
+    push_source(text, structure, member);
     text.push(" when illegal(");
-    push_field(text, field.as_str(), is_array);
-    text.pieces(&[") => x in ", astray.as_str(), ";\n"]);
-    Ok(())
+    push_field(text, member);
+    text.push(") => x in ");
+    push_astray_name(text, structure.name.as_str());
+    text.push(";\n");
 }
 
 // Appends the rules of a structure.
-fn push_rules(
-    text: &mut Text,
-    structures: &[Structure],
-    structure: &Structure,
-) -> Result<(), NoMemory> {
+fn push_rules(text: &mut Text, structures: &[Structure], structure: &Structure) {
     for member in &structure.members {
         if let Some(target) = known_target(structures, member) {
-            push_address(text, structure, member, target)?;
+            push_address(text, structure, member, target);
         }
     }
-    Ok(())
 }
 
 // Appends the constraint that no address of a structure is illegal.
-fn push_legal(text: &mut Text, structure: &Structure) -> Result<(), NoMemory> {
-    let legal = name_with(text.allocator(), structure.name.as_str(), "_legal")?;
-    let astray = astray_of(text.allocator(), structure.name.as_str())?;
-    text.pieces(&["constraint ", legal.as_str(), " : forall x in "]);
-    text.pieces(&[astray.as_str(), " : not x in ", astray.as_str()]);
+fn push_legal(text: &mut Text, structure: &str) {
+    text.push("constraint ");
+    push_name(text, structure, "_legal");
+    text.push(" : forall x in ");
+    push_astray_name(text, structure);
+    text.push(" : not x in ");
+    push_astray_name(text, structure);
     text.push(";\n");
-    Ok(())
 }
 
 const HEADING: &str = "\
@@ -213,48 +220,40 @@ structure Head {
 ";
 
 // Appends the rule by which all records of the first structure are there.
-fn push_first(text: &mut Text, first: &Structure) -> Result<(), NoMemory> {
-    let pool = pool_of(text.allocator(), first.name.as_str())?;
-    let set = set_of(text.allocator(), first.name.as_str())?;
-    text.pieces(&["rule head, k in pool ", pool.as_str(), " => "]);
-    text.pieces(&[pool.as_str(), "[k] in ", set.as_str(), ";\n"]);
-    Ok(())
+fn push_first(text: &mut Text, first: &str) {
+    text.push("rule head, k in pool ");
+    push_pool_name(text, first);
+    text.push(" => ");
+    push_pool_name(text, first);
+    text.push("[k] in ");
+    push_set_name(text, first);
+    text.push(";\n");
 }
 
 // Appends the rules, and then the constraints.
-fn push_meaning(text: &mut Text, structures: &[Structure]) -> Result<(), NoMemory> {
+fn push_meaning(text: &mut Text, structures: &[Structure]) {
     for structure in structures {
-        push_rules(text, structures, structure)?;
+        push_rules(text, structures, structure);
     }
     for structure in structures {
         if has_address(structures, structure) {
-            push_legal(text, structure)?;
+            push_legal(text, structure.name.as_str());
         }
     }
-    Ok(())
 }
 
-// Appends all declarations, where there is a first structure.
-fn push_all(text: &mut Text, structures: &[Structure], first: &Structure) -> Result<(), NoMemory> {
-    for structure in structures {
-        push_structure(text, structures, structure)?;
-    }
-    push_pools(text, structures)?;
-    push_sets(text, structures)?;
-    push_first(text, first)?;
-    push_meaning(text, structures)
-}
-
-/// A first specification of structures; none where there are none.
-pub fn specification_of(
-    alloc: Global,
-    structures: &[Structure],
-) -> Result<Option<String>, NoMemory> {
+/// Appends a first specification of structures, and tells whether there are any.
+pub fn push_specification(text: &mut Text, structures: &[Structure]) -> bool {
     let Some(first) = structures.first() else {
-        return Ok(None);
+        return false;
     };
-    let mut text = Text::new(alloc);
     text.push(HEADING);
-    push_all(&mut text, structures, first)?;
-    Ok(Some(text.whole()?))
+    for structure in structures {
+        push_structure(text, structures, structure);
+    }
+    push_pools(text, structures);
+    push_sets(text, structures);
+    push_first(text, first.name.as_str());
+    push_meaning(text, structures);
+    true
 }

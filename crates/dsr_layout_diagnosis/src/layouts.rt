@@ -3,7 +3,7 @@ use crate::extents::PoolExtent;
 use crate::pushes::{push_bytes, push_extent, push_fixed, push_known, push_length};
 use crate::scenes::Scene;
 use dsr_answers::{constraint_name, field_name, pool_name};
-use dsr_ir::{FieldRef, NoMemory, Spec};
+use dsr_ir::{FieldRef, Spec};
 use dsr_layout::LayoutFault;
 use dsr_schema::{declared_field, width_bits};
 use dsr_wording::{Text, numbered};
@@ -211,28 +211,29 @@ fn push_great_count(text: &mut Text, spec: &Spec, constraint: u32) {
 const MANY_INSTANCES: &str =
     "the rules and constraints have too many instances on this image: at most 4,194,304 are allowed in version 1, and 16,777,216 in version 2\n";
 
-/// Appends why the bytes of an image have no layout, in lines.
-pub fn push_fault(
-    text: &mut Text,
-    spec: &Spec,
-    bytes: &[u8],
-    fault: LayoutFault,
-) -> Result<(), NoMemory> {
-    let scene = Scene::new(text.allocator(), spec, bytes)?;
+// Appends why an image has no layout, by the numbers that are known of it.
+fn push_known_fault(text: &mut Text, scene: &Scene<'_>, fault: LayoutFault) {
     match fault {
-        LayoutFault::Short => push_short(text, &scene),
-        LayoutFault::Arith => push_arith(text, &scene),
-        LayoutFault::Outside(pool) => push_outside(text, &scene, pool),
-        LayoutFault::Overlap(pool, other) => push_overlap(text, &scene, pool, other),
-        LayoutFault::Subtype(pool, structure) => push_subtype(text, &scene, pool, structure),
-        LayoutFault::Zero(pool) => push_zero(text, &scene, pool),
-        LayoutFault::NoneIsCode(pool) => push_none_code(text, &scene, pool),
+        LayoutFault::Short => push_short(text, scene),
+        LayoutFault::Arith => push_arith(text, scene),
+        LayoutFault::Outside(pool) => push_outside(text, scene, pool),
+        LayoutFault::Overlap(pool, other) => push_overlap(text, scene, pool, other),
+        LayoutFault::Subtype(pool, structure) => push_subtype(text, scene, pool, structure),
+        LayoutFault::Zero(pool) => push_zero(text, scene, pool),
+        LayoutFault::NoneIsCode(pool) => push_none_code(text, scene, pool),
         LayoutFault::CodeTooWide(pool, structure, field) => {
-            push_code(text, &scene, pool, structure, field);
+            push_code(text, scene, pool, structure, field);
         }
-        LayoutFault::CountTooWide(constraint) => push_great_count(text, spec, constraint),
+        LayoutFault::CountTooWide(constraint) => push_great_count(text, scene.spec, constraint),
         LayoutFault::Instances => text.push(MANY_INSTANCES),
-        LayoutFault::NoMemory => return Err(NoMemory),
+        LayoutFault::NoMemory => text.cut(),
     }
-    Ok(())
+}
+
+/// Appends why the bytes of an image have no layout, in lines.
+pub fn push_fault(text: &mut Text, spec: &Spec, bytes: &[u8], fault: LayoutFault) {
+    match Scene::new(text.allocator(), spec, bytes) {
+        Ok(scene) => push_known_fault(text, &scene, fault),
+        Err(_) => text.cut(),
+    }
 }

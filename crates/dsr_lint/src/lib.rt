@@ -7,4 +7,4 @@ mod remarks;
 mod supplies;
 mod uses;
 
-pub use remarks::lint;
+pub use remarks::push_lint;

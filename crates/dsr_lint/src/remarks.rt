@@ -2,9 +2,8 @@
 use crate::fields::push_fields;
 use crate::supplies::push_supplies;
 use crate::uses::{is_base_or_avoided, is_constrained, is_given, is_premise};
-use dsr_ir::{NoMemory, SetDecl, Spec, Symbol};
+use dsr_ir::{SetDecl, Spec, Symbol};
 use dsr_wording::{Text, numbered};
-use std::alloc::Global;
 
 // Appends a line on a set or a relation: what it is, its name, and what is said of it.
 fn push_remark(text: &mut Text, what: &str, name: &[u8], remark: &str) {
@@ -67,13 +66,11 @@ fn push_relations(text: &mut Text, spec: &Spec) {
     }
 }
 
-/// What a specification says nothing about, a line each: sets, relations, fields, supplies, in
-/// order of declaration. It is empty where there is nothing to say.
-pub fn lint(alloc: Global, spec: &Spec) -> Result<String, NoMemory> {
-    let mut text = Text::new(alloc);
-    push_sets(&mut text, spec);
-    push_relations(&mut text, spec);
-    push_fields(&mut text, spec);
-    push_supplies(&mut text, spec);
-    text.whole()
+/// Appends what a specification says nothing about, a line each: sets, relations, fields, supplies,
+/// in order of declaration; nothing where there is nothing to say.
+pub fn push_lint(text: &mut Text, spec: &Spec) {
+    push_sets(text, spec);
+    push_relations(text, spec);
+    push_fields(text, spec);
+    push_supplies(text, spec);
 }

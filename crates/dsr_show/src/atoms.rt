@@ -4,97 +4,105 @@ ghost use Rattle.dsr_meaning.specs.Truth.{HasSize, HasVariable};
 ghost use Rattle.dsr_model.specs.Facts.{IsInModel};
 
 use crate::images::ImageModel;
-use crate::listing::push_members;
-use crate::names::push_element;
-use crate::pairs::{push_given, push_sources, push_targets};
-use dsr_answers::symbol_name;
-use dsr_ir::{Atom, Binding, Bound, Literal, Measure, Rel, Symbol, Var};
+use crate::listing::{Which, push_members, push_records};
+use crate::names::{push_element, push_rel_name, push_set_name};
+use crate::pairs::push_given;
+use dsr_ir::{Atom, Binding, Bound, Element, Literal, Measure, Op, Rel, Spec, Var};
 use dsr_schema::element_of;
 use dsr_wording::{Text, sign_of};
 
 // Appends what a variable stands for.
-fn push_var(text: &mut Text, image: &ImageModel<'_>, binding: &Binding, var: Var) {
+fn push_var(text: &mut Text, spec: &Spec, binding: &Binding, var: Var) {
     if let Some(elem) = element_of(binding, var) {
-        push_element(text, image.spec, elem);
+        push_element(text, spec, elem);
     }
 }
 
-// Appends the name of a relation.
-fn push_rel(text: &mut Text, image: &ImageModel<'_>, rel: u32) {
-    text.name(symbol_name(image.spec, Symbol::Rel(rel)));
+// Appends what is counted, as it is written.
+fn push_measured(text: &mut Text, spec: &Spec, binding: &Binding, measure: &Measure) {
+    match *measure {
+        Measure::Whole(set) => push_set_name(text, spec, set),
+        Measure::Out(var, rel) => push_path(text, spec, binding, var, rel),
+        Measure::Into(rel, var) => {
+            push_rel_name(text, spec, rel);
+            text.push(".");
+            push_var(text, spec, binding, var);
+        }
+    }
+}
+
+// Appends what a relation gives to a variable, as it is written.
+fn push_path(text: &mut Text, spec: &Spec, binding: &Binding, var: Var, rel: u32) {
+    push_var(text, spec, binding, var);
+    text.push(".");
+    push_rel_name(text, spec, rel);
 }
 
 // Appends a size.
-fn push_measure(text: &mut Text, image: &ImageModel<'_>, binding: &Binding, measure: &Measure) {
+fn push_measure(text: &mut Text, spec: &Spec, binding: &Binding, measure: &Measure) {
     text.push("size(");
-    match *measure {
-        Measure::Whole(set) => text.name(symbol_name(image.spec, Symbol::Set(set))),
-        Measure::Out(var, rel) => {
-            push_var(text, image, binding, var);
-            text.push(".");
-            push_rel(text, image, rel);
-        }
-        Measure::Into(rel, var) => {
-            push_rel(text, image, rel);
-            text.push(".");
-            push_var(text, image, binding, var);
-        }
-    }
+    push_measured(text, spec, binding, measure);
     text.push(")");
 }
 
 // Appends what a value is compared with.
-fn push_bound(text: &mut Text, image: &ImageModel<'_>, binding: &Binding, bound: &Bound) {
+fn push_bound(text: &mut Text, spec: &Spec, binding: &Binding, bound: &Bound) {
     match bound {
         Bound::Num(number) => text.number(*number),
-        Bound::Size(measure) => push_measure(text, image, binding, measure),
+        Bound::Size(measure) => push_measure(text, spec, binding, measure),
     }
 }
 
+// Appends a sign of comparison, between spaces.
+fn push_sign(text: &mut Text, op: Op) {
+    text.push(" ");
+    text.push(sign_of(op));
+    text.push(" ");
+}
+
+// Appends a pair.
+fn push_pair(text: &mut Text, spec: &Spec, binding: &Binding, first: Var, second: Var) {
+    text.push("<");
+    push_var(text, spec, binding, first);
+    text.push(", ");
+    push_var(text, spec, binding, second);
+    text.push("> in ");
+}
+
 // Appends an atom.
-fn push_atom(text: &mut Text, image: &ImageModel<'_>, binding: &Binding, atom: &Atom) {
+fn push_atom(text: &mut Text, spec: &Spec, binding: &Binding, atom: &Atom) {
     match atom {
         Atom::Member(var, set) => {
-            push_var(text, image, binding, *var);
+            push_var(text, spec, binding, *var);
             text.push(" in ");
-            text.name(symbol_name(image.spec, Symbol::Set(*set)));
+            push_set_name(text, spec, *set);
         }
         Atom::Pair(first, second, rel) => {
-            text.push("<");
-            push_var(text, image, binding, *first);
-            text.push(", ");
-            push_var(text, image, binding, *second);
-            text.push("> in ");
-            push_rel(text, image, *rel);
+            push_pair(text, spec, binding, *first, *second);
+            push_rel_name(text, spec, *rel);
         }
         Atom::Count(measure, op, number) => {
-            push_measure(text, image, binding, measure);
-            for piece in [" ", sign_of(*op), " "] {
-                text.push(piece);
-            }
+            push_measure(text, spec, binding, measure);
+            push_sign(text, *op);
             text.number(*number);
         }
         Atom::Value(var, rel, op, bound) => {
-            push_var(text, image, binding, *var);
-            text.push(".");
-            push_rel(text, image, *rel);
-            for piece in [" ", sign_of(*op), " "] {
-                text.push(piece);
-            }
-            push_bound(text, image, binding, bound);
+            push_path(text, spec, binding, *var, *rel);
+            push_sign(text, *op);
+            push_bound(text, spec, binding, bound);
         }
     }
 }
 
 /// Appends a literal, with the records in place of its variables.
-pub fn push_literal(text: &mut Text, image: &ImageModel<'_>, binding: &Binding, literal: &Literal) {
+pub fn push_literal(text: &mut Text, spec: &Spec, binding: &Binding, literal: &Literal) {
     if literal.given {
         text.push("given ");
     }
     if literal.negated {
         text.push("not ");
     }
-    push_atom(text, image, binding, &literal.atom);
+    push_atom(text, spec, binding, &literal.atom);
 }
 
 // The declaration of a relation.
@@ -124,27 +132,45 @@ fn size_of(image: &ImageModel<'_>, binding: &Binding, measure: &Measure) -> Opti
     }
 }
 
+// Appends the records to which a relation leads from one, or the numbers that it gives it; nothing
+// where there is no such relation.
+fn push_out(text: &mut Text, image: &ImageModel<'_>, rel: u32, source: Element) -> u64 {
+    match declared(image, rel) {
+        Some(rel_declared) => push_given(text, image, rel, rel_declared, source),
+        None => 0,
+    }
+}
+
+// Appends the records from which a relation leads to one.
+fn push_into(text: &mut Text, image: &ImageModel<'_>, rel: u32, target: Element) {
+    if let Some(rel_declared) = declared(image, rel) {
+        let which = Which::Sources(rel, target);
+        let _listed = push_records(text, image, which, rel_declared.source);
+    }
+}
+
 // Appends what is counted.
 fn push_counted(text: &mut Text, image: &ImageModel<'_>, binding: &Binding, measure: &Measure) {
     match *measure {
         Measure::Whole(set) => push_members(text, image, set),
         Measure::Out(var, rel) => {
-            let Some(source) = element_of(binding, var) else {
-                return;
-            };
-            if let Some(rel_declared) = declared(image, rel) {
-                let _listed = push_given(text, image, rel, rel_declared, source);
+            if let Some(source) = element_of(binding, var) {
+                let _listed = push_out(text, image, rel, source);
             }
         }
         Measure::Into(rel, var) => {
-            let Some(target) = element_of(binding, var) else {
-                return;
-            };
-            if let Some(rel_declared) = declared(image, rel) {
-                let _listed = push_sources(text, image, rel, rel_declared.source, target);
+            if let Some(target) = element_of(binding, var) {
+                push_into(text, image, rel, target);
             }
         }
     }
+}
+
+// Appends that a size is so much.
+fn push_size(text: &mut Text, spec: &Spec, binding: &Binding, measure: &Measure, size: u64) {
+    push_measure(text, spec, binding, measure);
+    text.push(" is ");
+    text.number(size);
 }
 
 // Appends a size with its number, and what is counted, behind a lead.
@@ -159,12 +185,21 @@ fn push_size_value(
         return;
     };
     text.push(lead);
-    push_measure(text, image, binding, measure);
-    text.push(" is ");
-    text.number(size);
+    push_size(text, image.spec, binding, measure, size);
     if size > 0 {
         text.push(": ");
         push_counted(text, image, binding, measure);
+    }
+}
+
+// Appends the values that a relation gives to a record.
+fn push_values_of(text: &mut Text, image: &ImageModel<'_>, source: Element, rel: u32) {
+    push_element(text, image.spec, source);
+    text.push(".");
+    push_rel_name(text, image.spec, rel);
+    text.push(" is ");
+    if push_out(text, image, rel, source) == 0 {
+        text.push("nothing");
     }
 }
 
@@ -177,18 +212,19 @@ fn push_value_of(
     var: Var,
     rel: u32,
 ) {
-    let Some(source) = element_of(binding, var) else {
-        return;
-    };
-    let Some(rel_declared) = declared(image, rel) else {
-        return;
-    };
-    text.push(lead);
+    if let Some(source) = element_of(binding, var) {
+        text.push(lead);
+        push_values_of(text, image, source, rel);
+    }
+}
+
+// Appends the records to which a relation leads from one.
+fn push_targets(text: &mut Text, image: &ImageModel<'_>, source: Element, rel: u32) {
+    push_rel_name(text, image.spec, rel);
+    text.push(" leads from ");
     push_element(text, image.spec, source);
-    text.push(".");
-    push_rel(text, image, rel);
-    text.push(" is ");
-    if push_given(text, image, rel, rel_declared, source) == 0 {
+    text.push(" to ");
+    if push_out(text, image, rel, source) == 0 {
         text.push("nothing");
     }
 }
@@ -202,19 +238,9 @@ fn push_pair_values(
     var: Var,
     rel: u32,
 ) {
-    let Some(source) = element_of(binding, var) else {
-        return;
-    };
-    let Some(pool) = declared(image, rel).and_then(|rel| rel.target) else {
-        return;
-    };
-    text.push(lead);
-    push_rel(text, image, rel);
-    text.push(" leads from ");
-    push_element(text, image.spec, source);
-    text.push(" to ");
-    if push_targets(text, image, rel, source, pool) == 0 {
-        text.push("nothing");
+    if let Some(source) = element_of(binding, var) {
+        text.push(lead);
+        push_targets(text, image, source, rel);
     }
 }
 
@@ -231,19 +257,11 @@ pub fn push_values_behind(
         Atom::Member(_, _) => {}
         Atom::Pair(first, _, rel) => push_pair_values(text, lead, image, binding, *first, *rel),
         Atom::Count(measure, _, _) => push_size_value(text, lead, image, binding, measure),
-        Atom::Value(var, rel, _, Bound::Num(_)) => {
+        Atom::Value(var, rel, _, bound) => {
             push_value_of(text, lead, image, binding, *var, *rel);
-        }
-        Atom::Value(var, rel, _, Bound::Size(measure)) => {
-            text.push(lead);
-            push_value_of(text, "", image, binding, *var, *rel);
-            text.push("; ");
-            push_size_value(text, "", image, binding, measure);
+            if let Bound::Size(measure) = bound {
+                push_size_value(text, "; ", image, binding, measure);
+            }
         }
     }
-}
-
-/// Appends the values on which the truth of a literal rests; nothing for a membership.
-pub fn push_values(text: &mut Text, image: &ImageModel<'_>, binding: &Binding, literal: &Literal) {
-    push_values_behind(text, "", image, binding, literal);
 }

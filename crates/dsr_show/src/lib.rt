@@ -13,7 +13,6 @@ mod records;
 mod values;
 mod violated;
 
-pub use atoms::{push_literal, push_values};
 pub use images::{ImageModel, image_model};
 pub use listing::{push_set, push_summary};
 pub use names::{push_binding, push_element};

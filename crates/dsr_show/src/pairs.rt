@@ -1,10 +1,9 @@
 // The pairs of relations.
 use crate::facts::fact_after;
 use crate::images::ImageModel;
-use crate::listing::{MOST, push_listed, slots_of};
-use crate::names::push_element;
-use crate::values::{is_pair, value_after};
-use dsr_answers::symbol_name;
+use crate::listing::{MOST, Which, lists_any, push_records};
+use crate::names::{push_element, push_rel_name};
+use crate::values::value_after;
 use dsr_ir::{Element, Fact, Rel, Symbol, Target};
 use dsr_wording::Text;
 
@@ -31,56 +30,6 @@ pub fn push_numbers(text: &mut Text, image: &ImageModel<'_>, rel: u32, source: E
     listed
 }
 
-/// Appends the records to which a relation leads from one, and tells how many; only the first
-/// ones where there are many.
-pub fn push_targets(
-    text: &mut Text,
-    image: &ImageModel<'_>,
-    rel: u32,
-    source: Element,
-    pool: u32,
-) -> u64 {
-    let mut listed = 0u64;
-    for slot in 0..slots_of(image, pool) {
-        let target = Element { pool, slot };
-        if !is_pair(image, rel, source, target) {
-            continue;
-        }
-        if listed == MOST {
-            text.push(", ..");
-            return listed;
-        }
-        push_listed(text, image, target, listed);
-        listed = listed.saturating_add(1);
-    }
-    listed
-}
-
-/// Appends the records from which a relation leads to one, and tells how many; only the first
-/// ones where there are many.
-pub fn push_sources(
-    text: &mut Text,
-    image: &ImageModel<'_>,
-    rel: u32,
-    pool: u32,
-    target: Element,
-) -> u64 {
-    let mut listed = 0u64;
-    for slot in 0..slots_of(image, pool) {
-        let source = Element { pool, slot };
-        if !is_pair(image, rel, source, target) {
-            continue;
-        }
-        if listed == MOST {
-            text.push(", ..");
-            return listed;
-        }
-        push_listed(text, image, source, listed);
-        listed = listed.saturating_add(1);
-    }
-    listed
-}
-
 /// Appends what a relation gives to a record, be it numbers or records, and tells how many.
 pub fn push_given(
     text: &mut Text,
@@ -90,25 +39,15 @@ pub fn push_given(
     source: Element,
 ) -> u64 {
     match declared.target {
-        Some(pool) => push_targets(text, image, rel, source, pool),
+        Some(pool) => push_records(text, image, Which::Targets(rel, source), pool),
         None => push_numbers(text, image, rel, source),
     }
-}
-
-// Whether a relation leads from a record to one of a pool.
-fn has_target(image: &ImageModel<'_>, rel: u32, source: Element, pool: u32) -> bool {
-    for slot in 0..slots_of(image, pool) {
-        if is_pair(image, rel, source, Element { pool, slot }) {
-            return true;
-        }
-    }
-    false
 }
 
 /// Whether a relation gives anything to a record.
 pub fn gives_any(image: &ImageModel<'_>, rel: u32, declared: &Rel, source: Element) -> bool {
     match declared.target {
-        Some(pool) => has_target(image, rel, source, pool),
+        Some(pool) => lists_any(image, Which::Targets(rel, source), pool),
         None => value_after(image, rel, source, 0).is_some(),
     }
 }
@@ -140,7 +79,7 @@ fn push_pair(text: &mut Text, image: &ImageModel<'_>, fact: Fact) {
 pub fn push_relation(text: &mut Text, image: &ImageModel<'_>, rel: u32) {
     let symbol = Symbol::Rel(rel);
     text.push("relation ");
-    text.name(symbol_name(image.spec, symbol));
+    push_rel_name(text, image.spec, rel);
     text.push("\n");
     let mut last = None;
     for _turn in 0..LISTED {

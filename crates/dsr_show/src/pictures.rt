@@ -13,9 +13,9 @@ const DRAWN: usize = 1000;
 fn push_node(text: &mut Text, image: &ImageModel<'_>, elem: Element, how: &str) {
     text.push("  \"");
     push_element(text, image.spec, elem);
-    for piece in ["\"", how, ";\n"] {
-        text.push(piece);
-    }
+    text.push("\"");
+    text.push(how);
+    text.push(";\n");
 }
 
 // Appends the beginning of an edge between records, up to its name.
@@ -62,20 +62,32 @@ fn push_facts(text: &mut Text, image: &ImageModel<'_>, symbol: Symbol, name: &[u
     }
 }
 
+// Appends the name of a violated constraint that has no records.
+fn push_violated_name(text: &mut Text, name: &[u8]) {
+    text.push("  \"");
+    text.name(name);
+    text.push(" is violated\" [shape=plaintext, fontcolor=red];\n");
+}
+
+// Appends the two records of a violation.
+fn push_violated_pair(
+    text: &mut Text,
+    image: &ImageModel<'_>,
+    first: Element,
+    second: Element,
+    name: &[u8],
+) {
+    push_edge(text, image, first, second);
+    text.name(name);
+    text.push("\", color=red, fontcolor=red];\n");
+}
+
 // Appends a violation: its records, or its constraint where it has none.
 fn push_violated(text: &mut Text, image: &ImageModel<'_>, name: &[u8], binding: &Binding) {
     match *binding {
-        Binding::Once => {
-            text.push("  \"");
-            text.name(name);
-            text.push(" is violated\" [shape=plaintext, fontcolor=red];\n");
-        }
+        Binding::Once => push_violated_name(text, name),
         Binding::Each(elem) => push_node(text, image, elem, " [color=red, fontcolor=red]"),
-        Binding::Pair(first, second) => {
-            push_edge(text, image, first, second);
-            text.name(name);
-            text.push("\", color=red, fontcolor=red];\n");
-        }
+        Binding::Pair(first, second) => push_violated_pair(text, image, first, second, name),
     }
 }
 

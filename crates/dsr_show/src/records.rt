@@ -1,10 +1,10 @@
 // Records by their fields.
 use crate::images::ImageModel;
-use crate::names::push_element;
+use crate::names::{push_element, push_rel_name};
 use crate::pairs::{gives_any, push_given};
 use crate::values::{field_value, is_member};
-use dsr_answers::{pool_name, symbol_name};
-use dsr_ir::{Element, Field, FieldRef, Kind, Structure, Symbol};
+use dsr_answers::pool_name;
+use dsr_ir::{Element, Field, FieldRef, Kind, Rel, Structure};
 use dsr_layout::{field_place, pool_numbers};
 use dsr_schema::pool_at;
 use dsr_wording::{Text, numbered};
@@ -44,6 +44,14 @@ fn is_none(image: &ImageModel<'_>, pool: u32, value: u64) -> bool {
     }
 }
 
+// Appends a slot of a pool.
+fn push_slot(text: &mut Text, pool: &[u8], slot: u64) {
+    text.name(pool);
+    text.push("[");
+    text.number(slot);
+    text.push("]");
+}
+
 // Appends what the value of a reference means.
 fn push_reference(text: &mut Text, image: &ImageModel<'_>, pool: u32, value: u64) {
     if is_none(image, pool, value) {
@@ -51,12 +59,7 @@ fn push_reference(text: &mut Text, image: &ImageModel<'_>, pool: u32, value: u64
         return;
     }
     match slot_meant(image, pool, value) {
-        Some(slot) => {
-            text.name(pool_name(image.spec, pool));
-            text.push("[");
-            text.number(slot);
-            text.push("]");
-        }
+        Some(slot) => push_slot(text, pool_name(image.spec, pool), slot),
         None => {
             text.push("illegal ");
             text.number(value);
@@ -96,6 +99,28 @@ fn push_entries(
     }
 }
 
+// How many entries a field has, if it is an array.
+fn length_of(image: &ImageModel<'_>, number: FieldRef) -> Option<u64> {
+    match field_place(&image.layout, number) {
+        Some(place) => place.length,
+        None => None,
+    }
+}
+
+// Appends what a field of a record holds.
+fn push_content(
+    text: &mut Text,
+    image: &ImageModel<'_>,
+    elem: Element,
+    number: FieldRef,
+    kind: Kind,
+) {
+    match length_of(image, number) {
+        Some(count) => push_entries(text, image, elem, number, kind, count),
+        None => push_value(text, image, kind, field_value(image, elem, number, 0)),
+    }
+}
+
 // Appends a field of a record with its value.
 fn push_field(
     text: &mut Text,
@@ -104,17 +129,10 @@ fn push_field(
     number: FieldRef,
     field: &Field,
 ) {
-    let length = match field_place(&image.layout, number) {
-        Some(place) => place.length,
-        None => None,
-    };
     text.push("  ");
     text.name(field.name.bytes());
     text.push(": ");
-    match length {
-        Some(count) => push_entries(text, image, elem, number, field.kind, count),
-        None => push_value(text, image, field.kind, field_value(image, elem, number, 0)),
-    }
+    push_content(text, image, elem, number, field.kind);
     text.push("\n");
 }
 
@@ -169,18 +187,22 @@ fn push_sets(text: &mut Text, image: &ImageModel<'_>, elem: Element) {
     }
 }
 
+// Appends what a relation gives to a record, as a line.
+fn push_row(text: &mut Text, image: &ImageModel<'_>, elem: Element, number: u32, rel: &Rel) {
+    text.push("  ");
+    push_rel_name(text, image.spec, number);
+    text.push(": ");
+    let _listed = push_given(text, image, number, rel, elem);
+    text.push("\n");
+}
+
 // Appends the pairs whose first part a record is.
 fn push_pairs(text: &mut Text, image: &ImageModel<'_>, elem: Element) {
     for (number, rel) in image.spec.base.rels.items().iter().enumerate() {
         let number = numbered(number);
-        if rel.source != elem.pool || !gives_any(image, number, rel, elem) {
-            continue;
+        if rel.source == elem.pool && gives_any(image, number, rel, elem) {
+            push_row(text, image, elem, number, rel);
         }
-        text.push("  ");
-        text.name(symbol_name(image.spec, Symbol::Rel(number)));
-        text.push(": ");
-        let _listed = push_given(text, image, number, rel, elem);
-        text.push("\n");
     }
 }
 

@@ -13,7 +13,7 @@ fn push_truth(text: &mut Text, image: &ImageModel<'_>, binding: &Binding, litera
     } else {
         "    false: "
     });
-    push_literal(text, image, binding, literal);
+    push_literal(text, image.spec, binding, literal);
     push_values_behind(text, "; ", image, binding, literal);
     text.push("\n");
 }
@@ -25,20 +25,23 @@ fn push_conj(text: &mut Text, image: &ImageModel<'_>, binding: &Binding, conj: &
     }
 }
 
-/// Appends what is violated where, with each literal of the constraint.
-pub fn push_violation(text: &mut Text, image: &ImageModel<'_>, constraint: u32, binding: &Binding) {
-    let Some(declared) = image.spec.constraints.items().get(constraint as usize) else {
-        return;
-    };
+// Appends where a constraint is violated; nothing where it has no quantifier.
+fn push_place(text: &mut Text, image: &ImageModel<'_>, binding: &Binding) {
     if *binding != Binding::Once {
         text.push("  at ");
         push_binding(text, image.spec, binding);
         text.push("\n");
     }
+}
+
+/// Appends what is violated where, with each literal of the constraint.
+pub fn push_violation(text: &mut Text, image: &ImageModel<'_>, constraint: u32, binding: &Binding) {
+    let Some(declared) = image.spec.constraints.items().get(constraint as usize) else {
+        return;
+    };
+    push_place(text, image, binding);
     for (number, conj) in declared.conjs.items().iter().enumerate() {
-        if number > 0 {
-            text.push("    or\n");
-        }
+        text.push(if number > 0 { "    or\n" } else { "" });
         push_conj(text, image, binding, conj);
     }
 }

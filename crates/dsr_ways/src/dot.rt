@@ -2,9 +2,8 @@
 ghost use Rattle.dsr_meaning.specs.Typed.{IsTyped};
 
 use dsr_graph::{Graph, Position, breaks, graph, relies, ways};
-use dsr_ir::{Constraint, NoMemory, Spec};
+use dsr_ir::{Constraint, Spec};
 use dsr_wording::{Text, numbered};
-use std::alloc::Global;
 
 // Whether some template of a literal breaks another constraint.
 fn literal_breaks(graph: &Graph, at: Position, other: u32) -> bool {
@@ -67,20 +66,25 @@ fn push_edges(text: &mut Text, spec: &Spec, graph: &Graph, number: u32, constrai
     }
 }
 
-/// The dependence graph of a specification for Graphviz: an edge from each constraint to those that
-/// its templates may break, and a dashed one to those on which it relies.
-pub fn dependence_graph(alloc: Global, spec: &Spec) -> Result<String, NoMemory>
-    requires { IsTyped spec.now }
-{
-    let graph = graph(alloc, spec)?;
-    let mut text = Text::new(alloc);
+// Appends a graph, once it is known.
+fn push_known(text: &mut Text, spec: &Spec, graph: &Graph) {
     text.push("digraph repairs {\n");
     for (number, constraint) in spec.constraints.items().iter().enumerate() {
         text.push("  \"");
         text.name(constraint.name.bytes());
         text.push("\" [shape=box];\n");
-        push_edges(&mut text, spec, &graph, numbered(number), constraint);
+        push_edges(text, spec, graph, numbered(number), constraint);
     }
     text.push("}\n");
-    text.whole()
+}
+
+/// Appends the dependence graph of a specification for Graphviz: an edge from each constraint to
+/// those that its templates may break, and a dashed one to those on which it relies.
+pub fn push_graph(text: &mut Text, spec: &Spec)
+    requires { IsTyped spec.now }
+{
+    match graph(text.allocator(), spec) {
+        Ok(graph) => push_known(text, spec, &graph),
+        Err(_) => text.cut(),
+    }
 }

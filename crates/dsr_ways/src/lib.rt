@@ -8,6 +8,6 @@ mod literals;
 mod templates;
 mod ways;
 
-pub use dot::dependence_graph;
+pub use dot::push_graph;
 pub use literals::{Variables, push_literal, variables_of};
-pub use ways::ways_told;
+pub use ways::push_repairs;

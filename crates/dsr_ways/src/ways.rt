@@ -6,14 +6,13 @@ use crate::templates::push_template;
 use dsr_answers::constraint_name;
 use dsr_command_plan::{Found, find};
 use dsr_graph::{Graph, Position, breaks, falsifies, graph, ways};
-use dsr_ir::{Conj, Constraint, Literal, NoMemory, Spec};
+use dsr_ir::{Conj, Constraint, Literal, Spec};
 use dsr_plan_theory::{Row, Way};
 use dsr_tree::Tree;
 use dsr_wording::{Text, numbered};
-use std::alloc::Global;
 
 // A specification with what is known of its repairs.
-#[derive(Drop)]
+#[derive(Clone, Copy)]
 struct Repairs<'a> {
     spec: &'a Spec,
     graph: &'a Graph,
@@ -164,23 +163,39 @@ fn push_constraint(
     }
 }
 
-/// How each constraint would be repaired: its level, its literals, and what would be written for
-/// each by which rule.
-pub fn ways_told(alloc: Global, spec: &Spec, tree: &Tree) -> Result<String, NoMemory>
-    requires { IsTyped spec.now }
-{
-    let graph = graph(alloc, spec)?;
-    let found = find(alloc, spec)?;
-    let repairs = Repairs {
-        spec,
-        graph: &graph,
-        found: &found,
-    };
-    let mut text = Text::new(alloc);
-    for (number, constraint) in spec.constraints.items().iter().enumerate() {
+// Appends the constraints, once their repairs are known.
+fn push_constraints(text: &mut Text, repairs: &Repairs<'_>, tree: &Tree) {
+    for (number, constraint) in repairs.spec.constraints.items().iter().enumerate() {
         let number = numbered(number);
         let variables = variables_of(tree, number);
-        push_constraint(&mut text, &repairs, &variables, number, constraint);
+        push_constraint(text, repairs, &variables, number, constraint);
     }
-    text.whole()
+}
+
+// Appends the constraints, once their graph is known.
+fn push_by_graph(text: &mut Text, spec: &Spec, graph: &Graph, tree: &Tree)
+    requires { IsTyped spec.now }
+{
+    match find(text.allocator(), spec) {
+        Ok(found) => {
+            let repairs = Repairs {
+                spec,
+                graph,
+                found: &found,
+            };
+            push_constraints(text, &repairs, tree);
+        }
+        Err(_) => text.cut(),
+    }
+}
+
+/// Appends how each constraint would be repaired: its level, its literals, and what would be
+/// written for each by which rule.
+pub fn push_repairs(text: &mut Text, spec: &Spec, tree: &Tree)
+    requires { IsTyped spec.now }
+{
+    match graph(text.allocator(), spec) {
+        Ok(graph) => push_by_graph(text, spec, &graph, tree),
+        Err(_) => text.cut(),
+    }
 }

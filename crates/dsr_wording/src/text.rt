@@ -5,8 +5,8 @@ use itoa::Buffer;
 use std::alloc::Global;
 use std::fmt::{Display, Write};
 
-/// A text that grows by pieces. Where memory runs out, what is added from then on is left out, and
-/// that is told in the end: so what writes a text has nothing to pass on.
+/// A text that grows by pieces. That memory ran out is kept, and told in the end: so what writes a
+/// text has nothing to pass on.
 #[derive(Drop)]
 pub struct Text {
     text: String,
@@ -72,6 +72,11 @@ impl Text {
         if self.text.push(letter).is_err() {
             self.is_cut = true;
         }
+    }
+
+    /// Keeps that memory ran out, where what was to be added couldn't be made.
+    pub fn cut(&mut self) {
+        self.is_cut = true;
     }
 
     /// Whether nothing was written.

@@ -97,7 +97,8 @@ fn say_undeclared(words: &mut Words, tree: &Tree, name: &[u8], role: Role) {
     if is_refused_complement(tree, name, role) {
         words.say(&["`", text, "` is a complement, which can't stand here"]);
     } else {
-        words.say(&["no ", in_words(role), " is called `", text, "`"]);
+        words.say(&["no ", in_words(role)]);
+        words.say(&[" is called `", text, "`"]);
     }
 }
 
@@ -118,7 +119,10 @@ fn hint_other(words: &mut Words, scene: &Scene<'_>, tree: &Tree, name: &[u8], ro
     match declared_as(tree, name) {
         Some(Declared::Field) => hint_field(words, tree, name, role),
         Some(kind) => {
-            words.hint(&["`", text_of(name), "` is ", kind.in_words()]);
+            let mut hint = Text::new(words.message.allocator());
+            hint.pieces(&["`", text_of(name), "` is "]);
+            hint.push(kind.in_words());
+            words.add(hint);
             true
         }
         None => false,

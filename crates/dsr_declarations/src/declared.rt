@@ -1,7 +1,8 @@
 // What the declarations of a tree name.
-use dsr_ir::NoMemory;
-use dsr_tree::{Content, Field, NamedField, Pool, Relation, Set, Structure, Tree, View};
-use std::alloc::Global;
+use dsr_passages::Names;
+use dsr_tree::{
+    Constraint, Content, Field, NamedField, Pool, Relation, Set, Structure, Tree, View,
+};
 
 /// The structure with this name.
 pub fn structure_named<'a>(tree: &'a Tree, name: &[u8]) -> Option<&'a Structure> {
@@ -53,6 +54,16 @@ pub fn relation_named<'a>(tree: &'a Tree, name: &[u8]) -> Option<&'a Relation> {
     for relation in tree.relations.items() {
         if relation.name.name.bytes() == name {
             return Some(relation);
+        }
+    }
+    None
+}
+
+/// The constraint with this name.
+pub fn constraint_named<'a>(tree: &'a Tree, name: &[u8]) -> Option<&'a Constraint> {
+    for constraint in tree.constraints.items() {
+        if constraint.name.name.bytes() == name {
+            return Some(constraint);
         }
     }
     None
@@ -137,67 +148,45 @@ pub fn declared_as(tree: &Tree, name: &[u8]) -> Option<Declared> {
     }
 }
 
-/// The names of the structures that can be a parent, a pool's or a set's.
-pub fn structure_names(alloc: Global, tree: &Tree) -> Result<Vec<&[u8]>, NoMemory> {
-    let mut names = Vec::new(alloc);
+/// Adds the names of the structures that can be a parent, a pool's or a set's.
+pub fn add_structures<'a>(names: &mut Names<'a>, tree: &'a Tree) {
     for structure in tree.structures.items() {
         if !is_head(structure) {
-            names.push(structure.name.name.bytes())?;
+            names.push(structure.name.name.bytes());
         }
     }
-    Ok(names)
 }
 
-/// The names of the pools.
-pub fn pool_names(alloc: Global, tree: &Tree) -> Result<Vec<&[u8]>, NoMemory> {
-    let mut names = Vec::new(alloc);
+/// Adds the names of the pools.
+pub fn add_pools<'a>(names: &mut Names<'a>, tree: &'a Tree) {
     for pool in tree.pools.items() {
-        names.push(pool.name.name.bytes())?;
+        names.push(pool.name.name.bytes());
     }
-    Ok(names)
 }
 
-/// The names of the sets.
-pub fn set_names(alloc: Global, tree: &Tree) -> Result<Vec<&[u8]>, NoMemory> {
-    let mut names = Vec::new(alloc);
+/// Adds the names of the sets, those of complements too if they may stand.
+pub fn add_sets<'a>(names: &mut Names<'a>, tree: &'a Tree, complements: bool) {
     for set in tree.sets.items() {
-        names.push(set.name.name.bytes())?;
-    }
-    Ok(names)
-}
-
-/// The names of the sets that are no complements.
-pub fn plain_set_names(alloc: Global, tree: &Tree) -> Result<Vec<&[u8]>, NoMemory> {
-    let mut names = Vec::new(alloc);
-    for set in tree.sets.items() {
-        if !is_complement(set) {
-            names.push(set.name.name.bytes())?;
+        if complements || !is_complement(set) {
+            names.push(set.name.name.bytes());
         }
     }
-    Ok(names)
 }
 
-/// The names of the relations.
-pub fn relation_names(alloc: Global, tree: &Tree) -> Result<Vec<&[u8]>, NoMemory> {
-    let mut names = Vec::new(alloc);
+/// Adds the names of the relations.
+pub fn add_relations<'a>(names: &mut Names<'a>, tree: &'a Tree) {
     for relation in tree.relations.items() {
-        names.push(relation.name.name.bytes())?;
+        names.push(relation.name.name.bytes());
     }
-    Ok(names)
 }
 
-/// The names of the fixed fields that the head declares.
-pub fn fixed_names(alloc: Global, tree: &Tree) -> Result<Vec<&[u8]>, NoMemory> {
-    let mut names = Vec::new(alloc);
-    let Some(head) = head_of(tree) else {
-        return Ok(names);
-    };
-    for field in head.fields.items() {
+/// Adds the names of the fields that a structure declares, or of the fixed ones alone.
+pub fn add_fields<'a>(names: &mut Names<'a>, structure: &'a Structure, fixed: bool) {
+    for field in structure.fields.items() {
         if let Field::Named(named) = field
-            && named.fixed.is_some()
+            && (!fixed || named.fixed.is_some())
         {
-            names.push(named.name.name.bytes())?;
+            names.push(named.name.name.bytes());
         }
     }
-    Ok(names)
 }

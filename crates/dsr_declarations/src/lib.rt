@@ -8,8 +8,8 @@ mod records;
 mod roles;
 
 pub use declared::{
-    Declared, declared_as, head_of, is_head, own_field, owner_of, pool_named, relation_named,
-    set_named, structure_named, target_of,
+    Declared, constraint_named, declared_as, head_of, is_head, own_field, owner_of, pool_named,
+    relation_named, set_named, structure_named, target_of,
 };
 pub use places::{rule_at, set_at, structure_at, supply_at};
 pub use records::{

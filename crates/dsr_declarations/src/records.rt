@@ -1,12 +1,8 @@
 // The records that rules read, their fields, and what stands for them.
-use crate::declared::{head_of, own_field, pool_named, set_named, structure_named};
+use crate::declared::{add_fields, head_of, own_field, pool_named, set_named, structure_named};
 use crate::places::{constraint_at, rule_at};
-use dsr_ir::NoMemory;
-use dsr_passages::{Declaration, Scene};
-use dsr_tree::{
-    Binder, Constraint, Field, NamedField, Premise, Rule, Set, Structure, Tree, Var, View,
-};
-use std::alloc::Global;
+use dsr_passages::{Declaration, Names, Scene};
+use dsr_tree::{Binder, Constraint, NamedField, Premise, Rule, Set, Structure, Tree, Var, View};
 
 /// The place of the token where the scene is; the text's start where it has none.
 pub fn place_in(scene: &Scene<'_>) -> u64 {
@@ -41,32 +37,16 @@ pub fn field_of<'a>(
     None
 }
 
-// Adds the names of the fields that a structure declares.
-fn add_fields<'a>(names: &mut Vec<&'a [u8]>, structure: &'a Structure) -> Result<(), NoMemory> {
-    for field in structure.fields.items() {
-        if let Field::Named(named) = field {
-            names.push(named.name.name.bytes())?;
-        }
-    }
-    Ok(())
-}
-
-/// The names of the fields that a structure declares or inherits.
-pub fn field_names<'a>(
-    alloc: Global,
-    tree: &'a Tree,
-    structure: &'a Structure,
-) -> Result<Vec<&'a [u8]>, NoMemory> {
-    let mut names = Vec::new(alloc);
+/// Adds the names of the fields that a structure declares or inherits.
+pub fn add_all_fields<'a>(names: &mut Names<'a>, tree: &'a Tree, structure: &'a Structure) {
     let mut owner = structure;
     for _step in tree.structures.items() {
-        add_fields(&mut names, owner)?;
+        add_fields(names, owner, false);
         match parent_of(tree, owner) {
             Some(parent) => owner = parent,
-            None => return Ok(names),
+            None => return,
         }
     }
-    Ok(names)
 }
 
 /// The structure by which a set's records are read.
@@ -132,41 +112,34 @@ pub fn place_of(var: &Var) -> u64 {
 }
 
 // Adds the variables of a constraint that its quantifier names.
-fn add_bound<'a>(names: &mut Vec<&'a [u8]>, constraint: &'a Constraint) -> Result<(), NoMemory> {
+fn add_bound<'a>(names: &mut Names<'a>, constraint: &'a Constraint) {
     let Some(quantifier) = &constraint.quantifier else {
-        return Ok(());
+        return;
     };
     match &quantifier.binder {
-        Binder::One(name) => names.push(name.name.bytes())?,
+        Binder::One(name) => names.push(name.name.bytes()),
         Binder::Pair {
             place: _,
             first,
             second,
         } => {
-            names.push(first.name.bytes())?;
-            names.push(second.name.bytes())?;
+            names.push(first.name.bytes());
+            names.push(second.name.bytes());
         }
     }
-    Ok(())
 }
 
-/// The variables of the rule or the constraint in which the scene stands.
-pub fn variables<'a>(
-    alloc: Global,
-    scene: &Scene<'_>,
-    tree: &'a Tree,
-) -> Result<Vec<&'a [u8]>, NoMemory> {
-    let mut names: Vec<&'a [u8]> = Vec::new(alloc);
+/// Adds the variables of the rule or the constraint in which the scene stands.
+pub fn add_variables<'a>(names: &mut Names<'a>, scene: &Scene<'_>, tree: &'a Tree) {
     let (declaration, _) = scene.declaration();
     if declaration == Declaration::Rule {
         if let Some(rule) = rule_at(tree, place_in(scene)) {
-            names.push(record_name(rule))?;
+            names.push(record_name(rule));
         }
-        return Ok(names);
+        return;
     }
-    names.push(b"head")?;
+    names.push(b"head");
     if let Some(constraint) = constraint_at(tree, place_in(scene)) {
-        add_bound(&mut names, constraint)?;
+        add_bound(names, constraint);
     }
-    Ok(names)
 }

@@ -1,12 +1,11 @@
 // What a name is used for, by the tokens round it.
 use crate::declared::{
-    fixed_names, plain_set_names, pool_names, relation_named, relation_names, set_names,
-    structure_names,
+    add_fields, add_pools, add_relations, add_sets, add_structures, head_of, relation_named,
 };
 use crate::places::rule_at;
-use crate::records::{field_names, place_in, record_of, variables};
+use crate::records::{add_all_fields, add_variables, place_in, record_of};
 use dsr_ir::NoMemory;
-use dsr_passages::{Declaration, Scene, keyword_in, name_in, sign_in};
+use dsr_passages::{Declaration, Names, Scene, keyword_in, name_in, sign_in};
 use dsr_tree::{Keyword, Sign, Tree};
 use std::alloc::Global;
 
@@ -133,32 +132,20 @@ pub fn role_of(scene: &Scene<'_>, tree: &Tree) -> Role {
     }
 }
 
-// The names of the fields of the record that a rule reads.
-fn record_fields<'a>(
-    alloc: Global,
-    scene: &Scene<'_>,
-    tree: &'a Tree,
-) -> Result<Vec<&'a [u8]>, NoMemory> {
-    let Some(rule) = rule_at(tree, place_in(scene)) else {
-        return Ok(Vec::new(alloc));
-    };
-    match record_of(tree, rule) {
-        Some(structure) => field_names(alloc, tree, structure),
-        None => Ok(Vec::new(alloc)),
+// Adds the names of the fixed fields that the head declares.
+fn add_fixed<'a>(names: &mut Names<'a>, tree: &'a Tree) {
+    if let Some(head) = head_of(tree) {
+        add_fields(names, head, true);
     }
 }
 
-// The variables and the relations.
-fn measured<'a>(
-    alloc: Global,
-    scene: &Scene<'_>,
-    tree: &'a Tree,
-) -> Result<Vec<&'a [u8]>, NoMemory> {
-    let mut names = variables(alloc, scene, tree)?;
-    for relation in tree.relations.items() {
-        names.push(relation.name.name.bytes())?;
+// Adds the names of the fields of the record that a rule reads.
+fn add_read<'a>(names: &mut Names<'a>, scene: &Scene<'_>, tree: &'a Tree) {
+    if let Some(rule) = rule_at(tree, place_in(scene))
+        && let Some(structure) = record_of(tree, rule)
+    {
+        add_all_fields(names, tree, structure);
     }
-    Ok(names)
 }
 
 /// What is declared for this use.
@@ -168,17 +155,22 @@ pub fn candidates<'a>(
     tree: &'a Tree,
     role: Role,
 ) -> Result<Vec<&'a [u8]>, NoMemory> {
+    let mut names = Names::new(alloc);
     match role {
-        Role::Structure => structure_names(alloc, tree),
-        Role::Pool => pool_names(alloc, tree),
-        Role::FixedField => fixed_names(alloc, tree),
-        Role::Set => set_names(alloc, tree),
-        Role::PlainSet => plain_set_names(alloc, tree),
-        Role::Relation => relation_names(alloc, tree),
-        Role::Field => record_fields(alloc, scene, tree),
-        Role::Variable => variables(alloc, scene, tree),
-        Role::Measured => measured(alloc, scene, tree),
+        Role::Structure => add_structures(&mut names, tree),
+        Role::Pool => add_pools(&mut names, tree),
+        Role::FixedField => add_fixed(&mut names, tree),
+        Role::Set => add_sets(&mut names, tree, true),
+        Role::PlainSet => add_sets(&mut names, tree, false),
+        Role::Relation => add_relations(&mut names, tree),
+        Role::Field => add_read(&mut names, scene, tree),
+        Role::Variable => add_variables(&mut names, scene, tree),
+        Role::Measured => {
+            add_variables(&mut names, scene, tree);
+            add_relations(&mut names, tree);
+        }
     }
+    names.whole()
 }
 
 /// The use, in words.

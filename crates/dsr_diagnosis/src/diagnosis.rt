@@ -6,11 +6,11 @@ use dsr_lexer::front;
 use dsr_meaning_diagnosis::refused;
 use dsr_names::SpecFault;
 use dsr_parse::{SyntaxFault, parse};
-use dsr_passages::{Diagnosis, Scene, count_before, shown_before, shown_behind, spot_of};
+use dsr_passages::{Diagnosis, Scene, Spot, count_before, push_before, push_behind, spot_of};
 use dsr_spec::spec;
 use dsr_tree::{Lexeme, Tree};
+use dsr_wording::Text;
 use std::alloc::Global;
-use std::fmt::Write;
 
 fn scene_at<'a>(text: &'a [u8], lexemes: &'a [Lexeme], place: u64) -> Scene<'a> {
     Scene {
@@ -62,30 +62,47 @@ pub fn diagnose(alloc: Global, text: &[u8]) -> Result<Option<Diagnosis>, NoMemor
 }
 
 // As many of a letter.
-fn push_many(text: &mut String, letter: char, count: usize) -> Result<(), NoMemory> {
+fn push_many(text: &mut Text, letter: char, count: usize) {
     for _one in 0..count {
-        text.push(letter)?;
+        text.push_letter(letter);
     }
-    Ok(())
+}
+
+// The number of a line, in five columns where it has no more digits.
+fn push_number(text: &mut Text, line: usize) {
+    for least in [10, 100, 1000, 10000] {
+        if line < least {
+            text.push(" ");
+        }
+    }
+    text.number(line as u64);
 }
 
 // The line, and a mark below what is meant.
 fn push_line(
     alloc: Global,
-    shown: &mut String,
-    text: &[u8],
-    diagnosis: &Diagnosis,
+    shown: &mut Text,
+    spot: &Spot<'_>,
+    length: usize,
 ) -> Result<(), NoMemory> {
-    let spot = spot_of(text, diagnosis.place);
-    let line = spot.line;
-    let before = shown_before(alloc, &spot)?;
-    let behind = shown_behind(alloc, &spot)?;
-    write!(shown, "{line:5} | {before}{behind}\n      | ")?;
-    push_many(shown, ' ', before.as_str().chars().count())?;
-    let width = diagnosis.length.min(behind.as_str().chars().count());
-    push_many(shown, '^', width.max(1))?;
-    shown.push_str("\n")?;
+    push_number(shown, spot.line);
+    shown.push(" | ");
+    let before = push_before(alloc, shown, spot)?;
+    let behind = push_behind(alloc, shown, spot)?;
+    shown.push("\n      | ");
+    push_many(shown, ' ', before);
+    push_many(shown, '^', length.min(behind).max(1));
+    shown.push("\n");
     Ok(())
+}
+
+// What is wrong, behind where it stands.
+fn push_message(shown: &mut Text, file: &str, spot: &Spot<'_>, message: &str) {
+    shown.pieces(&[file, ":"]);
+    shown.number(spot.line as u64);
+    shown.push(":");
+    shown.number(spot.column as u64);
+    shown.pieces(&[": error: ", message, "\n"]);
 }
 
 /// The diagnosis of a file's text as it is shown: where and what, the line with a mark below what
@@ -96,14 +113,12 @@ pub fn shown(
     text: &[u8],
     diagnosis: &Diagnosis,
 ) -> Result<String, NoMemory> {
-    let mut shown = String::new(alloc);
+    let mut shown = Text::new(alloc);
     let spot = spot_of(text, diagnosis.place);
-    let (line, column) = (spot.line, spot.column);
-    let message = &diagnosis.message;
-    write!(shown, "{file}:{line}:{column}: error: {message}\n")?;
-    push_line(alloc, &mut shown, text, diagnosis)?;
+    push_message(&mut shown, file, &spot, diagnosis.message.as_str());
+    push_line(alloc, &mut shown, &spot, diagnosis.length)?;
     for hint in &diagnosis.hints {
-        write!(shown, "      = {hint}\n")?;
+        shown.pieces(&["      = ", hint.as_str(), "\n"]);
     }
-    Ok(shown)
+    shown.whole()
 }

@@ -5,8 +5,9 @@ ghost use Rattle.std.specs.Prelude.{◌≡◌, IfOk};
 use dsr_ir::NoMemory;
 use dsr_lexer::{keyword_bytes, sign_bytes};
 use dsr_parse::{SyntaxFault, parse};
-use dsr_passages::{part, spelled};
+use dsr_passages::part;
 use dsr_tree::{Keyword, Sign};
+use dsr_wording::Text;
 use std::alloc::Global;
 
 const KEYWORDS: [Keyword; 42] = [
@@ -54,7 +55,8 @@ const KEYWORDS: [Keyword; 42] = [
     Keyword::Size,
 ];
 
-const SIGNS: [Sign; 22] = [
+// The signs but those of expressions, which are told in one word.
+const SIGNS: [Sign; 18] = [
     Sign::Semicolon,
     Sign::Colon,
     Sign::Comma,
@@ -67,10 +69,6 @@ const SIGNS: [Sign; 22] = [
     Sign::CloseParenthesis,
     Sign::Arrow,
     Sign::Gives,
-    Sign::Plus,
-    Sign::Minus,
-    Sign::Times,
-    Sign::Over,
     Sign::Equal,
     Sign::Differs,
     Sign::Less,
@@ -79,9 +77,6 @@ const SIGNS: [Sign; 22] = [
     Sign::AtLeast,
 ];
 
-// The signs of expressions.
-const OPERATORS: [Sign; 4] = [Sign::Plus, Sign::Minus, Sign::Times, Sign::Over];
-
 /// What may stand at a place.
 #[derive(Drop)]
 pub struct Expected {
@@ -89,6 +84,8 @@ pub struct Expected {
     pub signs: Vec<Sign>,
     pub name: bool,
     pub number: bool,
+    /// One of the signs of expressions, which stand in the same places.
+    pub operator: bool,
     /// The end of the text.
     pub end: bool,
 }
@@ -154,6 +151,7 @@ pub fn expected_at(
     front.push(b'\n')?;
     let name = may_follow(alloc, &mut front, b"a")?;
     let number = may_follow(alloc, &mut front, b"1")?;
+    let operator = may_follow(alloc, &mut front, b"+")?;
     let end = refused_at(alloc, &front)?.is_none();
     let signs = signs_behind(alloc, &mut front)?;
     let keywords = keywords_behind(alloc, &mut front, second)?;
@@ -162,6 +160,7 @@ pub fn expected_at(
         signs,
         name,
         number,
+        operator,
         end,
     })
 }
@@ -176,67 +175,75 @@ impl Expected {
     }
 }
 
-// Adds a word or a sign in quotes.
-fn push_quoted(alloc: Global, things: &mut Vec<String>, bytes: &[u8]) -> Result<(), NoMemory> {
-    let text = spelled(bytes);
-    things.push(format!(in alloc; "`{text}`")?)?;
-    Ok(())
+// What may stand at a place, as a part of a sentence that lists so many things.
+#[derive(Drop)]
+struct Listing {
+    text: Text,
+    number: usize,
+    count: usize,
 }
 
-// Adds the signs, without the four of expressions, which are told in one word.
-fn push_signs(
-    alloc: Global,
-    things: &mut Vec<String>,
-    expected: &Expected,
-) -> Result<(), NoMemory> {
-    for sign in &expected.signs {
-        if !OPERATORS.contains(sign) {
-            push_quoted(alloc, things, sign_bytes(*sign))?;
+impl Listing {
+    // Appends what stands before the next thing.
+    fn begin(&mut self) {
+        if self.number > 0 {
+            let is_last = self.number.saturating_add(1) == self.count;
+            self.text.push(if is_last { " or " } else { ", " });
+        }
+        self.number = self.number.saturating_add(1);
+    }
+
+    // Adds a thing that may stand there.
+    fn add(&mut self, may_stand: bool, thing: &str) {
+        if may_stand {
+            self.begin();
+            self.text.push(thing);
         }
     }
-    Ok(())
+
+    // Adds a word or a sign in quotes.
+    fn quote(&mut self, spelling: &[u8]) {
+        self.begin();
+        self.text.push("`");
+        self.text.name(spelling);
+        self.text.push("`");
+    }
 }
 
-// What may stand at a place, each in words.
-fn things(alloc: Global, expected: &Expected) -> Result<Vec<String>, NoMemory> {
-    let mut things = Vec::new(alloc);
-    if expected.name {
-        things.push("a name".to_string(alloc)?)?;
+// How many things may stand at a place.
+fn count_of(expected: &Expected) -> usize {
+    let mut count = expected.keywords.len().saturating_add(expected.signs.len());
+    for may_stand in [
+        expected.name,
+        expected.number,
+        expected.operator,
+        expected.end,
+    ] {
+        if may_stand {
+            count = count.saturating_add(1);
+        }
     }
-    if expected.number {
-        things.push("a number".to_string(alloc)?)?;
-    }
-    for keyword in &expected.keywords {
-        push_quoted(alloc, &mut things, keyword_bytes(*keyword))?;
-    }
-    push_signs(alloc, &mut things, expected)?;
-    if expected.has_sign(Sign::Plus) {
-        things.push("an operator".to_string(alloc)?)?;
-    }
-    if expected.end {
-        things.push("the end of the text".to_string(alloc)?)?;
-    }
-    Ok(things)
-}
-
-// What stands before one of so many things.
-fn before(number: usize, count: usize) -> &'static str {
-    if number == 0 {
-        return "";
-    }
-    if number.saturating_add(1) == count {
-        return " or ";
-    }
-    ", "
+    count
 }
 
 /// What may stand at a place, in words.
-pub fn in_words(alloc: Global, expected: &Expected) -> Result<String, NoMemory> {
-    let things = things(alloc, expected)?;
-    let mut text = String::from_str(alloc, "expected ")?;
-    for (number, thing) in things.iter().enumerate() {
-        text.push_str(before(number, things.len()))?;
-        text.push_str(thing.as_str())?;
+pub fn in_words(alloc: Global, expected: &Expected) -> Text {
+    let mut text = Text::new(alloc);
+    text.push("expected ");
+    let mut listing = Listing {
+        text,
+        number: 0,
+        count: count_of(expected),
+    };
+    listing.add(expected.name, "a name");
+    listing.add(expected.number, "a number");
+    for keyword in &expected.keywords {
+        listing.quote(keyword_bytes(*keyword));
     }
-    Ok(text)
+    for sign in &expected.signs {
+        listing.quote(sign_bytes(*sign));
+    }
+    listing.add(expected.operator, "an operator");
+    listing.add(expected.end, "the end of the text");
+    listing.text
 }

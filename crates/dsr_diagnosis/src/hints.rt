@@ -5,9 +5,10 @@ use crate::tokens::place_of;
 use dsr_ir::NoMemory;
 use dsr_lexer::keyword_bytes;
 use dsr_passages::{
-    Declaration, Scene, begun_by, keyword_in, line_of, meant_by, name_in, sign_in, spelled,
+    Declaration, Scene, Words, begun_by, is_near, keyword_in, line_of, name_in, sign_in,
 };
 use dsr_tree::{Keyword, Lexeme, Sign};
+use dsr_wording::{Text, text_of};
 use std::alloc::Global;
 
 // Signs that are written otherwise in other languages: one, the one behind it, and what is meant.
@@ -91,36 +92,43 @@ fn meant_keyword(
     word: &[u8],
     expected: &Expected,
 ) -> Result<Option<&'static [u8]>, NoMemory> {
-    let mut words = Vec::new(alloc);
     for keyword in &expected.keywords {
-        words.push(keyword_bytes(*keyword))?;
-    }
-    meant_by(alloc, word, &words)
-}
-
-// What was meant by a name that can't stand at its place.
-fn name_hint(alloc: Global, word: &[u8], expected: &Expected) -> Result<Option<String>, NoMemory> {
-    if let Some(hint) = instead_of(word, expected) {
-        return Ok(Some(hint.to_string(alloc)?));
-    }
-    match meant_keyword(alloc, word, expected)? {
-        Some(meant) => {
-            let meant = spelled(meant);
-            Ok(Some(format!(in alloc; "did you mean `{meant}`?")?))
+        let meant = keyword_bytes(*keyword);
+        if is_near(alloc, word, meant)? {
+            return Ok(Some(meant));
         }
-        None => Ok(None),
+    }
+    Ok(None)
+}
+
+// Adds what was meant by a name that can't stand at its place; tells whether that is known.
+fn hint_name(alloc: Global, words: &mut Words, word: &[u8], expected: &Expected) -> bool {
+    if let Some(hint) = instead_of(word, expected) {
+        words.hint(&[hint]);
+        return true;
+    }
+    match meant_keyword(alloc, word, expected) {
+        Ok(Some(meant)) => {
+            words.hint(&["did you mean `", text_of(meant), "`?"]);
+            true
+        }
+        Ok(None) => false,
+        Err(_) => {
+            words.cut();
+            true
+        }
     }
 }
 
-// That a keyword can't be a name.
-fn no_name(alloc: Global, keyword: Keyword) -> Result<String, NoMemory> {
+const NO_NAME: &str = "` is a keyword, and no keyword can be a name";
+
+// Adds that a keyword can't be a name.
+fn hint_no_name(words: &mut Words, keyword: Keyword) {
     let bytes = keyword_bytes(keyword);
-    let word = spelled(bytes);
+    let word = text_of(bytes);
     match name_for(bytes) {
-        Some(instead) => Ok(format!(in alloc;
-            "`{word}` is a keyword, and no keyword can be a name: write {instead}, say"
-        )?),
-        None => Ok(format!(in alloc; "`{word}` is a keyword, and no keyword can be a name")?),
+        Some(instead) => words.hint(&["`", word, NO_NAME, ": write ", instead, ", say"]),
+        None => words.hint(&["`", word, NO_NAME]),
     }
 }
 
@@ -136,31 +144,44 @@ fn is_behind_path(scene: &Scene<'_>) -> bool {
     name_in(scene.before(1)).is_some() && sign_in(scene.before(2)) == Some(Sign::Dot)
 }
 
-// What is told of a keyword that can't stand at its place.
-fn keyword_hint(
-    alloc: Global,
-    scene: &Scene<'_>,
-    keyword: Keyword,
-    expected: &Expected,
-) -> Result<Option<String>, NoMemory> {
+// Why a keyword can't stand at its place.
+fn keyword_hint(scene: &Scene<'_>, keyword: Keyword, expected: &Expected) -> Option<&'static str> {
     if expected.has_keyword(Keyword::Constraint) {
-        return match begun_by(keyword) {
-            Some(_) => Ok(Some(ORDER_OF_KINDS.to_string(alloc)?)),
-            None => Ok(None),
-        };
+        begun_by(keyword)?;
+        return Some(ORDER_OF_KINDS);
     }
     let (declaration, _) = scene.declaration();
     if keyword == Keyword::Forall && expected.has_keyword(Keyword::Not) {
-        return Ok(Some(FORALL.to_string(alloc)?));
+        return Some(FORALL);
     }
     if keyword == Keyword::In && declaration == Declaration::Constraint && is_behind_path(scene) {
-        return Ok(Some(MEMBERS.to_string(alloc)?));
+        return Some(MEMBERS);
     }
-    // Where an expression or a formula begins, it is missing.
-    if expected.name && !expected.number && !expected.has_keyword(Keyword::Not) {
-        return Ok(Some(no_name(alloc, keyword)?));
+    None
+}
+
+// Whether a name may stand at the place, and neither an expression nor a formula begins there.
+fn is_for_names(expected: &Expected) -> bool {
+    let is_in_list = expected.has_keyword(Keyword::Constraint);
+    expected.name && !expected.number && !expected.has_keyword(Keyword::Not) && !is_in_list
+}
+
+// Adds why a keyword can't stand at its place; tells whether that is known.
+fn hint_keyword(
+    words: &mut Words,
+    scene: &Scene<'_>,
+    keyword: Keyword,
+    expected: &Expected,
+) -> bool {
+    if let Some(hint) = keyword_hint(scene, keyword, expected) {
+        words.hint(&[hint]);
+        return true;
     }
-    Ok(None)
+    let is_name = is_for_names(expected);
+    if is_name {
+        hint_no_name(words, keyword);
+    }
+    is_name
 }
 
 // What a word of another language in front of the place was to mean.
@@ -187,29 +208,30 @@ fn signs_hint(scene: &Scene<'_>, expected: &Expected) -> Option<&'static str> {
 
 const OPENING: &str = "a text begins as `version 1; order little;`";
 
-/// What may help with the token at the place.
-pub fn hint_of(
-    alloc: Global,
-    scene: &Scene<'_>,
-    expected: &Expected,
-) -> Result<Option<String>, NoMemory> {
+// Adds what the word at the place was to mean; tells whether that is known.
+fn hint_word(alloc: Global, words: &mut Words, scene: &Scene<'_>, expected: &Expected) -> bool {
+    let found = scene.found();
+    match (name_in(found), keyword_in(found)) {
+        (Some(word), _) => hint_name(alloc, words, word, expected),
+        (None, Some(keyword)) => hint_keyword(words, scene, keyword, expected),
+        (None, None) => false,
+    }
+}
+
+/// Adds what may help with the token at the place.
+pub fn hint_token(alloc: Global, words: &mut Words, scene: &Scene<'_>, expected: &Expected) {
     if let Some(hint) = signs_hint(scene, expected) {
-        return Ok(Some(hint.to_string(alloc)?));
+        words.hint(&[hint]);
+        return;
     }
     if let Some(hint) = phrase_hint(scene) {
-        return Ok(Some(hint.to_string(alloc)?));
+        words.hint(&[hint]);
+        return;
     }
-    let found = scene.found();
-    let hint = match (name_in(found), keyword_in(found)) {
-        (Some(word), _) => name_hint(alloc, word, expected)?,
-        (None, Some(keyword)) => keyword_hint(alloc, scene, keyword, expected)?,
-        (None, None) => None,
-    };
     // The version and the order stand before the seventh token.
-    if hint.is_none() && scene.at < 6 {
-        return Ok(Some(OPENING.to_string(alloc)?));
+    if !hint_word(alloc, words, scene, expected) && scene.at < 6 {
+        words.hint(&[OPENING]);
     }
-    Ok(hint)
 }
 
 // Whether the text ends at the place, or a declaration begins there.
@@ -232,24 +254,21 @@ fn missing(scene: &Scene<'_>, expected: &Expected) -> Option<&'static str> {
     None
 }
 
-/// That a line ends without the sign that ends what it says.
-pub fn end_hint(
-    alloc: Global,
-    scene: &Scene<'_>,
-    expected: &Expected,
-) -> Result<Option<String>, NoMemory> {
+/// Adds that a line ends without the sign that ends what it says, where that is so.
+pub fn hint_end(words: &mut Words, scene: &Scene<'_>, expected: &Expected) {
     let Some(last) = scene.before(1) else {
-        return Ok(None);
+        return;
     };
     let line = line_of(scene.text, last.place);
     let place = place_of(scene, scene.found()) as u64;
     if line == line_of(scene.text, place) {
-        return Ok(None);
+        return;
     }
-    match missing(scene, expected) {
-        Some(sign) => Ok(Some(format!(in alloc;
-            "is a `{sign}` missing at the end of line {line}?"
-        )?)),
-        None => Ok(None),
+    if let Some(sign) = missing(scene, expected) {
+        let mut hint = Text::new(words.message.allocator());
+        hint.pieces(&["is a `", sign, "` missing at the end of line "]);
+        hint.number(line as u64);
+        hint.push("?");
+        words.add(hint);
     }
 }

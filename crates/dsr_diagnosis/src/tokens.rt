@@ -1,8 +1,9 @@
 // What is told of bytes that begin no token, and of tokens that go over a limit.
 use crate::foreign::instead_of_mark;
 use dsr_ir::NoMemory;
-use dsr_passages::{Declaration, Diagnosis, Scene, keyword_in, length_of, part, sign_in, spelled};
+use dsr_passages::{Declaration, Diagnosis, Scene, Words, keyword_in, length_of, part, sign_in};
 use dsr_tree::{Keyword, Lexeme, Sign};
+use dsr_wording::text_of;
 use std::alloc::Global;
 
 // The most bytes of a letter.
@@ -26,32 +27,42 @@ fn letter_at(alloc: Global, text: &[u8]) -> Result<Option<char>, NoMemory> {
     }
 }
 
+// A digit of a byte in hexadecimal.
+fn digit_of(number: u8) -> char {
+    char::from_digit(u32::from(number), 16).unwrap_or('?')
+}
+
 // What is wrong with a mark that begins no token.
-fn mark_message(alloc: Global, letter: Option<char>, byte: u8) -> Result<String, NoMemory> {
+fn say_mark(words: &mut Words, letter: Option<char>, byte: u8) {
     match letter {
         Some(letter) if !letter.is_control() && !letter.is_whitespace() => {
-            Ok(format!(in alloc; "no token begins with `{letter}`")?)
+            words.say(&["no token begins with `"]);
+            words.message.push_letter(letter);
+            words.say(&["`"]);
         }
-        _ => Ok(format!(in alloc; "no token begins with the byte 0x{byte:02x}")?),
+        _ => {
+            words.say(&["no token begins with the byte 0x"]);
+            words.message.push_letter(digit_of(byte / 16));
+            words.message.push_letter(digit_of(byte % 16));
+        }
     }
 }
 
 // What is wrong with a word that is no token, or with a mark.
-fn token_message(
-    alloc: Global,
-    word: &[u8],
-    letter: Option<char>,
-    byte: u8,
-) -> Result<String, NoMemory> {
+fn say_token(words: &mut Words, word: &[u8], letter: Option<char>, byte: u8) {
     if byte.is_ascii_digit() {
-        let word = spelled(word);
-        return Ok(format!(in alloc; "the number {word} is greater than 18446744073709551615")?);
+        words.say(&[
+            "the number ",
+            text_of(word),
+            " is greater than 18446744073709551615",
+        ]);
+    } else if byte.is_ascii_alphabetic() {
+        words.say(&["this name has "]);
+        words.message.number(word.len() as u64);
+        words.say(&[" bytes, and a name may have 32"]);
+    } else {
+        say_mark(words, letter, byte);
     }
-    if byte.is_ascii_alphabetic() {
-        let len = word.len();
-        return Ok(format!(in alloc; "this name has {len} bytes, and a name may have 32")?);
-    }
-    mark_message(alloc, letter, byte)
 }
 
 /// What is told of bytes that begin no token.
@@ -60,18 +71,14 @@ pub fn no_token(alloc: Global, text: &[u8], place: usize) -> Result<Diagnosis, N
     let word = word_at(rest);
     let letter = letter_at(alloc, rest)?;
     let byte = rest.first().copied().unwrap_or(0);
-    let mut hints = Vec::new(alloc);
+    let mut words = Words::new(alloc);
+    say_token(&mut words, word, letter, byte);
     if let Some(letter) = letter
         && let Some(hint) = instead_of_mark(letter)
     {
-        hints.push(hint.to_string(alloc)?)?;
+        words.hint(&[hint]);
     }
-    Ok(Diagnosis {
-        place,
-        length: word.len().max(1),
-        message: token_message(alloc, word, letter, byte)?,
-        hints,
-    })
+    words.at(place, word.len().max(1))
 }
 
 // Which limit a token goes over.
@@ -99,12 +106,9 @@ fn limit_message(scene: &Scene<'_>, found: Option<&Lexeme>) -> &'static str {
 /// What is told of a token that goes over a limit.
 pub fn over_limit(alloc: Global, scene: &Scene<'_>) -> Result<Diagnosis, NoMemory> {
     let found = scene.found();
-    Ok(Diagnosis {
-        place: place_of(scene, found),
-        length: length_in(scene, found),
-        message: limit_message(scene, found).to_string(alloc)?,
-        hints: Vec::new(alloc),
-    })
+    let mut words = Words::new(alloc);
+    words.say(&[limit_message(scene, found)]);
+    words.at(place_of(scene, found), length_in(scene, found))
 }
 
 /// The place of a token; the text's length where there is none.

@@ -1,35 +1,35 @@
 // What is told of a token that continues no text of the grammar, or of an early end.
 use crate::expected::{Expected, expected_at, in_words};
-use crate::hints::{end_hint, hint_of};
+use crate::hints::{hint_end, hint_token};
 use crate::tokens::{length_in, place_of};
 use dsr_ir::NoMemory;
-use dsr_passages::{Diagnosis, Scene, length_of, number_in, part, spelled};
+use dsr_passages::{Diagnosis, Scene, Words, length_of, number_in, part};
+use dsr_wording::text_of;
 use std::alloc::Global;
 
 // What stands at the place.
-fn found_message(alloc: Global, scene: &Scene<'_>) -> Result<String, NoMemory> {
+fn say_found(words: &mut Words, scene: &Scene<'_>) {
     match scene.found() {
         Some(lexeme) => {
             let place = lexeme.place as usize;
             let end = place.saturating_add(length_of(scene.text, lexeme));
-            let word = spelled(part(scene.text, place, end));
-            Ok(format!(in alloc; "`{word}` can't stand here")?)
+            words.say(&[
+                "`",
+                text_of(part(scene.text, place, end)),
+                "` can't stand here",
+            ]);
         }
-        None => Ok("the text ends too early".to_string(alloc)?),
+        None => words.say(&["the text ends too early"]),
     }
 }
 
-// What could stand at the place. A number where numbers may stand is the version.
-fn expected_words(
-    alloc: Global,
-    scene: &Scene<'_>,
-    expected: &Expected,
-) -> Result<String, NoMemory> {
+// Adds what could stand at the place. A number where numbers may stand is the version.
+fn hint_expected(alloc: Global, words: &mut Words, scene: &Scene<'_>, expected: &Expected) {
     match number_in(scene.found()) {
-        Some(_) if expected.number => Ok("expected `1` or `2`, the versions there are".to_string(
-            alloc,
-        )?),
-        _ => in_words(alloc, expected),
+        Some(_) if expected.number => {
+            words.hint(&["expected `1` or `2`, the versions there are"]);
+        }
+        _ => words.add(in_words(alloc, expected)),
     }
 }
 
@@ -38,18 +38,10 @@ pub fn unexpected(alloc: Global, scene: &Scene<'_>) -> Result<Diagnosis, NoMemor
     let found = scene.found();
     let place = place_of(scene, found);
     let expected = expected_at(alloc, scene.text, place, scene.is_second())?;
-    let mut hints = Vec::new(alloc);
-    hints.push(expected_words(alloc, scene, &expected)?)?;
-    if let Some(hint) = end_hint(alloc, scene, &expected)? {
-        hints.push(hint)?;
-    }
-    if let Some(hint) = hint_of(alloc, scene, &expected)? {
-        hints.push(hint)?;
-    }
-    Ok(Diagnosis {
-        place,
-        length: length_in(scene, found),
-        message: found_message(alloc, scene)?,
-        hints,
-    })
+    let mut words = Words::new(alloc);
+    say_found(&mut words, scene);
+    hint_expected(alloc, &mut words, scene, &expected);
+    hint_end(&mut words, scene, &expected);
+    hint_token(alloc, &mut words, scene, &expected);
+    words.at(place, length_in(scene, found))
 }

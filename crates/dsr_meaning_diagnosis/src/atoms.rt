@@ -1,11 +1,8 @@
 // What is told of quantifiers and atoms that don't fit what they ask.
-use crate::pairs::relation_words;
-use crate::told::{Words, said};
+use crate::pairs::hint_related;
 use dsr_declarations::relation_named;
-use dsr_ir::NoMemory;
-use dsr_passages::{Scene, keyword_in, name_in, sign_in};
+use dsr_passages::{Scene, Words, keyword_in, name_in, sign_in};
 use dsr_tree::{Keyword, Lexeme, Relation, Sign, Tree};
-use std::alloc::Global;
 
 // Whether an atom or a quantifier ends before a token.
 fn ends(lexeme: &Lexeme) -> bool {
@@ -54,33 +51,32 @@ fn atom_hint(scene: &Scene<'_>) -> &'static str {
     "`x in S` asks for a set of the pool of x"
 }
 
+// Adds what the first relation at the place relates.
+fn hint_relation(words: &mut Words, scene: &Scene<'_>, tree: &Tree) {
+    if let Some(relation) = relation_at(scene, tree) {
+        hint_related(words, relation);
+    }
+}
+
 // That a quantifier runs over pairs with numbers.
-fn quantifier_misfit(alloc: Global, scene: &Scene<'_>, tree: &Tree) -> Result<Words, NoMemory> {
-    let words = said(alloc, "`forall <x, y> in R` asks for a relation to records")?;
-    let words = match relation_at(scene, tree) {
-        Some(relation) => words.and_hint(relation_words(alloc, relation)?)?,
-        None => words,
-    };
-    words.and_hint(
-        "of a relation to numbers write `forall x in S : x.R <= 9`, or `head.R <= 9`".to_string(
-            alloc,
-        )?,
-    )
+fn say_quantifier(words: &mut Words, scene: &Scene<'_>, tree: &Tree) {
+    words.say(&["`forall <x, y> in R` asks for a relation to records"]);
+    hint_relation(words, scene, tree);
+    words.hint(&["of a relation to numbers write `forall x in S : x.R <= 9`, or `head.R <= 9`"]);
 }
 
 /// That a quantifier or an atom doesn't fit what it asks.
-pub fn atom_misfit(alloc: Global, scene: &Scene<'_>, tree: &Tree) -> Result<Words, NoMemory> {
+pub fn say_atom(words: &mut Words, scene: &Scene<'_>, tree: &Tree) {
     let found = keyword_in(scene.found());
     if found == Some(Keyword::Forall) {
-        return quantifier_misfit(alloc, scene, tree);
+        say_quantifier(words, scene, tree);
+        return;
     }
     if found == Some(Keyword::Head) && keyword_in(scene.behind(1)) == Some(Keyword::In) {
-        return said(alloc, "the head is in no set");
+        words.say(&["the head is in no set"]);
+        return;
     }
-    let words = said(alloc, "pools or kinds of values disagree here")?;
-    let words = match relation_at(scene, tree) {
-        Some(relation) => words.and_hint(relation_words(alloc, relation)?)?,
-        None => words,
-    };
-    words.and_hint(atom_hint(scene).to_string(alloc)?)
+    words.say(&["pools or kinds of values disagree here"]);
+    hint_relation(words, scene, tree);
+    words.hint(&[atom_hint(scene)]);
 }

@@ -1,10 +1,8 @@
 // What is told of guards that don't fit what they test.
-use crate::told::{Words, said, said_with};
 use dsr_declarations::{is_other_head, place_of, record_name};
-use dsr_ir::NoMemory;
-use dsr_passages::spelled;
+use dsr_passages::Words;
 use dsr_tree::{Guard, Path, Rule};
-use std::alloc::Global;
+use dsr_wording::text_of;
 
 // Where a guard begins.
 fn guard_place(guard: &Guard) -> u64 {
@@ -40,39 +38,50 @@ fn guard_at(rule: &Rule, place: u64) -> Option<&Guard> {
 }
 
 /// That a rule reads the head where its record is another one.
-pub fn other_head(alloc: Global, rule: &Rule) -> Result<Words, NoMemory> {
-    let name = spelled(record_name(rule));
-    let words = said(alloc, "`head` isn't the record of this rule")?;
-    words.and_hint(format!(in alloc; "this rule reads fields of `{name}` alone, as `{name}.f`")?)
+pub fn say_other_head(words: &mut Words, rule: &Rule) {
+    words.say(&["`head` isn't the record of this rule"]);
+    let name = text_of(record_name(rule));
+    words.hint(&[
+        "this rule reads fields of `",
+        name,
+        "` alone, as `",
+        name,
+        ".f`",
+    ]);
 }
+
+const TESTED: &str =
+    "`legal`, `illegal`, `none` and `some` test references; a number is compared, as `x.f = 1`";
 
 // That what a guard tests is a number.
-fn tested_number(alloc: Global, path: &Path) -> Result<Words, NoMemory> {
-    let field = spelled(path.field.name.bytes());
-    let words = Words::new(
-        alloc,
-        format!(in alloc; "`{field}` is a number, and no reference")?,
-    );
-    words.and_hint(
-        "`legal`, `illegal`, `none` and `some` test references; a number is compared, as `x.f = 1`".to_string(
-            alloc,
-        )?,
-    )
+fn say_tested(words: &mut Words, rule: &Rule, path: &Path) {
+    if is_other_head(rule, &path.var) {
+        say_other_head(words, rule);
+        return;
+    }
+    let field = text_of(path.field.name.bytes());
+    words.say(&["`", field, "` is a number, and no reference"]);
+    words.hint(&[TESTED]);
 }
+
+const COMPARED: &str =
+    "a reference is tested by `legal(x.f)`, `illegal(x.f)`, `none(x.f)` or `some(x.f)`";
 
 // That what a guard compares is a reference.
-fn compared_reference(alloc: Global, path: &Path) -> Result<Words, NoMemory> {
-    let field = spelled(path.field.name.bytes());
-    let message = format!(in alloc; "`{field}` is a reference, and compared with no number")?;
-    Words::new(alloc, message).and_hint(
-        "a reference is tested by `legal(x.f)`, `illegal(x.f)`, `none(x.f)` or `some(x.f)`".to_string(
-            alloc,
-        )?,
-    )
+fn say_compared(words: &mut Words, rule: &Rule, path: &Path) {
+    if is_other_head(rule, &path.var) {
+        say_other_head(words, rule);
+        return;
+    }
+    let field = text_of(path.field.name.bytes());
+    words.say(&["`", field, "` is a reference, and compared with no number"]);
+    words.hint(&[COMPARED]);
 }
 
+const GUARDS: &str = "references are tested by `legal(x.f)` and the like, numbers are compared";
+
 /// That a guard at a place doesn't fit what it tests.
-pub fn guard_misfit(alloc: Global, rule: &Rule, place: u64) -> Result<Words, NoMemory> {
+pub fn say_guard(words: &mut Words, rule: &Rule, place: u64) {
     match guard_at(rule, place) {
         Some(
             Guard::Tested {
@@ -80,28 +89,17 @@ pub fn guard_misfit(alloc: Global, rule: &Rule, place: u64) -> Result<Words, NoM
                 test: _,
                 path,
             },
-        ) => {
-            if is_other_head(rule, &path.var) {
-                return other_head(alloc, rule);
-            }
-            tested_number(alloc, path)
-        }
+        ) => say_tested(words, rule, path),
         Some(
             Guard::Compared {
                 path,
                 compare: _,
                 number: _,
             },
-        ) => {
-            if is_other_head(rule, &path.var) {
-                return other_head(alloc, rule);
-            }
-            compared_reference(alloc, path)
+        ) => say_compared(words, rule, path),
+        None => {
+            words.say(&["this guard doesn't fit what it tests"]);
+            words.hint(&[GUARDS]);
         }
-        None => said_with(
-            alloc,
-            "this guard doesn't fit what it tests",
-            "references are tested by `legal(x.f)` and the like, numbers are compared",
-        ),
     }
 }

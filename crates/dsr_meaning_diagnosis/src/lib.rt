@@ -8,7 +8,6 @@ mod limits;
 mod meaning;
 mod members;
 mod pairs;
-mod told;
 mod twice;
 mod unknown;
 mod views;

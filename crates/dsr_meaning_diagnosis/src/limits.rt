@@ -1,10 +1,8 @@
 // What is told of what stands where the language doesn't allow it, or once too often.
-use crate::told::{Words, said, said_with};
 use dsr_declarations::{is_head, own_field, place_in, rule_at, structure_at};
-use dsr_ir::NoMemory;
-use dsr_passages::{Declaration, Scene, name_in, spelled};
+use dsr_passages::{Declaration, Scene, Words, name_in};
 use dsr_tree::{Rule, Structure, Tree};
-use std::alloc::Global;
+use dsr_wording::text_of;
 
 // Whether a rule has more guards than it may have.
 fn has_many_guards(rule: &Rule) -> bool {
@@ -22,25 +20,27 @@ fn rule_limit(scene: &Scene<'_>, tree: &Tree) -> &'static str {
     }
 }
 
-/// That there are more than the language allows.
-pub fn too_many(alloc: Global, scene: &Scene<'_>, tree: &Tree) -> Result<Words, NoMemory> {
+// Of what there is more than the language allows.
+fn limit(scene: &Scene<'_>, tree: &Tree) -> &'static str {
     let (declaration, start) = scene.declaration();
-    let message = match declaration {
+    match declaration {
         Declaration::Structure if scene.at == start.saturating_add(1) => "more than 64 structures",
         Declaration::Structure => "more than 64 fields and gaps in one structure",
         Declaration::Pool => "more than 32 pools",
         Declaration::Rule => rule_limit(scene, tree),
         Declaration::Constraint if scene.is_second() => "more than 128 constraints",
-        Declaration::Constraint => {
-            return said_with(
-                alloc,
-                "more than 64 constraints",
-                "version 2 allows 128: begin the text with `version 2`",
-            );
-        }
+        Declaration::Constraint => "more than 64 constraints",
         _ => "more than 64 sets and relations",
-    };
-    said(alloc, message)
+    }
+}
+
+/// That there are more than the language allows.
+pub fn say_limit(words: &mut Words, scene: &Scene<'_>, tree: &Tree) {
+    words.say(&[limit(scene, tree)]);
+    let (declaration, _) = scene.declaration();
+    if declaration == Declaration::Constraint && !scene.is_second() {
+        words.hint(&["version 2 allows 128: begin the text with `version 2`"]);
+    }
 }
 
 // Why a field of a structure can't be fixed.
@@ -56,25 +56,21 @@ fn fixed_hint(structure: &Structure, name: &[u8]) -> &'static str {
 }
 
 /// That a fixed field stands where none may.
-pub fn misplaced_fixed(alloc: Global, scene: &Scene<'_>, tree: &Tree) -> Result<Words, NoMemory> {
+pub fn say_fixed(words: &mut Words, scene: &Scene<'_>, tree: &Tree) {
     let name = name_in(scene.found()).unwrap_or(b"");
-    let text = spelled(name);
-    let words = Words::new(alloc, format!(in alloc; "`{text}` can't be fixed")?);
-    match structure_at(tree, place_in(scene)) {
-        Some(structure) => words.and_hint(fixed_hint(structure, name).to_string(alloc)?),
-        None => Ok(words),
+    words.say(&["`", text_of(name), "` can't be fixed"]);
+    if let Some(structure) = structure_at(tree, place_in(scene)) {
+        words.hint(&[fixed_hint(structure, name)]);
     }
 }
 
 /// That a structure extends itself or a later one.
-pub fn late_parent(alloc: Global, scene: &Scene<'_>) -> Result<Words, NoMemory> {
+pub fn say_parent(words: &mut Words, scene: &Scene<'_>) {
     let parent = name_in(scene.found()).unwrap_or(b"");
     if name_in(scene.before(2)) == Some(parent) {
-        return said(alloc, "a structure can't extend itself");
+        words.say(&["a structure can't extend itself"]);
+        return;
     }
-    let text = spelled(parent);
-    let message = format!(in alloc; "the parent `{text}` is declared later")?;
-    Words::new(alloc, message).and_hint("a parent stands before all that extend it".to_string(
-        alloc,
-    )?)
+    words.say(&["the parent `", text_of(parent), "` is declared later"]);
+    words.hint(&["a parent stands before all that extend it"]);
 }

@@ -1,17 +1,16 @@
 // What is told of a text of the grammar that means no specification.
-use crate::atoms::atom_misfit;
-use crate::guards::guard_misfit;
-use crate::limits::{late_parent, misplaced_fixed, too_many};
-use crate::members::member_misfit;
-use crate::pairs::pair_misfit;
-use crate::told::{Words, said, said_with};
-use crate::twice::twice;
-use crate::unknown::unknown;
-use crate::views::{set_misfit, supply_misfit};
-use crate::widths::{too_wide, unaligned};
+use crate::atoms::say_atom;
+use crate::guards::say_guard;
+use crate::limits::{say_fixed, say_limit, say_parent};
+use crate::members::say_member;
+use crate::pairs::say_pair;
+use crate::twice::say_twice;
+use crate::unknown::say_unknown;
+use crate::views::{say_set, say_supply};
+use crate::widths::{say_unaligned, say_width};
 use dsr_declarations::{place_in, place_of, rule_at};
 use dsr_ir::NoMemory;
-use dsr_passages::{Declaration, Diagnosis, Scene, length_of};
+use dsr_passages::{Declaration, Diagnosis, Scene, Words, length_of};
 use dsr_tree::{Condition, Inclusion, Rule, Tree};
 use std::alloc::Global;
 
@@ -63,17 +62,17 @@ fn condition_of(kind: u8) -> Condition {
     Condition::TooManyAtoms
 }
 
-// What a rule's inclusion gives.
-fn inclusion_misfit(alloc: Global, tree: &Tree, rule: &Rule) -> Result<Words, NoMemory> {
+// That what a rule gives isn't of its set or relation.
+fn say_inclusion(words: &mut Words, tree: &Tree, rule: &Rule) {
     match &rule.inclusion {
         Inclusion::Pair {
             place: _,
             term,
             path,
             relation,
-        } => pair_misfit(alloc, tree, rule, term, path, relation.name.bytes()),
+        } => say_pair(words, tree, rule, term, path, relation.name.bytes()),
         Inclusion::Member { member, set } => {
-            member_misfit(alloc, tree, rule, member, set.name.bytes())
+            say_member(words, tree, rule, member, set.name.bytes());
         }
     }
 }
@@ -91,48 +90,52 @@ fn inclusion_place(inclusion: &Inclusion) -> u64 {
     }
 }
 
-fn rule_misfit(alloc: Global, scene: &Scene<'_>, tree: &Tree) -> Result<Words, NoMemory> {
+fn say_rule(words: &mut Words, scene: &Scene<'_>, tree: &Tree) {
     let place = place_in(scene);
     match rule_at(tree, place) {
-        Some(rule) if place < inclusion_place(&rule.inclusion) => {
-            guard_misfit(alloc, rule, place)
-        }
-        Some(rule) => inclusion_misfit(alloc, tree, rule),
-        None => said(alloc, "pools or kinds of values disagree here"),
+        Some(rule) if place < inclusion_place(&rule.inclusion) => say_guard(words, rule, place),
+        Some(rule) => say_inclusion(words, tree, rule),
+        None => words.say(&["pools or kinds of values disagree here"]),
     }
 }
 
 // That pools, structures or kinds of values disagree.
-fn misfit(alloc: Global, scene: &Scene<'_>, tree: &Tree) -> Result<Words, NoMemory> {
+fn say_misfit(words: &mut Words, scene: &Scene<'_>, tree: &Tree) {
     let (declaration, _) = scene.declaration();
     match declaration {
-        Declaration::Set => set_misfit(alloc, tree, place_in(scene)),
-        Declaration::Fresh => supply_misfit(alloc, tree, place_in(scene)),
-        Declaration::Rule => rule_misfit(alloc, scene, tree),
-        _ => atom_misfit(alloc, scene, tree),
+        Declaration::Set => say_set(words, tree, place_in(scene)),
+        Declaration::Fresh => say_supply(words, tree, place_in(scene)),
+        Declaration::Rule => say_rule(words, scene, tree),
+        _ => say_atom(words, scene, tree),
     }
 }
 
-fn told(
-    alloc: Global,
-    scene: &Scene<'_>,
-    tree: &Tree,
-    condition: Condition,
-) -> Result<Words, NoMemory> {
+// What is always told of a condition in the same words: what is wrong, and what may help.
+fn fixed_words(condition: Condition) -> (&'static str, &'static str) {
     match condition {
-        Condition::NameTwice => twice(alloc, scene, tree),
-        Condition::UnknownName => unknown(alloc, scene, tree),
-        Condition::Align => unaligned(alloc, scene, tree),
-        Condition::FixedPlace => misplaced_fixed(alloc, scene, tree),
-        Condition::SubtypeLoop => late_parent(alloc, scene),
-        Condition::Limit => too_many(alloc, scene, tree),
-        Condition::PoolMismatch => misfit(alloc, scene, tree),
-        Condition::LengthMismatch => said_with(alloc, LENGTHS, LENGTHS_HINT),
-        Condition::BadIndex => said_with(alloc, INDEX, INDEX_HINT),
-        Condition::Width => too_wide(alloc, scene, tree),
-        Condition::NegatedValue => said_with(alloc, NEGATED, NEGATED_HINT),
-        Condition::TooManyConjunctions => said_with(alloc, LARGE, SPLIT_HINT),
-        Condition::TooManyAtoms => said_with(alloc, ATOMS, SPLIT_HINT),
+        Condition::LengthMismatch => (LENGTHS, LENGTHS_HINT),
+        Condition::BadIndex => (INDEX, INDEX_HINT),
+        Condition::NegatedValue => (NEGATED, NEGATED_HINT),
+        Condition::TooManyConjunctions => (LARGE, SPLIT_HINT),
+        _ => (ATOMS, SPLIT_HINT),
+    }
+}
+
+fn say(alloc: Global, words: &mut Words, scene: &Scene<'_>, tree: &Tree, condition: Condition) {
+    match condition {
+        Condition::NameTwice => say_twice(words, scene, tree),
+        Condition::UnknownName => say_unknown(alloc, words, scene, tree),
+        Condition::Align => say_unaligned(words, scene, tree),
+        Condition::FixedPlace => say_fixed(words, scene, tree),
+        Condition::SubtypeLoop => say_parent(words, scene),
+        Condition::Limit => say_limit(words, scene, tree),
+        Condition::PoolMismatch => say_misfit(words, scene, tree),
+        Condition::Width => say_width(words, scene, tree),
+        _ => {
+            let (message, hint) = fixed_words(condition);
+            words.say(&[message]);
+            words.hint(&[hint]);
+        }
     }
 }
 
@@ -143,15 +146,11 @@ pub fn refused(
     tree: &Tree,
     kind: u8,
 ) -> Result<Diagnosis, NoMemory> {
-    let Words { message, hints } = told(alloc, scene, tree, condition_of(kind))?;
+    let mut words = Words::new(alloc);
+    say(alloc, &mut words, scene, tree, condition_of(kind));
     let (place, length) = match scene.found() {
         Some(lexeme) => (lexeme.place as usize, length_of(scene.text, lexeme)),
         None => (0, 0),
     };
-    Ok(Diagnosis {
-        place,
-        length,
-        message,
-        hints,
-    })
+    words.at(place, length)
 }

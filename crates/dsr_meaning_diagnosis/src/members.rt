@@ -1,59 +1,50 @@
 // What is told of members that rules give to sets of other pools.
-use crate::guards::other_head;
-use crate::told::{Words, said, said_with};
+use crate::guards::say_other_head;
 use dsr_declarations::{field_of, is_other_head, pool_of, record_of, set_named, target_of};
-use dsr_ir::NoMemory;
-use dsr_passages::spelled;
+use dsr_passages::Words;
 use dsr_tree::{Member, MemberPart, Rule, Tree, Var};
-use std::alloc::Global;
+use dsr_wording::text_of;
 
-/// Where a field of a rule's record leads, or that it is a number.
-pub fn field_words(
-    alloc: Global,
-    tree: &Tree,
-    rule: &Rule,
-    name: &[u8],
-) -> Result<Option<String>, NoMemory> {
+/// Adds where a field of a rule's record leads, or that it is a number.
+pub fn hint_field(words: &mut Words, tree: &Tree, rule: &Rule, name: &[u8]) {
     let Some(structure) = record_of(tree, rule) else {
-        return Ok(None);
+        return;
     };
     let Some(field) = field_of(tree, structure, name) else {
-        return Ok(None);
+        return;
     };
-    let name = spelled(name);
     match target_of(field) {
         Some(pool) => {
-            let pool = spelled(pool);
-            Ok(Some(format!(in alloc; "`{name}` leads to the pool `{pool}`")?))
+            words.hint(&[
+                "`",
+                text_of(name),
+                "` leads to the pool `",
+                text_of(pool),
+                "`",
+            ]);
         }
-        None => Ok(Some(format!(in alloc; "`{name}` is a number")?)),
+        None => words.hint(&["`", text_of(name), "` is a number"]),
     }
 }
 
-// What is known of a member that a rule gives.
-fn member_words(
-    alloc: Global,
-    tree: &Tree,
-    rule: &Rule,
-    member: &Member,
-) -> Result<Option<String>, NoMemory> {
+/// Adds of which pool a rule's record is, by its name.
+pub fn hint_record(words: &mut Words, tree: &Tree, rule: &Rule, name: &[u8]) {
+    let pool = text_of(pool_of(tree, rule).unwrap_or(b""));
+    words.hint(&["`", text_of(name), "` is a record of the pool `", pool, "`"]);
+}
+
+// Adds what is known of a member that a rule gives.
+fn hint_member(words: &mut Words, tree: &Tree, rule: &Rule, member: &Member) {
     match (&member.part, &member.var) {
         (Some(MemberPart::Field { field, index: _ }), _) => {
-            field_words(alloc, tree, rule, field.name.bytes())
+            hint_field(words, tree, rule, field.name.bytes());
         }
         (Some(MemberPart::Slot(_)), Var::Name(pool)) => {
-            let pool = spelled(pool.name.bytes());
-            Ok(Some(format!(in alloc; "what is given is a slot of the pool `{pool}`")?))
+            let pool = text_of(pool.name.bytes());
+            words.hint(&["what is given is a slot of the pool `", pool, "`"]);
         }
-        (None, Var::Name(name)) => {
-            let (name, pool) = (
-                spelled(name.name.bytes()),
-                pool_of(tree, rule).unwrap_or(b""),
-            );
-            let pool = spelled(pool);
-            Ok(Some(format!(in alloc; "`{name}` is a record of the pool `{pool}`")?))
-        }
-        _ => Ok(None),
+        (None, Var::Name(name)) => hint_record(words, tree, rule, name.name.bytes()),
+        _ => {}
     }
 }
 
@@ -67,34 +58,20 @@ fn gives_head(member: &Member) -> bool {
 }
 
 /// That what a rule gives to a set isn't of its pool.
-pub fn member_misfit(
-    alloc: Global,
-    tree: &Tree,
-    rule: &Rule,
-    member: &Member,
-    set: &[u8],
-) -> Result<Words, NoMemory> {
+pub fn say_member(words: &mut Words, tree: &Tree, rule: &Rule, member: &Member, set: &[u8]) {
     if gives_head(member) {
-        return said_with(
-            alloc,
-            "the head is in no set",
-            "a rule gives one of its references, as `head.f in S`",
-        );
+        words.say(&["the head is in no set"]);
+        words.hint(&["a rule gives one of its references, as `head.f in S`"]);
+        return;
     }
     if is_other_head(rule, &member.var) {
-        return other_head(alloc, rule);
+        say_other_head(words, rule);
+        return;
     }
-    let text = spelled(set);
-    let words = said(alloc, "what is given isn't of the set's pool")?;
-    let words = match member_words(alloc, tree, rule, member)? {
-        Some(hint) => words.and_hint(hint)?,
-        None => words,
-    };
-    match set_named(tree, set) {
-        Some(set) => {
-            let pool = spelled(set.pool.name.bytes());
-            words.and_hint(format!(in alloc; "`{text}` is a set of the pool `{pool}`")?)
-        }
-        None => Ok(words),
+    words.say(&["what is given isn't of the set's pool"]);
+    hint_member(words, tree, rule, member);
+    if let Some(declared) = set_named(tree, set) {
+        let pool = text_of(declared.pool.name.bytes());
+        words.hint(&["`", text_of(set), "` is a set of the pool `", pool, "`"]);
     }
 }

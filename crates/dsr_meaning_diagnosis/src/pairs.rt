@@ -1,27 +1,33 @@
 // What is told of pairs that rules give to relations of other pools or kinds.
-use crate::guards::other_head;
-use crate::members::field_words;
-use crate::told::{Words, said, said_with};
-use dsr_declarations::{field_of, is_other_head, pool_of, record_of, relation_named};
-use dsr_ir::NoMemory;
-use dsr_passages::spelled;
+use crate::guards::say_other_head;
+use crate::members::{hint_field, hint_record};
+use dsr_declarations::{field_of, is_other_head, record_of, relation_named};
+use dsr_passages::Words;
 use dsr_tree::{Path, Relation, Rule, Target, Term, Tree, Var};
-use std::alloc::Global;
+use dsr_wording::text_of;
 
-/// What a relation relates.
-pub fn relation_words(alloc: Global, relation: &Relation) -> Result<String, NoMemory> {
-    let name = spelled(relation.name.name.bytes());
+/// Adds what a relation relates.
+pub fn hint_related(words: &mut Words, relation: &Relation) {
+    let name = text_of(relation.name.name.bytes());
     let source = match &relation.source {
         Var::Head { place: _ } => "head",
-        Var::Name(pool) => spelled(pool.name.bytes()),
+        Var::Name(pool) => text_of(pool.name.bytes()),
     };
     match &relation.target {
-        Target::Number { place: _ } => Ok(format!(in alloc;
-            "`{name}` relates `{source}` to numbers"
-        )?),
+        Target::Number { place: _ } => {
+            words.hint(&["`", name, "` relates `", source, "` to numbers"]);
+        }
         Target::Pool(pool) => {
-            let pool = spelled(pool.name.bytes());
-            Ok(format!(in alloc; "`{name}` relates `{source}` to records of `{pool}`")?)
+            let pool = text_of(pool.name.bytes());
+            words.hint(&[
+                "`",
+                name,
+                "` relates `",
+                source,
+                "` to records of `",
+                pool,
+                "`",
+            ]);
         }
     }
 }
@@ -52,55 +58,43 @@ fn is_slot_alone(tree: &Tree, rule: &Rule, term: &Term, path: &Path) -> bool {
     }
 }
 
-// What the first part of a pair is.
-fn source_words(alloc: Global, tree: &Tree, rule: &Rule, term: &Term) -> Result<String, NoMemory> {
+// Adds what the first part of a pair is.
+fn hint_source(words: &mut Words, tree: &Tree, rule: &Rule, term: &Term) {
     match term {
-        Term::Head { place: _ } => Ok("the first part is the head".to_string(alloc)?),
+        Term::Head { place: _ } => words.hint(&["the first part is the head"]),
         Term::Named {
             name,
             index: Some(_),
         } => {
-            let pool = spelled(name.name.bytes());
-            Ok(format!(in alloc; "the first part is a slot of the pool `{pool}`")?)
+            let pool = text_of(name.name.bytes());
+            words.hint(&["the first part is a slot of the pool `", pool, "`"]);
         }
-        Term::Named { name, index: None } => {
-            let (name, pool) = (
-                spelled(name.name.bytes()),
-                pool_of(tree, rule).unwrap_or(b""),
-            );
-            let pool = spelled(pool);
-            Ok(format!(in alloc; "`{name}` is a record of the pool `{pool}`")?)
-        }
+        Term::Named { name, index: None } => hint_record(words, tree, rule, name.name.bytes()),
     }
 }
 
 /// That a pair that a rule gives isn't one of the relation.
-pub fn pair_misfit(
-    alloc: Global,
+pub fn say_pair(
+    words: &mut Words,
     tree: &Tree,
     rule: &Rule,
     term: &Term,
     path: &Path,
     relation: &[u8],
-) -> Result<Words, NoMemory> {
+) {
     if has_other_head(rule, term, path) {
-        return other_head(alloc, rule);
+        say_other_head(words, rule);
+        return;
     }
     if is_slot_alone(tree, rule, term, path) {
-        return said_with(
-            alloc,
-            "behind a slot stands a field that is read at the index",
-            "write `<p[k], x.f[k]> in R` for an array f, or `<x, x.f> in R`",
-        );
+        words.say(&["behind a slot stands a field that is read at the index"]);
+        words.hint(&["write `<p[k], x.f[k]> in R` for an array f, or `<x, x.f> in R`"]);
+        return;
     }
-    let words = said(alloc, "this pair isn't one of the relation")?;
-    let words = match relation_named(tree, relation) {
-        Some(relation) => words.and_hint(relation_words(alloc, relation)?)?,
-        None => words,
-    };
-    let words = words.and_hint(source_words(alloc, tree, rule, term)?)?;
-    match field_words(alloc, tree, rule, path.field.name.bytes())? {
-        Some(hint) => words.and_hint(hint),
-        None => Ok(words),
+    words.say(&["this pair isn't one of the relation"]);
+    if let Some(relation) = relation_named(tree, relation) {
+        hint_related(words, relation);
     }
+    hint_source(words, tree, rule, term);
+    hint_field(words, tree, rule, path.field.name.bytes());
 }

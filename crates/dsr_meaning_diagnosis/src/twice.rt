@@ -1,129 +1,60 @@
 // What is told of a name that is declared twice.
-use crate::told::{Words, said, said_with};
-use dsr_declarations::{parent_of, place_in, relation_named, set_named, structure_at};
-use dsr_ir::NoMemory;
-use dsr_passages::{Declaration, Scene, line_of, name_in, spelled};
-use dsr_tree::{Field, PlacedName, Structure, Tree};
-use std::alloc::Global;
+use dsr_declarations::{
+    constraint_named, own_field, parent_of, place_in, pool_named, relation_named, set_named,
+    structure_at, structure_named,
+};
+use dsr_passages::{Declaration, Scene, Words, line_of, name_in};
+use dsr_tree::Tree;
+use dsr_wording::{Text, text_of};
 
-// Adds the names of the fields that a structure declares.
-fn add_fields<'a>(
-    names: &mut Vec<&'a PlacedName>,
-    structure: &'a Structure,
-) -> Result<(), NoMemory> {
-    for field in structure.fields.items() {
-        if let Field::Named(named) = field {
-            names.push(&named.name)?;
-        }
+// Where a set or a relation with this name is declared, a set before all relations.
+fn shared(tree: &Tree, name: &[u8]) -> Option<u64> {
+    if let Some(set) = set_named(tree, name) {
+        return Some(set.name.place);
     }
-    Ok(())
+    Some(relation_named(tree, name)?.name.place)
 }
 
-// The names of the fields of the structure in which a place stands, with those that it inherits.
-fn fields_at(alloc: Global, tree: &Tree, place: u64) -> Result<Vec<&PlacedName>, NoMemory> {
-    let mut names = Vec::new(alloc);
-    let mut owner = structure_at(tree, place);
+// Where a field with this name is declared before a place, in the structure there or one that it
+// extends.
+fn earlier_field(tree: &Tree, name: &[u8], place: u64) -> Option<u64> {
+    let mut owner = structure_at(tree, place)?;
     for _step in tree.structures.items() {
-        let Some(structure) = owner else {
-            return Ok(names);
-        };
-        add_fields(&mut names, structure)?;
-        owner = parent_of(tree, structure);
-    }
-    Ok(names)
-}
-
-fn structures(alloc: Global, tree: &Tree) -> Result<Vec<&PlacedName>, NoMemory> {
-    let mut names = Vec::new(alloc);
-    for structure in tree.structures.items() {
-        names.push(&structure.name)?;
-    }
-    Ok(names)
-}
-
-fn pools(alloc: Global, tree: &Tree) -> Result<Vec<&PlacedName>, NoMemory> {
-    let mut names = Vec::new(alloc);
-    for pool in tree.pools.items() {
-        names.push(&pool.name)?;
-    }
-    Ok(names)
-}
-
-// Adds the names of the relations, which stand behind the sets.
-fn add_relations<'a>(names: &mut Vec<&'a PlacedName>, tree: &'a Tree) -> Result<(), NoMemory> {
-    for relation in tree.relations.items() {
-        names.push(&relation.name)?;
-    }
-    Ok(())
-}
-
-fn sets_and_relations(alloc: Global, tree: &Tree) -> Result<Vec<&PlacedName>, NoMemory> {
-    let mut names = Vec::new(alloc);
-    for set in tree.sets.items() {
-        names.push(&set.name)?;
-    }
-    add_relations(&mut names, tree)?;
-    Ok(names)
-}
-
-fn constraints(alloc: Global, tree: &Tree) -> Result<Vec<&PlacedName>, NoMemory> {
-    let mut names = Vec::new(alloc);
-    for constraint in tree.constraints.items() {
-        names.push(&constraint.name)?;
-    }
-    Ok(names)
-}
-
-// The names that have to differ from the one at the place.
-fn rivals<'a>(
-    alloc: Global,
-    scene: &Scene<'_>,
-    tree: &'a Tree,
-) -> Result<Vec<&'a PlacedName>, NoMemory> {
-    let (declaration, start) = scene.declaration();
-    match declaration {
-        Declaration::Structure if scene.at == start.saturating_add(1) => structures(alloc, tree),
-        Declaration::Structure => fields_at(alloc, tree, place_in(scene)),
-        Declaration::Pool => pools(alloc, tree),
-        Declaration::Constraint => constraints(alloc, tree),
-        _ => sets_and_relations(alloc, tree),
-    }
-}
-
-// The place of a name that stands before another place.
-fn earlier(names: &[&PlacedName], name: &[u8], place: u64) -> Option<u64> {
-    for other in names {
-        if other.place < place && other.name.bytes() == name {
-            return Some(other.place);
+        if let Some(field) = own_field(owner, name)
+            && field.name.place < place
+        {
+            return Some(field.name.place);
         }
+        owner = parent_of(tree, owner)?;
     }
     None
 }
 
-// That a name is declared twice, and where it is declared first.
-fn name_twice(
-    alloc: Global,
-    scene: &Scene<'_>,
-    tree: &Tree,
-    name: &[u8],
-) -> Result<Words, NoMemory> {
-    let text = spelled(name);
-    let words = Words::new(alloc, format!(in alloc; "`{text}` is declared twice")?);
-    let rivals = rivals(alloc, scene, tree)?;
-    match earlier(&rivals, name, place_in(scene)) {
-        Some(place) => {
-            let line = line_of(scene.text, place);
-            words.and_hint(format!(in alloc; "it is declared first in line {line}")?)
+// Where a name that has to differ from the one at the place is declared first.
+fn earlier(scene: &Scene<'_>, tree: &Tree, name: &[u8]) -> Option<u64> {
+    let (declaration, start) = scene.declaration();
+    match declaration {
+        Declaration::Structure if scene.at == start.saturating_add(1) => {
+            Some(structure_named(tree, name)?.name.place)
         }
-        None => Ok(words),
+        Declaration::Structure => earlier_field(tree, name, place_in(scene)),
+        Declaration::Pool => Some(pool_named(tree, name)?.name.place),
+        Declaration::Constraint => Some(constraint_named(tree, name)?.name.place),
+        _ => shared(tree, name),
     }
 }
 
-// That both variables of a constraint have one name.
-fn variable_twice(alloc: Global, name: &[u8]) -> Result<Words, NoMemory> {
-    let text = spelled(name);
-    let message = format!(in alloc; "both variables are called `{text}`")?;
-    Words::new(alloc, message).and_hint("give each a name of its own".to_string(alloc)?)
+// That a name is declared twice, and where it is declared first.
+fn say_name(words: &mut Words, scene: &Scene<'_>, tree: &Tree, name: &[u8]) {
+    words.say(&["`", text_of(name), "` is declared twice"]);
+    if let Some(place) = earlier(scene, tree, name)
+        && place < place_in(scene)
+    {
+        let mut hint = Text::new(words.message.allocator());
+        hint.push("it is declared first in line ");
+        hint.number(line_of(scene.text, place) as u64);
+        words.add(hint);
+    }
 }
 
 // Whether a name is one of a set and of a relation.
@@ -132,24 +63,22 @@ fn is_shared(tree: &Tree, name: &[u8]) -> bool {
 }
 
 /// That a name is declared twice.
-pub fn twice(alloc: Global, scene: &Scene<'_>, tree: &Tree) -> Result<Words, NoMemory> {
+pub fn say_twice(words: &mut Words, scene: &Scene<'_>, tree: &Tree) {
     let (declaration, start) = scene.declaration();
     let name = name_in(scene.found()).unwrap_or(b"");
     match declaration {
-        Declaration::Fresh => said_with(
-            alloc,
-            "this pool has a supply already",
-            "name all sets to avoid behind one `avoid`, as `fresh p avoid S, T;`",
-        ),
-        Declaration::Rule => said(alloc, "the index has the name of the record"),
+        Declaration::Fresh => {
+            words.say(&["this pool has a supply already"]);
+            words.hint(&["name all sets to avoid behind one `avoid`, as `fresh p avoid S, T;`"]);
+        }
+        Declaration::Rule => words.say(&["the index has the name of the record"]),
         Declaration::Constraint if scene.at != start.saturating_add(1) => {
-            variable_twice(alloc, name)
+            words.say(&["both variables are called `", text_of(name), "`"]);
+            words.hint(&["give each a name of its own"]);
         }
-        Declaration::Relation if is_shared(tree, name) => {
-            name_twice(alloc, scene, tree, name)?.and_hint(
-                "sets and relations share their names".to_string(alloc)?,
-            )
-        }
-        _ => name_twice(alloc, scene, tree, name),
+        _ => say_name(words, scene, tree, name),
+    }
+    if declaration == Declaration::Relation && is_shared(tree, name) {
+        words.hint(&["sets and relations share their names"]);
     }
 }

@@ -1,17 +1,12 @@
 // What is told of a name that isn't declared as what it is used for.
-use crate::told::{Words, said, said_with};
 use dsr_declarations::{
     Declared, Role, candidates, declared_as, field_of, head_of, in_words, many_in_words,
     one_in_words, own_field, owner_of, place_in, role_of, rule_at, set_named, structure_named,
 };
-use dsr_ir::NoMemory;
-use dsr_passages::{Declaration, Scene, meant_by, name_in, quoted, spelled};
+use dsr_passages::{Declaration, Scene, Words, meant_by, name_in, push_quoted};
 use dsr_tree::Tree;
+use dsr_wording::{Text, text_of};
 use std::alloc::Global;
-
-const NO_HEAD: &str = "there is no structure `Head`, which is the record at byte 0";
-
-const EMPTY_HEAD: &str = "write `structure Head { }` where nothing of that record is read";
 
 // What may have been meant to be `Head`.
 const ALMOST_HEAD: [&str; 7] = [
@@ -35,57 +30,45 @@ fn almost_head(tree: &Tree) -> Option<&'static str> {
 }
 
 // That there is no structure of the head.
-fn no_head(alloc: Global, tree: &Tree) -> Result<Words, NoMemory> {
+fn say_no_head(words: &mut Words, tree: &Tree) {
+    words.say(&["there is no structure `Head`, which is the record at byte 0"]);
     match almost_head(tree) {
-        Some(name) => {
-            let hint = format!(in alloc; "if `{name}` is that record, call it `Head`")?;
-            said(alloc, NO_HEAD)?.and_hint(hint)
-        }
-        None => said_with(alloc, NO_HEAD, EMPTY_HEAD),
+        Some(name) => words.hint(&["if `", name, "` is that record, call it `Head`"]),
+        None => words.hint(&["write `structure Head { }` where nothing of that record is read"]),
     }
 }
 
-// Why a field of the head serves in no expression.
-fn head_field_hint(alloc: Global, tree: &Tree, name: &[u8]) -> Result<Option<String>, NoMemory> {
+const NOT_FIXED: &str = "` is a field of `Head` but not `fixed`: write `fixed` before its width";
+
+const INHERITED: &str = "`: expressions read fixed fields that `Head` itself declares";
+
+// Adds why a field of the head serves in no expression; tells whether there is one of this name.
+fn hint_head_field(words: &mut Words, tree: &Tree, name: &[u8]) -> bool {
     let Some(head) = head_of(tree) else {
-        return Ok(None);
+        return false;
     };
-    let field = spelled(name);
     if own_field(head, name).is_some() {
-        return Ok(Some(format!(in alloc;
-            "`{field}` is a field of `Head` but not `fixed`: write `fixed` before its width"
-        )?));
+        words.hint(&["`", text_of(name), NOT_FIXED]);
+        return true;
     }
-    if field_of(tree, head, name).is_some() {
-        return Ok(Some(format!(in alloc;
-            "`Head` inherits `{field}`: expressions read fixed fields that `Head` itself declares"
-        )?));
+    let is_inherited = field_of(tree, head, name).is_some();
+    if is_inherited {
+        words.hint(&["`Head` inherits `", text_of(name), INHERITED]);
     }
-    Ok(None)
+    is_inherited
 }
 
-// Which structure has a field of this name.
-fn owner_hint(alloc: Global, tree: &Tree, name: &[u8]) -> Result<Option<String>, NoMemory> {
+// Adds why a field that is declared isn't one that serves here; tells whether that is known.
+fn hint_field(words: &mut Words, tree: &Tree, name: &[u8], role: Role) -> bool {
+    if role == Role::FixedField && hint_head_field(words, tree, name) {
+        return true;
+    }
     let Some(owner) = owner_of(tree, name) else {
-        return Ok(None);
+        return false;
     };
-    let (field, owner) = (spelled(name), spelled(owner.name.name.bytes()));
-    Ok(Some(format!(in alloc; "`{field}` is a field of `{owner}`")?))
-}
-
-// Why a field that is declared isn't one that serves here.
-fn field_hint(
-    alloc: Global,
-    tree: &Tree,
-    name: &[u8],
-    role: Role,
-) -> Result<Option<String>, NoMemory> {
-    if role == Role::FixedField
-        && let Some(hint) = head_field_hint(alloc, tree, name)?
-    {
-        return Ok(Some(hint));
-    }
-    owner_hint(alloc, tree, name)
+    let owner = text_of(owner.name.name.bytes());
+    words.hint(&["`", text_of(name), "` is a field of `", owner, "`"]);
+    true
 }
 
 // Whether a name is the index of the rule in which the place stands.
@@ -109,85 +92,88 @@ fn is_refused_complement(tree: &Tree, name: &[u8], role: Role) -> bool {
 }
 
 // That the name isn't declared as what it is used for.
-fn message(alloc: Global, tree: &Tree, name: &[u8], role: Role) -> Result<String, NoMemory> {
-    let text = spelled(name);
+fn say_undeclared(words: &mut Words, tree: &Tree, name: &[u8], role: Role) {
+    let text = text_of(name);
     if is_refused_complement(tree, name, role) {
-        return Ok(format!(in alloc; "`{text}` is a complement, which can't stand here")?);
+        words.say(&["`", text, "` is a complement, which can't stand here"]);
+    } else {
+        words.say(&["no ", in_words(role)]);
+        words.say(&[" is called `", text, "`"]);
     }
-    let what = in_words(role);
-    Ok(format!(in alloc; "no {what} is called `{text}`")?)
 }
 
-// What the name is declared as in place of what it is used for.
-fn other_hint(
-    alloc: Global,
-    scene: &Scene<'_>,
-    tree: &Tree,
-    name: &[u8],
-    role: Role,
-) -> Result<Option<String>, NoMemory> {
-    let text = spelled(name);
+// Adds what the name is declared as in place of what it is used for; tells whether it is.
+fn hint_other(words: &mut Words, scene: &Scene<'_>, tree: &Tree, name: &[u8], role: Role) -> bool {
     if is_refused_complement(tree, name, role) {
-        return Ok(None);
+        return false;
     }
     if is_index(scene, tree, name) {
-        return Ok(Some(format!(in alloc;
-            "`{text}` is the rule's index, which stands in brackets alone"
-        )?));
+        let text = text_of(name);
+        words.hint(&[
+            "`",
+            text,
+            "` is the rule's index, which stands in brackets alone",
+        ]);
+        return true;
     }
     match declared_as(tree, name) {
-        Some(Declared::Field) => field_hint(alloc, tree, name, role),
+        Some(Declared::Field) => hint_field(words, tree, name, role),
         Some(kind) => {
-            let kind = kind.in_words();
-            Ok(Some(format!(in alloc; "`{text}` is {kind}")?))
+            let mut hint = Text::new(words.message.allocator());
+            hint.pieces(&["`", text_of(name), "` is "]);
+            hint.push(kind.in_words());
+            words.add(hint);
+            true
         }
-        None => Ok(None),
+        None => false,
     }
 }
 
-// What is declared for the use.
-fn list_hint(alloc: Global, known: &[&[u8]], role: Role) -> Result<String, NoMemory> {
-    let (one, many) = (one_in_words(role), many_in_words(role));
+// Adds what is declared for the use.
+fn hint_list(words: &mut Words, known: &[&[u8]], role: Role) {
     if known.is_empty() {
-        return Ok(format!(in alloc; "there are no {many}")?);
+        words.hint(&["there are no ", many_in_words(role)]);
+        return;
     }
-    let names = quoted(alloc, known, " and ")?;
+    let mut hint = Text::new(words.message.allocator());
     if known.len() == 1 {
-        return Ok(format!(in alloc; "the only {one} is {names}")?);
+        hint.pieces(&["the only ", one_in_words(role), " is "]);
+    } else {
+        hint.pieces(&["the ", many_in_words(role), " are "]);
     }
-    Ok(format!(in alloc; "the {many} are {names}")?)
+    push_quoted(&mut hint, known, " and ");
+    words.add(hint);
 }
 
-// What was meant by a name, or what is declared for the use.
-fn meant_hint(alloc: Global, name: &[u8], known: &[&[u8]], role: Role) -> Result<String, NoMemory> {
-    match meant_by(alloc, name, known)? {
-        Some(meant) => {
-            let meant = spelled(meant);
-            Ok(format!(in alloc; "did you mean `{meant}`?")?)
-        }
-        None => list_hint(alloc, known, role),
+// Adds what was meant by a name, or what is declared for the use.
+fn hint_meant(alloc: Global, words: &mut Words, name: &[u8], known: &[&[u8]], role: Role) {
+    match meant_by(alloc, name, known) {
+        Ok(Some(meant)) => words.hint(&["did you mean `", text_of(meant), "`?"]),
+        Ok(None) => hint_list(words, known, role),
+        Err(_) => words.cut(),
     }
 }
+
+const NO_HEAD_HERE: &str =
+    "it is the record at byte 0, and no parent or structure of a pool or of a set";
 
 /// That a name isn't declared as what it is used for.
-pub fn unknown(alloc: Global, scene: &Scene<'_>, tree: &Tree) -> Result<Words, NoMemory> {
+pub fn say_unknown(alloc: Global, words: &mut Words, scene: &Scene<'_>, tree: &Tree) {
     let Some(name) = name_in(scene.found()) else {
-        return no_head(alloc, tree);
+        say_no_head(words, tree);
+        return;
     };
     let role = role_of(scene, tree);
     if role == Role::Structure && name == b"Head".as_slice() {
-        return said_with(
-            alloc,
-            "`Head` can't stand here",
-            "it is the record at byte 0, and no parent or structure of a pool or of a set",
-        );
+        words.say(&["`Head` can't stand here"]);
+        words.hint(&[NO_HEAD_HERE]);
+        return;
     }
-    let words = Words::new(alloc, message(alloc, tree, name, role)?);
-    let known = candidates(alloc, scene, tree, role)?;
-    let words = match other_hint(alloc, scene, tree, name, role)? {
-        Some(hint) if known.is_empty() => return words.and_hint(hint),
-        Some(hint) => words.and_hint(hint)?,
-        None => words,
-    };
-    words.and_hint(meant_hint(alloc, name, &known, role)?)
+    say_undeclared(words, tree, name, role);
+    let is_other = hint_other(words, scene, tree, name, role);
+    match candidates(alloc, scene, tree, role) {
+        Ok(known) if is_other && known.is_empty() => {}
+        Ok(known) => hint_meant(alloc, words, name, &known, role),
+        Err(_) => words.cut(),
+    }
 }

@@ -1,46 +1,47 @@
 // What is told of sets and supplies that don't fit their pools.
-use crate::told::{Words, said};
 use dsr_declarations::{pool_named, set_at, set_named, supply_at};
-use dsr_ir::NoMemory;
-use dsr_passages::spelled;
+use dsr_passages::Words;
 use dsr_tree::{Fresh, PlacedName, Set, Tree, View};
-use std::alloc::Global;
+use dsr_wording::text_of;
 
-// By which structure a set should be read.
-fn view_hint(
-    alloc: Global,
-    tree: &Tree,
-    set: &Set,
-    structure: &PlacedName,
-) -> Result<String, NoMemory> {
-    let (view, pool) = (spelled(structure.name.bytes()), set.pool.name.bytes());
+// Adds by which structure a set should be read.
+fn hint_view(words: &mut Words, tree: &Tree, set: &Set, structure: &PlacedName) {
+    let (view, pool) = (text_of(structure.name.bytes()), set.pool.name.bytes());
     let structure = match pool_named(tree, pool) {
-        Some(pool) => spelled(pool.structure.name.bytes()),
+        Some(pool) => text_of(pool.structure.name.bytes()),
         None => "the structure of its pool",
     };
-    let pool = spelled(pool);
-    Ok(format!(in alloc; "`{view}` doesn't extend `{structure}`, by which `{pool}` is read")?)
+    let pool = text_of(pool);
+    words.hint(&[
+        "`",
+        view,
+        "` doesn't extend `",
+        structure,
+        "`, by which `",
+        pool,
+        "` is read",
+    ]);
 }
 
-// Of which pool the base of a complement is.
-fn base_hint(alloc: Global, tree: &Tree, base: &PlacedName) -> Result<String, NoMemory> {
-    let name = spelled(base.name.bytes());
+const BASE: &str = "a complement has the pool of its base";
+
+// Adds of which pool the base of a complement is.
+fn hint_base(words: &mut Words, tree: &Tree, base: &PlacedName) {
+    let name = text_of(base.name.bytes());
     match set_named(tree, base.name.bytes()) {
         Some(set) => {
-            let pool = spelled(set.pool.name.bytes());
-            Ok(format!(in alloc;
-                "a complement has the pool of its base: `{name}` is a set of `{pool}`"
-            )?)
+            let pool = text_of(set.pool.name.bytes());
+            words.hint(&[BASE, ": `", name, "` is a set of `", pool, "`"]);
         }
-        None => Ok(format!(in alloc; "a complement has the pool of its base, `{name}`")?),
+        None => words.hint(&[BASE, ", `", name, "`"]),
     }
 }
 
 /// That a set is read by a structure that its pool hasn't, or has another pool than its base.
-pub fn set_misfit(alloc: Global, tree: &Tree, place: u64) -> Result<Words, NoMemory> {
-    let words = said(alloc, "this set doesn't fit its pool")?;
+pub fn say_set(words: &mut Words, tree: &Tree, place: u64) {
+    words.say(&["this set doesn't fit its pool"]);
     let Some(set) = set_at(tree, place) else {
-        return Ok(words);
+        return;
     };
     match &set.view {
         Some(
@@ -48,14 +49,14 @@ pub fn set_misfit(alloc: Global, tree: &Tree, place: u64) -> Result<Words, NoMem
                 place: _,
                 structure,
             },
-        ) => words.and_hint(view_hint(alloc, tree, set, structure)?),
+        ) => hint_view(words, tree, set, structure),
         Some(
             View::Except {
                 place: _,
                 set: base,
             },
-        ) => words.and_hint(base_hint(alloc, tree, base)?),
-        None => Ok(words),
+        ) => hint_base(words, tree, base),
+        None => {}
     }
 }
 
@@ -81,17 +82,19 @@ fn other_avoided<'a>(tree: &Tree, supply: &'a Fresh) -> Option<&'a PlacedName> {
 }
 
 /// That a set behind `avoid` has another pool than the supply.
-pub fn supply_misfit(alloc: Global, tree: &Tree, place: u64) -> Result<Words, NoMemory> {
+pub fn say_supply(words: &mut Words, tree: &Tree, place: u64) {
+    words.say(&["a set behind `avoid` is of another pool"]);
     let Some(supply) = supply_at(tree, place) else {
-        return said(alloc, "a set behind `avoid` is of another pool");
+        return;
     };
-    let pool = spelled(supply.pool.name.bytes());
-    let words = said(alloc, "a set behind `avoid` is of another pool")?;
-    match other_avoided(tree, supply) {
-        Some(name) => {
-            let name = spelled(name.name.bytes());
-            words.and_hint(format!(in alloc; "`{name}` is no set of the pool `{pool}`")?)
-        }
-        None => Ok(words),
+    if let Some(name) = other_avoided(tree, supply) {
+        let pool = text_of(supply.pool.name.bytes());
+        words.hint(&[
+            "`",
+            text_of(name.name.bytes()),
+            "` is no set of the pool `",
+            pool,
+            "`",
+        ]);
     }
 }

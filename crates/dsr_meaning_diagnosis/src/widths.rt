@@ -1,12 +1,10 @@
 // What is told of bits: fields that begin inside a byte, and constants that are too wide.
-use crate::told::{Words, said};
 use dsr_declarations::{field_of, place_in, record_of, rule_at, structure_at};
-use dsr_ir::NoMemory;
-use dsr_passages::{Declaration, Scene, keyword_in, name_in, number_in, sign_in, spelled};
+use dsr_passages::{Declaration, Scene, Words, keyword_in, name_in, number_in, sign_in};
 use dsr_tree::{
     Content, Field, Inclusion, Keyword, NamedField, Rule, Sign, Structure, Tree, Width,
 };
-use std::alloc::Global;
+use dsr_wording::{Text, text_of};
 
 // How many bits an entry of this width has.
 fn bits_of(width: Width) -> u64 {
@@ -50,20 +48,20 @@ fn taken_before(structure: &Structure, place: u64) -> u64 {
 }
 
 /// That a field of whole bytes begins inside a byte.
-pub fn unaligned(alloc: Global, scene: &Scene<'_>, tree: &Tree) -> Result<Words, NoMemory> {
+pub fn say_unaligned(words: &mut Words, scene: &Scene<'_>, tree: &Tree) {
+    words.say(&["a field of whole bytes, an array or a `skip` begins inside a byte"]);
     let place = place_in(scene);
-    let words = said(
-        alloc,
-        "a field of whole bytes, an array or a `skip` begins inside a byte",
-    )?;
     let Some(structure) = structure_at(tree, place) else {
-        return Ok(words);
+        return;
     };
     let taken = taken_before(structure, place);
-    let left = 8u64.saturating_sub(taken);
-    words.and_hint(format!(in alloc;
-        "the bits before it take {taken} of a byte: put a field of `bits {left}` between"
-    )?)
+    let mut hint = Text::new(words.message.allocator());
+    hint.push("the bits before it take ");
+    hint.number(taken);
+    hint.push(" of a byte: put a field of `bits ");
+    hint.number(8u64.saturating_sub(taken));
+    hint.push("` between");
+    words.add(hint);
 }
 
 // The greatest number of so many bits.
@@ -152,26 +150,31 @@ fn narrow_field<'a>(scene: &Scene<'_>, tree: &'a Tree) -> Option<&'a NamedField>
     }
 }
 
-fn width_hint(alloc: Global, field: &NamedField) -> Result<String, NoMemory> {
+// Adds which numbers a field holds.
+fn hint_width(words: &mut Words, field: &NamedField) {
     let bits = bits_of(field.width);
-    let most = greatest(bits);
-    let name = spelled(field.name.name.bytes());
-    Ok(format!(in alloc; "`{name}` has {bits} bits, and holds numbers from 0 to {most}")?)
+    let mut hint = Text::new(words.message.allocator());
+    hint.pieces(&["`", text_of(field.name.name.bytes()), "` has "]);
+    hint.number(bits);
+    hint.push(" bits, and holds numbers from 0 to ");
+    hint.number(greatest(bits));
+    words.add(hint);
 }
 
 /// That a width or a constant is out of range.
-pub fn too_wide(alloc: Global, scene: &Scene<'_>, tree: &Tree) -> Result<Words, NoMemory> {
+pub fn say_width(words: &mut Words, scene: &Scene<'_>, tree: &Tree) {
     let number = number_in(scene.found()).unwrap_or(0);
     if keyword_in(scene.before(1)) == Some(Keyword::Bits) {
-        let message = format!(in alloc; "a field can't have {number} bits")?;
-        return Words::new(alloc, message).and_hint("`bits N` takes N from 1 to 32".to_string(
-            alloc,
-        )?);
+        words.say(&["a field can't have "]);
+        words.message.number(number);
+        words.say(&[" bits"]);
+        words.hint(&["`bits N` takes N from 1 to 32"]);
+        return;
     }
-    let message = format!(in alloc; "the constant {number} doesn't fit its field")?;
-    let words = Words::new(alloc, message);
-    match narrow_field(scene, tree) {
-        Some(field) => words.and_hint(width_hint(alloc, field)?),
-        None => Ok(words),
+    words.say(&["the constant "]);
+    words.message.number(number);
+    words.say(&[" doesn't fit its field"]);
+    if let Some(field) = narrow_field(scene, tree) {
+        hint_width(words, field);
     }
 }

@@ -4,15 +4,17 @@
 
 mod diagnosis;
 mod lines;
-mod listing;
+mod names;
 mod near;
 mod scene;
+mod words;
 
 pub use diagnosis::Diagnosis;
-pub use lines::{Spot, line_of, shown_before, shown_behind, spot_of};
-pub use listing::quoted;
-pub use near::meant_by;
+pub use lines::{Spot, line_of, push_before, push_behind, spot_of};
+pub use names::{Names, push_quoted};
+pub use near::{is_near, meant_by};
 pub use scene::{
     Declaration, Scene, begun_by, count_before, keyword_in, length_of, name_in, number_in, part,
-    sign_in, spelled,
+    sign_in,
 };
+pub use words::Words;

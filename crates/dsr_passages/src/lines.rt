@@ -1,6 +1,7 @@
 // Lines of a text, and where a place stands in them.
 use crate::scene::part;
 use dsr_ir::NoMemory;
+use dsr_wording::Text;
 use std::alloc::Global;
 
 // How many bytes of a line are shown before a place and behind it.
@@ -53,34 +54,37 @@ pub fn line_of(text: &[u8], place: u64) -> usize {
     spot_of(text, place as usize).line
 }
 
-// The text of some bytes, with a space for what has no width of its own.
-fn plain(alloc: Global, bytes: &[u8]) -> Result<String, NoMemory> {
-    let text = String::from_utf8_lossy(alloc, bytes)?;
-    let mut plain = String::new(alloc);
-    for letter in text.as_str().chars() {
-        plain.push(if letter.is_control() { ' ' } else { letter })?;
+// Appends some bytes, with a space for what has no width of its own, and tells how many letters
+// they are.
+fn push_plain(alloc: Global, text: &mut Text, bytes: &[u8]) -> Result<usize, NoMemory> {
+    let plain = String::from_utf8_lossy(alloc, bytes)?;
+    let mut count: usize = 0;
+    for letter in plain.as_str().chars() {
+        text.push_letter(if letter.is_control() { ' ' } else { letter });
+        count = count.saturating_add(1);
     }
-    Ok(plain)
+    Ok(count)
 }
 
-/// What is shown of the line before the place; of a long one its end.
-pub fn shown_before(alloc: Global, spot: &Spot<'_>) -> Result<String, NoMemory> {
+/// Appends what is shown of the line before the place, of a long one its end, and tells how many
+/// letters it is.
+pub fn push_before(alloc: Global, text: &mut Text, spot: &Spot<'_>) -> Result<usize, NoMemory> {
     let len = spot.before.len();
     if len <= WINDOW {
-        return plain(alloc, spot.before);
+        return push_plain(alloc, text, spot.before);
     }
-    let mut text = String::from_str(alloc, "..")?;
-    let end = plain(alloc, part(spot.before, len.saturating_sub(WINDOW), len))?;
-    text.push_str(end.as_str())?;
-    Ok(text)
+    text.push("..");
+    let end = part(spot.before, len.saturating_sub(WINDOW), len);
+    Ok(push_plain(alloc, text, end)?.saturating_add(2))
 }
 
-/// What is shown of the line from the place on; of a long one its front.
-pub fn shown_behind(alloc: Global, spot: &Spot<'_>) -> Result<String, NoMemory> {
+/// Appends what is shown of the line from the place on, of a long one its front, and tells how
+/// many letters it is.
+pub fn push_behind(alloc: Global, text: &mut Text, spot: &Spot<'_>) -> Result<usize, NoMemory> {
     if spot.behind.len() <= WINDOW {
-        return plain(alloc, spot.behind);
+        return push_plain(alloc, text, spot.behind);
     }
-    let mut text = plain(alloc, part(spot.behind, 0, WINDOW))?;
-    text.push_str("..")?;
-    Ok(text)
+    let count = push_plain(alloc, text, part(spot.behind, 0, WINDOW))?;
+    text.push("..");
+    Ok(count.saturating_add(2))
 }

@@ -1,6 +1,6 @@
 // Names that are close to another one.
-use crate::scene::spelled;
 use dsr_ir::NoMemory;
+use dsr_wording::text_of;
 use std::alloc::Global;
 use strsim::osa_distance;
 
@@ -18,7 +18,7 @@ pub fn is_near(alloc: Global, word: &[u8], meant: &[u8]) -> Result<bool, NoMemor
     if word.eq_ignore_ascii_case(meant) {
         return Ok(true);
     }
-    let distance = osa_distance(alloc, spelled(word), spelled(meant))?;
+    let distance = osa_distance(alloc, text_of(word), text_of(meant))?;
     Ok(distance <= leave(word.len().max(meant.len())))
 }
 

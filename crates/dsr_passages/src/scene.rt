@@ -44,11 +44,6 @@ pub fn part(text: &[u8], from: usize, to: usize) -> &[u8]
     &text[from..to]
 }
 
-/// The bytes as a text; a question mark where they are none.
-pub fn spelled(bytes: &[u8]) -> &str {
-    str::from_utf8(bytes).unwrap_or("?")
-}
-
 /// The keyword that a token is.
 pub fn keyword_in(lexeme: Option<&Lexeme>) -> Option<Keyword> {
     match &lexeme?.token {

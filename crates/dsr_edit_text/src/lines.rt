@@ -103,7 +103,7 @@ fn push_set(text: &mut Vec<u8>, set: &SetLine) -> Result<(), NoMemory>
 pub fn is_set(alloc: Global, set: &SetLine, text: &[u8]) -> Result<bool, NoMemory>
     ensures { IfOk result (λ is. Decides is (text.now ≡ said.set_text (shown set.now))) }
 {
-    let mut line = Vec::new(alloc);
+    let mut line = Vec::with_capacity(alloc, text.len())?;
     push_set(&mut line, set)?;
     Ok(line.as_slice() == text)
 }

@@ -13,6 +13,6 @@ pub use declared::{
 };
 pub use places::{rule_at, set_at, structure_at, supply_at};
 pub use records::{
-    field_of, is_other_head, parent_of, place_in, place_of, pool_of, record_name, record_of,
+    field_of, is_other_head, parent_of, place_in, place_of, pool_of, read_field, record_name,
 };
 pub use roles::{Role, candidates, in_words, many_in_words, one_in_words, role_of};

@@ -74,6 +74,11 @@ pub fn record_of<'a>(tree: &'a Tree, rule: &Rule) -> Option<&'a Structure> {
     }
 }
 
+/// The field with this name of a rule's record.
+pub fn read_field<'a>(tree: &'a Tree, rule: &Rule, name: &[u8]) -> Option<&'a NamedField> {
+    field_of(tree, record_of(tree, rule)?, name)
+}
+
 /// The pool of a rule's record; none of the head.
 pub fn pool_of<'a>(tree: &'a Tree, rule: &Rule) -> Option<&'a [u8]> {
     match &rule.premise {

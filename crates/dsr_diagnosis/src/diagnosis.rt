@@ -43,13 +43,14 @@ fn of_fault(
     text: &[u8],
     lexemes: &[Lexeme],
     fault: SyntaxFault,
-) -> Result<Diagnosis, NoMemory> {
-    match fault {
-        SyntaxFault::NoMemory => Err(NoMemory),
-        SyntaxFault::Token(place) => no_token(alloc, text, place as usize),
-        SyntaxFault::Limit(place) => over_limit(alloc, &scene_at(text, lexemes, place)),
-        SyntaxFault::Expected(place) => unexpected(alloc, &scene_at(text, lexemes, place)),
-    }
+) -> Result<Option<Diagnosis>, NoMemory> {
+    let diagnosis = match fault {
+        SyntaxFault::NoMemory => return Err(NoMemory),
+        SyntaxFault::Token(place) => no_token(alloc, text, place as usize)?,
+        SyntaxFault::Limit(place) => over_limit(alloc, &scene_at(text, lexemes, place))?,
+        SyntaxFault::Expected(place) => unexpected(alloc, &scene_at(text, lexemes, place))?,
+    };
+    Ok(Some(diagnosis))
 }
 
 /// What is wrong with a text; nothing where it means a specification.
@@ -57,7 +58,7 @@ pub fn diagnose(alloc: Global, text: &[u8]) -> Result<Option<Diagnosis>, NoMemor
     let front = front(alloc, text)?;
     match parse(alloc, text) {
         Ok(tree) => of_tree(alloc, text, &front.lexemes, &tree),
-        Err(fault) => Ok(Some(of_fault(alloc, text, &front.lexemes, fault)?)),
+        Err(fault) => of_fault(alloc, text, &front.lexemes, fault),
     }
 }
 

@@ -140,6 +140,23 @@ fn signs_behind(alloc: Global, text: &mut Vec<u8>) -> Result<Vec<Sign>, NoMemory
     Ok(signs)
 }
 
+fn expected_behind(alloc: Global, front: &mut Vec<u8>, second: bool) -> Result<Expected, NoMemory> {
+    let name = may_follow(alloc, front, b"a")?;
+    let number = may_follow(alloc, front, b"1")?;
+    let operator = may_follow(alloc, front, b"+")?;
+    let end = refused_at(alloc, front)?.is_none();
+    let signs = signs_behind(alloc, front)?;
+    let keywords = keywords_behind(alloc, front, second)?;
+    Ok(Expected {
+        keywords,
+        signs,
+        name,
+        number,
+        operator,
+        end,
+    })
+}
+
 /// What may stand behind the first bytes of a text, which end before a token.
 pub fn expected_at(
     alloc: Global,
@@ -149,20 +166,7 @@ pub fn expected_at(
 ) -> Result<Expected, NoMemory> {
     let mut front = Vec::from_slice(alloc, part(text, 0, place))?;
     front.push(b'\n')?;
-    let name = may_follow(alloc, &mut front, b"a")?;
-    let number = may_follow(alloc, &mut front, b"1")?;
-    let operator = may_follow(alloc, &mut front, b"+")?;
-    let end = refused_at(alloc, &front)?.is_none();
-    let signs = signs_behind(alloc, &mut front)?;
-    let keywords = keywords_behind(alloc, &mut front, second)?;
-    Ok(Expected {
-        keywords,
-        signs,
-        name,
-        number,
-        operator,
-        end,
-    })
+    expected_behind(alloc, &mut front, second)
 }
 
 impl Expected {

@@ -11,40 +11,25 @@ use dsr_tree::{Keyword, Lexeme, Sign};
 use dsr_wording::{Text, text_of};
 use std::alloc::Global;
 
-// Signs that are written otherwise in other languages: one, the one behind it, and what is meant.
-const PAIRS: [(Sign, Sign, &str); 9] = [
-    (Sign::Equal, Sign::Equal, "equality is written `=`"),
-    (Sign::Over, Sign::Over, "a comment begins with `#`"),
-    (
-        Sign::Over,
-        Sign::Times,
-        "a comment begins with `#`, and ends with its line",
-    ),
-    (Sign::Minus, Sign::Minus, "a comment begins with `#`"),
-    (Sign::Equal, Sign::Less, "at most is written `<=`"),
-    (Sign::Less, Sign::Greater, "different is written `!=`"),
-    (Sign::Plus, Sign::Plus, "there are no assignments"),
-    (Sign::Colon, Sign::Colon, "one `:` is enough"),
-    (
-        Sign::Times,
-        Sign::Times,
-        "there are no powers: write the number",
-    ),
-];
-
-// What two neighbouring signs were to mean.
+// What two neighbouring signs were to mean, which are written otherwise here than in other
+// languages.
 fn pair_hint(first: Option<&Lexeme>, second: Option<&Lexeme>) -> Option<&'static str> {
     let (first, second) = (first?, second?);
     if second.place.saturating_sub(first.place) != 1 {
         return None;
     }
-    let (one, other) = (sign_in(Some(first))?, sign_in(Some(second))?);
-    for (left, right, hint) in &PAIRS {
-        if *left == one && *right == other {
-            return Some(*hint);
-        }
+    match (sign_in(Some(first))?, sign_in(Some(second))?) {
+        (Sign::Equal, Sign::Equal) => Some("equality is written `=`"),
+        (Sign::Over, Sign::Over) => Some("a comment begins with `#`"),
+        (Sign::Over, Sign::Times) => Some("a comment begins with `#`, and ends with its line"),
+        (Sign::Minus, Sign::Minus) => Some("a comment begins with `#`"),
+        (Sign::Equal, Sign::Less) => Some("at most is written `<=`"),
+        (Sign::Less, Sign::Greater) => Some("different is written `!=`"),
+        (Sign::Plus, Sign::Plus) => Some("there are no assignments"),
+        (Sign::Colon, Sign::Colon) => Some("one `:` is enough"),
+        (Sign::Times, Sign::Times) => Some("there are no powers: write the number"),
+        _ => None,
     }
-    None
 }
 
 // What an operator was to compute.

@@ -19,12 +19,10 @@ fn relation_at<'a>(scene: &Scene<'_>, tree: &'a Tree) -> Option<&'a Relation> {
         if ends(lexeme) {
             return None;
         }
-        let relation = match name_in(Some(lexeme)) {
-            Some(name) => relation_named(tree, name),
-            None => None,
-        };
-        if relation.is_some() {
-            return relation;
+        if let Some(name) = name_in(Some(lexeme))
+            && let Some(relation) = relation_named(tree, name)
+        {
+            return Some(relation);
         }
     }
     None
@@ -36,19 +34,20 @@ const SIZE_HINT: &str =
 const VALUE_HINT: &str =
     "`x.R` is a value where R relates the pool of x to numbers; records are counted by `size(x.R)`";
 
+const PAIR_HINT: &str =
+    "`<x, y> in R` asks for x of the relation's first pool and y of its second one";
+
+const SET_HINT: &str = "`x in S` asks for a set of the pool of x";
+
 // What an atom asks for, by its first tokens.
 fn atom_hint(scene: &Scene<'_>) -> &'static str {
     let found = scene.found();
-    if keyword_in(found) == Some(Keyword::Size) {
-        return SIZE_HINT;
+    match (keyword_in(found), sign_in(found), sign_in(scene.behind(1))) {
+        (Some(Keyword::Size), _, _) => SIZE_HINT,
+        (_, Some(Sign::Less), _) => PAIR_HINT,
+        (_, _, Some(Sign::Dot)) => VALUE_HINT,
+        _ => SET_HINT,
     }
-    if sign_in(found) == Some(Sign::Less) {
-        return "`<x, y> in R` asks for x of the relation's first pool and y of its second one";
-    }
-    if sign_in(scene.behind(1)) == Some(Sign::Dot) {
-        return VALUE_HINT;
-    }
-    "`x in S` asks for a set of the pool of x"
 }
 
 // Adds what the first relation at the place relates.
@@ -67,16 +66,13 @@ fn say_quantifier(words: &mut Words, scene: &Scene<'_>, tree: &Tree) {
 
 /// That a quantifier or an atom doesn't fit what it asks.
 pub fn say_atom(words: &mut Words, scene: &Scene<'_>, tree: &Tree) {
-    let found = keyword_in(scene.found());
-    if found == Some(Keyword::Forall) {
-        say_quantifier(words, scene, tree);
-        return;
+    match (keyword_in(scene.found()), keyword_in(scene.behind(1))) {
+        (Some(Keyword::Forall), _) => say_quantifier(words, scene, tree),
+        (Some(Keyword::Head), Some(Keyword::In)) => words.say(&["the head is in no set"]),
+        _ => {
+            words.say(&["pools or kinds of values disagree here"]);
+            hint_relation(words, scene, tree);
+            words.hint(&[atom_hint(scene)]);
+        }
     }
-    if found == Some(Keyword::Head) && keyword_in(scene.behind(1)) == Some(Keyword::In) {
-        words.say(&["the head is in no set"]);
-        return;
-    }
-    words.say(&["pools or kinds of values disagree here"]);
-    hint_relation(words, scene, tree);
-    words.hint(&[atom_hint(scene)]);
 }

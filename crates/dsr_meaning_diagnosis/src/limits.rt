@@ -66,11 +66,11 @@ pub fn say_fixed(words: &mut Words, scene: &Scene<'_>, tree: &Tree) {
 
 /// That a structure extends itself or a later one.
 pub fn say_parent(words: &mut Words, scene: &Scene<'_>) {
-    let parent = name_in(scene.found()).unwrap_or(b"");
-    if name_in(scene.before(2)) == Some(parent) {
-        words.say(&["a structure can't extend itself"]);
-        return;
+    match (name_in(scene.before(2)), name_in(scene.found())) {
+        (Some(name), Some(parent)) if name != parent => {
+            words.say(&["the parent `", text_of(parent), "` is declared later"]);
+            words.hint(&["a parent stands before all that extend it"]);
+        }
+        _ => words.say(&["a structure can't extend itself"]),
     }
-    words.say(&["the parent `", text_of(parent), "` is declared later"]);
-    words.hint(&["a parent stands before all that extend it"]);
 }

@@ -1,16 +1,13 @@
 // What is told of members that rules give to sets of other pools.
 use crate::guards::say_other_head;
-use dsr_declarations::{field_of, is_other_head, pool_of, record_of, set_named, target_of};
+use dsr_declarations::{is_other_head, pool_of, read_field, set_named, target_of};
 use dsr_passages::Words;
 use dsr_tree::{Member, MemberPart, Rule, Tree, Var};
 use dsr_wording::text_of;
 
 /// Adds where a field of a rule's record leads, or that it is a number.
 pub fn hint_field(words: &mut Words, tree: &Tree, rule: &Rule, name: &[u8]) {
-    let Some(structure) = record_of(tree, rule) else {
-        return;
-    };
-    let Some(field) = field_of(tree, structure, name) else {
+    let Some(field) = read_field(tree, rule, name) else {
         return;
     };
     match target_of(field) {

@@ -1,7 +1,7 @@
 // What is told of pairs that rules give to relations of other pools or kinds.
 use crate::guards::say_other_head;
 use crate::members::{hint_field, hint_record};
-use dsr_declarations::{field_of, is_other_head, record_of, relation_named};
+use dsr_declarations::{is_other_head, read_field, relation_named};
 use dsr_passages::Words;
 use dsr_tree::{Path, Relation, Rule, Target, Term, Tree, Var};
 use dsr_wording::text_of;
@@ -13,23 +13,11 @@ pub fn hint_related(words: &mut Words, relation: &Relation) {
         Var::Head { place: _ } => "head",
         Var::Name(pool) => text_of(pool.name.bytes()),
     };
-    match &relation.target {
-        Target::Number { place: _ } => {
-            words.hint(&["`", name, "` relates `", source, "` to numbers"]);
-        }
-        Target::Pool(pool) => {
-            let pool = text_of(pool.name.bytes());
-            words.hint(&[
-                "`",
-                name,
-                "` relates `",
-                source,
-                "` to records of `",
-                pool,
-                "`",
-            ]);
-        }
-    }
+    let (what, pool, end) = match &relation.target {
+        Target::Number { place: _ } => ("numbers", "", ""),
+        Target::Pool(pool) => ("records of `", text_of(pool.name.bytes()), "`"),
+    };
+    words.hint(&["`", name, "` relates `", source, "` to ", what, pool, end]);
 }
 
 // Whether `head` stands where a rule's record has a name.
@@ -49,10 +37,7 @@ fn is_slot_alone(tree: &Tree, rule: &Rule, term: &Term, path: &Path) -> bool {
     else {
         return false;
     };
-    let Some(structure) = record_of(tree, rule) else {
-        return false;
-    };
-    match field_of(tree, structure, path.field.name.bytes()) {
+    match read_field(tree, rule, path.field.name.bytes()) {
         Some(field) => path.index.is_none() && field.length.is_none(),
         None => false,
     }

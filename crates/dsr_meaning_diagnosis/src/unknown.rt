@@ -86,27 +86,8 @@ fn is_index(scene: &Scene<'_>, tree: &Tree, name: &[u8]) -> bool {
     }
 }
 
-// Whether a complement stands where none may.
-fn is_refused_complement(tree: &Tree, name: &[u8], role: Role) -> bool {
-    role == Role::PlainSet && set_named(tree, name).is_some()
-}
-
-// That the name isn't declared as what it is used for.
-fn say_undeclared(words: &mut Words, tree: &Tree, name: &[u8], role: Role) {
-    let text = text_of(name);
-    if is_refused_complement(tree, name, role) {
-        words.say(&["`", text, "` is a complement, which can't stand here"]);
-    } else {
-        words.say(&["no ", in_words(role)]);
-        words.say(&[" is called `", text, "`"]);
-    }
-}
-
 // Adds what the name is declared as in place of what it is used for; tells whether it is.
 fn hint_other(words: &mut Words, scene: &Scene<'_>, tree: &Tree, name: &[u8], role: Role) -> bool {
-    if is_refused_complement(tree, name, role) {
-        return false;
-    }
     if is_index(scene, tree, name) {
         let text = text_of(name);
         words.hint(&[
@@ -127,6 +108,27 @@ fn hint_other(words: &mut Words, scene: &Scene<'_>, tree: &Tree, name: &[u8], ro
         }
         None => false,
     }
+}
+
+// That the name isn't declared as what it is used for; tells whether it is known what else it is.
+fn say_undeclared(
+    words: &mut Words,
+    scene: &Scene<'_>,
+    tree: &Tree,
+    name: &[u8],
+    role: Role,
+) -> bool {
+    if role == Role::PlainSet && set_named(tree, name).is_some() {
+        words.say(&[
+            "`",
+            text_of(name),
+            "` is a complement, which can't stand here",
+        ]);
+        return false;
+    }
+    words.say(&["no ", in_words(role)]);
+    words.say(&[" is called `", text_of(name), "`"]);
+    hint_other(words, scene, tree, name, role)
 }
 
 // Adds what is declared for the use.
@@ -169,8 +171,7 @@ pub fn say_unknown(alloc: Global, words: &mut Words, scene: &Scene<'_>, tree: &T
         words.hint(&[NO_HEAD_HERE]);
         return;
     }
-    say_undeclared(words, tree, name, role);
-    let is_other = hint_other(words, scene, tree, name, role);
+    let is_other = say_undeclared(words, scene, tree, name, role);
     match candidates(alloc, scene, tree, role) {
         Ok(known) if is_other && known.is_empty() => {}
         Ok(known) => hint_meant(alloc, words, name, &known, role),

@@ -1,5 +1,5 @@
 // What is told of bits: fields that begin inside a byte, and constants that are too wide.
-use dsr_declarations::{field_of, place_in, record_of, rule_at, structure_at};
+use dsr_declarations::{place_in, read_field, rule_at, structure_at};
 use dsr_passages::{Declaration, Scene, Words, keyword_in, name_in, number_in, sign_in};
 use dsr_tree::{
     Content, Field, Inclusion, Keyword, NamedField, Rule, Sign, Structure, Tree, Width,
@@ -77,10 +77,12 @@ fn greatest(bits: u64) -> u64 {
 
 // The field of a rule's guard with which the number at the place is compared.
 fn compared_field<'a>(scene: &Scene<'_>, tree: &'a Tree) -> Option<&'a NamedField> {
-    let is_indexed = sign_in(scene.before(2)) == Some(Sign::CloseBracket);
-    let name = name_in(scene.before(if is_indexed { 5 } else { 2 }))?;
-    let structure = record_of(tree, rule_at(tree, place_in(scene))?)?;
-    field_of(tree, structure, name)
+    let steps = match sign_in(scene.before(2)) {
+        Some(Sign::CloseBracket) => 5,
+        _ => 2,
+    };
+    let name = name_in(scene.before(steps))?;
+    read_field(tree, rule_at(tree, place_in(scene))?, name)
 }
 
 // The field by which a rule gives numbers to a relation.
@@ -91,9 +93,7 @@ fn giving_field<'a>(tree: &'a Tree, rule: &Rule, name: &[u8]) -> Option<&'a Name
             term: _,
             path,
             relation,
-        } if relation.name.bytes() == name => {
-            field_of(tree, record_of(tree, rule)?, path.field.name.bytes())
-        }
+        } if relation.name.bytes() == name => { read_field(tree, rule, path.field.name.bytes()) }
         _ => None,
     }
 }

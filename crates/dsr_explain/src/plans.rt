@@ -101,7 +101,7 @@ fn push_way(text: &mut Text, meaning: &Meaning, member: Option<u32>, line: &str)
 
 const CYCLE: &str = "\
 . Of the ways above ask which can't happen in your structure, and say why in the specification: by \
-a constraint that is meaning earlier, by a narrower rule, or by other words for the constraint\n";
+a constraint that is declared earlier, by a narrower rule, or by other words for the constraint\n";
 
 // Appends which member waits for which: `cycle NAME .. NAME`.
 fn push_cycle(text: &mut Text, line: &str) {

@@ -58,7 +58,8 @@ fn number_of(text: &str) -> Option<u64> {
     text.trim().parse::<u64>().ok()
 }
 
-// The place and the size that a line tells: `PLACE | SIZE`. A member of some bits has another place.
+// The place and the size that a line tells: `PLACE | SIZE`. A member of some bits has another
+// place.
 fn extent_of(numbers: &str) -> Option<(u64, u64)> {
     let (start, size) = numbers.split_once('|')?;
     Some((number_of(start)?, number_of(size)?))

@@ -34,22 +34,45 @@ fn known_at(numbers: &[Option<u64>], place: usize) -> Option<u64> {
     }
 }
 
+fn sum(left: Option<u64>, right: Option<u64>) -> Option<u64> {
+    match (left, right) {
+        (Some(left), Some(right)) => left.checked_add(right),
+        _ => None,
+    }
+}
+
+fn difference(left: Option<u64>, right: Option<u64>) -> Option<u64> {
+    match (left, right) {
+        (Some(left), Some(right)) => left.checked_sub(right),
+        _ => None,
+    }
+}
+
+fn product(left: Option<u64>, right: Option<u64>) -> Option<u64> {
+    match (left, right) {
+        (Some(left), Some(right)) => left.checked_mul(right),
+        _ => None,
+    }
+}
+
+fn quotient(left: Option<u64>, right: Option<u64>) -> Option<u64> {
+    match (left, right) {
+        (Some(left), Some(right)) => left.checked_div(right),
+        _ => None,
+    }
+}
+
 fn node_value(fixed: &[Option<u64>], node: &ExprNode) -> Option<u64> {
     match node {
         ExprNode::Num(value) => Some(*value),
         ExprNode::Fixed(field) => known_at(fixed, *field as usize),
-        ExprNode::Sum(left, right) => {
-            node_value(fixed, left)?.checked_add(node_value(fixed, right)?)
-        }
-        ExprNode::Less(left, right) => {
-            node_value(fixed, left)?.checked_sub(node_value(fixed, right)?)
-        }
-        ExprNode::Times(left, right) => {
-            node_value(fixed, left)?.checked_mul(node_value(fixed, right)?)
-        }
-        ExprNode::Over(left, right) => {
-            node_value(fixed, left)?.checked_div(node_value(fixed, right)?)
-        }
+        ExprNode::Sum(left, right) => sum(node_value(fixed, left), node_value(fixed, right)),
+        ExprNode::Less(left, right) => difference(
+            node_value(fixed, left),
+            node_value(fixed, right),
+        ),
+        ExprNode::Times(left, right) => product(node_value(fixed, left), node_value(fixed, right)),
+        ExprNode::Over(left, right) => quotient(node_value(fixed, left), node_value(fixed, right)),
     }
 }
 
@@ -197,13 +220,12 @@ impl Extents {
 impl PoolExtent {
     /// The byte behind the last slot.
     pub fn end(&self) -> Option<u64> {
-        self.start?
-            .checked_add(self.count?.checked_mul(self.slot?)?)
+        sum(self.start, product(self.count, self.slot))
     }
 
     /// The code of the last slot.
     pub fn last_code(&self) -> Option<u64> {
-        let steps = self.count?.checked_sub(1)?;
-        self.code?.checked_add(steps.checked_mul(self.step?)?)
+        let steps = difference(self.count, Some(1));
+        sum(self.code, product(steps, self.step))
     }
 }

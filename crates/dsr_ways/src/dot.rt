@@ -66,15 +66,25 @@ fn push_edges(text: &mut Text, spec: &Spec, graph: &Graph, number: u32, constrai
     }
 }
 
+// Appends a constraint as a node.
+fn push_node(text: &mut Text, constraint: &Constraint) {
+    text.push("  \"");
+    text.name(constraint.name.bytes());
+    text.push("\" [shape=box];\n");
+}
+
+// Appends the constraints, each with the edges from it.
+fn push_nodes(text: &mut Text, spec: &Spec, graph: &Graph) {
+    for (number, constraint) in spec.constraints.items().iter().enumerate() {
+        push_node(text, constraint);
+        push_edges(text, spec, graph, numbered(number), constraint);
+    }
+}
+
 // Appends a graph, once it is known.
 fn push_known(text: &mut Text, spec: &Spec, graph: &Graph) {
     text.push("digraph repairs {\n");
-    for (number, constraint) in spec.constraints.items().iter().enumerate() {
-        text.push("  \"");
-        text.name(constraint.name.bytes());
-        text.push("\" [shape=box];\n");
-        push_edges(text, spec, graph, numbered(number), constraint);
-    }
+    push_nodes(text, spec, graph);
     text.push("}\n");
 }
 

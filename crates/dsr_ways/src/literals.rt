@@ -84,9 +84,18 @@ fn push_value(text: &mut Text, spec: &Spec, variables: &Variables<'_>, bound: &B
 
 // Appends a sign of comparison, between spaces.
 fn push_sign(text: &mut Text, op: Op) {
-    for piece in [" ", sign_of(op), " "] {
-        text.push(piece);
-    }
+    text.push(" ");
+    text.push(sign_of(op));
+    text.push(" ");
+}
+
+// Appends a pair of variables.
+fn push_pair(text: &mut Text, first: &str, second: &str) {
+    text.push("<");
+    text.push(first);
+    text.push(", ");
+    text.push(second);
+    text.push("> in ");
 }
 
 fn push_atom(text: &mut Text, spec: &Spec, variables: &Variables<'_>, atom: &Atom) {
@@ -97,10 +106,11 @@ fn push_atom(text: &mut Text, spec: &Spec, variables: &Variables<'_>, atom: &Ato
             push_set(text, spec, *set);
         }
         Atom::Pair(first, second, rel) => {
-            let (first, second) = (var_name(variables, *first), var_name(variables, *second));
-            for piece in ["<", first, ", ", second, "> in "] {
-                text.push(piece);
-            }
+            push_pair(
+                text,
+                var_name(variables, *first),
+                var_name(variables, *second),
+            );
             push_relation(text, spec, *rel);
         }
         Atom::Count(measure, op, number) => {

@@ -65,8 +65,8 @@ fn push_write(
     push_pick(text, spec, variables, &write.pick);
 }
 
-// Appends an update.
-fn push_update(text: &mut Text, spec: &Spec, variables: &Variables<'_>, update: &Update) {
+// Appends the rule of an update, and from which pool a record is taken, if any.
+fn push_rule(text: &mut Text, spec: &Spec, update: &Update) {
     text.push("; by rule ");
     text.number(u64::from(update.rule.saturating_add(1)));
     if let Some(pool) = update.fresh {
@@ -74,6 +74,11 @@ fn push_update(text: &mut Text, spec: &Spec, variables: &Variables<'_>, update: 
         text.name(pool_name(spec, pool));
         text.push(" is reset");
     }
+}
+
+// Appends an update.
+fn push_update(text: &mut Text, spec: &Spec, variables: &Variables<'_>, update: &Update) {
+    push_rule(text, spec, update);
     for write in update.writes.items() {
         push_write(text, spec, variables, update, write);
     }

@@ -72,7 +72,7 @@ fn sink_of(alloc: Global, failing: Failing) -> Result<MemorySink, AllocError> {
     })
 }
 
-fn ended(
+fn end_of(
     alloc: Global,
     words: &Vec<String>,
     files: Vec<Held>,
@@ -93,7 +93,7 @@ fn ended(
 fn run_given(alloc: Global, heading: &str, given: &str) -> Result<Ended, NoMemory> {
     let words = words_of(alloc, heading)?;
     let files = begun(alloc, given)?;
-    Ok(ended(alloc, &words, files, failing_of(given))?)
+    Ok(end_of(alloc, &words, files, failing_of(given))?)
 }
 
 fn add_ended(lines: &mut Lines, alloc: Global, ended: &Ended, before: &[Held]) {

@@ -34,7 +34,7 @@ const MOST_BYTES: usize = 67_108_864;
 
 // What a repair took.
 #[derive(Clone, Copy)]
-struct Work {
+struct Cost {
     updates: u64,
     reads: u64,
 }
@@ -48,7 +48,7 @@ fn image(alloc: Global) -> Result<Vec<u8>, AllocError> {
 }
 
 // Repairs an image; nothing where it doesn't come to a consistent one.
-fn work(alloc: Global, plan: &Plan, bytes: Vec<u8>) -> Option<Work>
+fn work(alloc: Global, plan: &Plan, bytes: Vec<u8>) -> Option<Cost>
     requires { IsTyped plan.now.0 }
 {
     if bytes.len() > MOST_BYTES {
@@ -60,7 +60,7 @@ fn work(alloc: Global, plan: &Plan, bytes: Vec<u8>) -> Option<Work>
     let mut counted = Counted::new(bytes);
     let mut log = Log::new(alloc);
     match repair(alloc, plan, &layout, &mut counted, &mut log) {
-        Ok(Outcome::Consistent) => Some(Work {
+        Ok(Outcome::Consistent) => Some(Cost {
             updates: log.len() as u64,
             reads: counted.reads(),
         }),
@@ -68,7 +68,7 @@ fn work(alloc: Global, plan: &Plan, bytes: Vec<u8>) -> Option<Work>
     }
 }
 
-fn plan_and_work(alloc: Global, spec: &Spec) -> Option<Work>
+fn plan_and_work(alloc: Global, spec: &Spec) -> Option<Cost>
     requires { IsTyped spec.now }
 {
     let Ok(bytes) = image(alloc) else {
@@ -80,15 +80,26 @@ fn plan_and_work(alloc: Global, spec: &Spec) -> Option<Work>
     }
 }
 
+// What the repair takes by a specification's text; nothing where there is none.
+fn cost_of(alloc: Global, text: &[u8]) -> Option<Cost> {
+    let Ok(reading) = read(alloc, text) else {
+        return None;
+    };
+    match &reading {
+        Reading::Means(_, spec) => plan_and_work(alloc, spec),
+        _ => None,
+    }
+}
+
 // Tells the number of steps, and whether the image was read too often.
-fn add_work(lines: &mut Lines, work: Option<Work>) {
-    let Some(work) = work else {
+fn add_cost(lines: &mut Lines, cost: Option<Cost>) {
+    let Some(cost) = cost else {
         lines.word("no repair\n");
         return;
     };
-    lines.part("updates ", work.updates);
+    lines.part("updates ", cost.updates);
     lines.part(", read within ", MOST);
-    lines.word(if work.reads <= MOST {
+    lines.word(if cost.reads <= MOST {
         ": true\n"
     } else {
         ": false\n"
@@ -98,12 +109,8 @@ fn add_work(lines: &mut Lines, work: Option<Work>) {
 fn main(rt: HostRuntime) -> anyhow::Result<()> {
     let alloc = rt.alloc();
     let text = io::read_to_string(alloc, rt.stdin())?;
-    let work = match read(alloc, text.as_bytes()) {
-        Ok(Reading::Means(_, spec)) => plan_and_work(alloc, &spec),
-        _ => None,
-    };
     let mut lines = Lines::new(alloc);
-    add_work(&mut lines, work);
+    add_cost(&mut lines, cost_of(alloc, text.as_bytes()));
     rt.print(lines.whole()?)?;
     Ok(())
 }

@@ -37,10 +37,11 @@ fn colour_of(line: &str) -> &'static str {
 pub fn coloured(alloc: Global, text: &str) -> Result<String, NoMemory> {
     let mut shown = Text::new(alloc);
     for line in text.lines() {
-        match colour_of(line) {
-            "" => shown.pieces(&[line, "\n"]),
-            colour => shown.pieces(&[colour, line, PLAIN, "\n"]),
-        }
+        let colour = colour_of(line);
+        shown.push(colour);
+        shown.push(line);
+        shown.push(if colour.is_empty() { "" } else { PLAIN });
+        shown.push("\n");
     }
     shown.whole()
 }

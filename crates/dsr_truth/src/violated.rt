@@ -52,7 +52,8 @@ fn next_violated_pair(
     requires ordered { model.now.ordered ≡ true }
     requires own { constraint.now.quant ≡ quants.Pairs rel }
     requires kind { IfSome before (MayBind model.now constraint.now.quant) }
-    ensures { FindsLeastBinding (IsLaterViolated (IsInModel model.now) constraint.now before) result }
+    ensures { FindsLeastBinding
+        (IsLaterViolated (IsInModel model.now) constraint.now before) result }
 {
     let quant = Quant::Pairs(rel);
     let only = only_literal(constraint);

@@ -1,7 +1,9 @@
 // When literals and conjunctions are true.
-ghost use Rattle.std.specs.Prelude.{◌≡◌, ◌↔◌, ℕ, true, IsFalse, IsSome, IsTrue, IsSomeAnd, MatchBool, MatchOption, slice_get};
+ghost use Rattle.std.specs.Prelude.{◌≡◌, ◌↔◌, ℕ, true, Some, IfSome, IsFalse, IsSome, IsTrue, IsSomeAnd, MatchBool, MatchOption, slice_get};
 ghost use Rattle.dsr_ir.specs.declared.tuples.Fact.TheVariants as facts;
 ghost use Rattle.dsr_ir.specs.declared.constraints.Atom.TheVariants as atoms;
+ghost use Rattle.dsr_ir.specs.declared.constraints.Measure.TheVariants as measures;
+ghost use Rattle.dsr_ir.specs.declared.constraints.Var.TheVariants as vars;
 ghost use Rattle.dsr_ir.specs.declared.tuples.Target.TheVariants.{Elem, Num};
 ghost use Rattle.dsr_meaning.specs.Consistency.{ConjHolds};
 ghost use Rattle.dsr_meaning.specs.Instances.{Compares};
@@ -266,6 +268,48 @@ pub fn only_literal(constraint: &Constraint) -> Option<Literal>
         [conj] => only_in(conj.literals.items()),
         _ => None,
     }
+}
+
+// The relation whose sources a measure counts for the second variable.
+#[inline(always)]
+fn sources_of_second(measure: Measure) -> Option<u32>
+    ensures { IfSome result (λ rel. measure ≡ measures.Into rel vars.Second) }
+{
+    match measure {
+        Measure::Into(rel, Var::Second) => Some(rel),
+        _ => None,
+    }
+}
+
+// An atom that compares how many sources the second variable has: the same one, written out, so
+// that a loop is made for its kind.
+#[inline(always)]
+fn sources_atom(atom: Atom) -> Option<Atom>
+    ensures { IfSome result (λ same. atom ≡ same) }
+{
+    match atom {
+        Atom::Count(measure, op, size) => {
+            let rel = sources_of_second(measure)?;
+            Some(Atom::Count(Measure::Into(rel, Var::Second), op, size))
+        }
+        _ => None,
+    }
+}
+
+// The literal that such an atom is alone, written out.
+#[inline(always)]
+pub fn sources_literal(only: Option<Literal>) -> Option<Literal>
+    ensures { IfSome result (λ same. only ≡ Some same) }
+{
+    let literal = only?;
+    if literal.negated {
+        return None;
+    }
+    Some(Literal {
+        atom: sources_atom(literal.atom)?,
+        negated: false,
+        given: literal.given,
+    })
 }
 
 // As `is_satisfied`, at once where the only literal of the constraint, if it has but one, is known.

@@ -1,31 +1,35 @@
 // The violated bindings of constraints.
 ghost use Rattle.std.specs.Prelude.{◌≡◌, ◌<◌, ◌≤◌, ◌+◌, ◌↔◌, None, Some, true, map, length, slice_get, slice_index, IfOk, IfSome, IsTrue, MatchOption};
+ghost use Rattle.dsr_ir.specs.declared.constraints.Quant.TheVariants as quants;
+ghost use Rattle.dsr_truth.specs.Only as said;
 ghost use Rattle.dsr_meaning.specs.Consistency.{AreViolations, IsFirstViolated, NoneIsViolated, NoneIsViolatedBefore, bound_constraint};
 ghost use Rattle.dsr_model.specs.Facts.{IsInModel};
 ghost use Rattle.dsr_truth.specs.Walks.{AreFound, FindsLeastBinding, IsLaterViolated, IsViolatedAt, IsViolatedFrom, IsViolatedOf, MayBind};
 ghost use Rattle.dsr_meaning.specs.Limits.{most_constraints};
 
-use crate::literals::{is_met, is_satisfied, only_literal};
+use crate::literals::{is_met, is_satisfied, only_literal, sources_literal};
 use crate::walks::{is_binding, next_binding};
-use dsr_ir::{Binding, Constraint, NoMemory, Quant, Spec};
+use dsr_ir::{Binding, Constraint, Literal, NoMemory, Quant, Spec};
 use dsr_model::Model;
 use std::alloc::Global;
 
 // The least violated binding of a constraint that comes after another one, or the least of all. The
-// quantifier is the constraint's; where its kind is known, the walk is a loop of that kind alone.
+// quantifier and the only literal are the constraint's; where their kinds are known, the walk is a
+// loop of these alone.
 #[inline(always)]
 fn next_violated_over(
     model: &Model,
     constraint: &Constraint,
     quant: Quant,
+    only: Option<Literal>,
     before: Option<Binding>,
 ) -> Option<Binding>
     requires ordered { model.now.ordered ≡ true }
     requires own { constraint.now.quant ≡ quant }
+    requires alone { only ≡ said.only_literal constraint.now }
     requires kind { IfSome before (MayBind model.now constraint.now.quant) }
     ensures { FindsLeastBinding (IsLaterViolated (IsInModel model.now) constraint.now before) result }
 {
-    let only = only_literal(constraint);
     let mut last = before;
     let mut near = 0;
     while let Some(binding) = next_binding(model, quant, last, near) {
@@ -38,21 +42,43 @@ fn next_violated_over(
     None
 }
 
+// The same for a constraint over pairs.
+fn next_violated_pair(
+    model: &Model,
+    constraint: &Constraint,
+    rel: u32,
+    before: Option<Binding>,
+) -> Option<Binding>
+    requires ordered { model.now.ordered ≡ true }
+    requires own { constraint.now.quant ≡ quants.Pairs rel }
+    requires kind { IfSome before (MayBind model.now constraint.now.quant) }
+    ensures { FindsLeastBinding
+        (IsLaterViolated (IsInModel model.now) constraint.now before) result }
+{
+    let quant = Quant::Pairs(rel);
+    let only = only_literal(constraint);
+    match sources_literal(only) {
+        Some(known) => next_violated_over(model, constraint, quant, Some(known), before),
+        None => next_violated_over(model, constraint, quant, only, before),
+    }
+}
+
 // The least violated binding of a constraint that comes after another one, or the least of all.
 fn next_violated(model: &Model, constraint: &Constraint, before: Option<Binding>) -> Option<Binding>
     requires ordered { model.now.ordered ≡ true }
     requires kind { IfSome before (MayBind model.now constraint.now.quant) }
     ensures { FindsLeastBinding (IsLaterViolated (IsInModel model.now) constraint.now before) result }
 {
+    let only = only_literal(constraint);
     match constraint.quant {
-        Quant::Once => next_violated_over(model, constraint, Quant::Once, before),
-        Quant::Each(set) => next_violated_over(model, constraint, Quant::Each(set), before),
-        Quant::Pairs(rel) => next_violated_over(model, constraint, Quant::Pairs(rel), before),
+        Quant::Once => next_violated_over(model, constraint, Quant::Once, only, before),
+        Quant::Each(set) => next_violated_over(model, constraint, Quant::Each(set), only, before),
+        Quant::Pairs(rel) => next_violated_pair(model, constraint, rel, before),
     }
 }
 
-// Appends the violated bindings of the constraint that has this number. The quantifier is the
-// constraint's; where its kind is known, the walk is a loop of that kind alone.
+// Appends the violated bindings of the constraint that has this number. The quantifier and the only
+// literal are the constraint's; where their kinds are known, the walk is a loop of these alone.
 #[inline(always)]
 fn violations_over(
     model: &Model,
@@ -60,17 +86,18 @@ fn violations_over(
     number: u32,
     constraint: &Constraint,
     quant: Quant,
+    only: Option<Literal>,
     found: &mut Vec<(u32, Binding)>,
 ) -> Result<(), NoMemory>
     requires ordered { model.now.ordered ≡ true }
     requires declared { slice_get spec.now.constraints number ≡ Some constraint.now }
     requires own { constraint.now.quant ≡ quant }
+    requires alone { only ≡ said.only_literal constraint.now }
     requires before { AreFound (IsInModel model.now) spec.now number None
         (map bound_constraint found.old.items) }
     ensures { IfOk result (λ _. AreFound (IsInModel model.now) spec.now (number + 1) None
         (map bound_constraint found.new.items)) }
 {
-    let only = only_literal(constraint);
     let mut last = None;
     let mut near = 0;
     while let Some(binding) = next_binding(model, quant, last, near) {
@@ -81,6 +108,33 @@ fn violations_over(
         last = Some(binding);
     }
     Ok(())
+}
+
+// Appends the violated bindings of the constraint that has this number: one over pairs.
+fn pair_violations(
+    model: &Model,
+    spec: &Spec,
+    number: u32,
+    constraint: &Constraint,
+    rel: u32,
+    found: &mut Vec<(u32, Binding)>,
+) -> Result<(), NoMemory>
+    requires ordered { model.now.ordered ≡ true }
+    requires declared { slice_get spec.now.constraints number ≡ Some constraint.now }
+    requires own { constraint.now.quant ≡ quants.Pairs rel }
+    requires before { AreFound (IsInModel model.now) spec.now number None
+        (map bound_constraint found.old.items) }
+    ensures { IfOk result (λ _. AreFound (IsInModel model.now) spec.now (number + 1) None
+        (map bound_constraint found.new.items)) }
+{
+    let quant = Quant::Pairs(rel);
+    let only = only_literal(constraint);
+    match sources_literal(only) {
+        Some(known) => {
+            violations_over(model, spec, number, constraint, quant, Some(known), found)
+        }
+        None => violations_over(model, spec, number, constraint, quant, only, found),
+    }
 }
 
 // Appends the violated bindings of the constraint that has this number.
@@ -98,14 +152,19 @@ fn constraint_violations(
     ensures { IfOk result (λ _. AreFound (IsInModel model.now) spec.now (number + 1) None
         (map bound_constraint found.new.items)) }
 {
+    let only = only_literal(constraint);
     match constraint.quant {
-        Quant::Once => { violations_over(model, spec, number, constraint, Quant::Once, found) }
-        Quant::Each(set) => {
-            violations_over(model, spec, number, constraint, Quant::Each(set), found)
-        }
-        Quant::Pairs(rel) => {
-            violations_over(model, spec, number, constraint, Quant::Pairs(rel), found)
-        }
+        Quant::Once => violations_over(model, spec, number, constraint, Quant::Once, only, found),
+        Quant::Each(set) => violations_over(
+            model,
+            spec,
+            number,
+            constraint,
+            Quant::Each(set),
+            only,
+            found,
+        ),
+        Quant::Pairs(rel) => pair_violations(model, spec, number, constraint, rel, found),
     }
 }
 

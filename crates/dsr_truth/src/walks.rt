@@ -7,7 +7,7 @@ ghost use Rattle.dsr_meaning.specs.Consistency.{IsBinding};
 ghost use Rattle.dsr_model.specs.Facts.{IsInModel};
 ghost use Rattle.dsr_truth.specs.Walks.{FindsLeastBinding, IsLaterBinding, MayBind, bindings_after, each, pair};
 
-use dsr_ir::{Binding, Element, Fact, Quant, Symbol, Target};
+use dsr_ir::{Binding, Element, Fact, Quant, Target};
 use dsr_model::Model;
 
 // The fact that an element is a member of a set.
@@ -44,7 +44,7 @@ fn next_each(model: &Model, set: u32, before: Option<Element>) -> Option<Binding
         < bindings_after model.now (quants.Each set) (option_map each before)) }
 {
     let last = member_fact(set, before);
-    let next = model.after_near(Symbol::Set(set), last, 0)?;
+    let next = model.member_after(set, last)?;
     match next {
         Fact::Member(_, elem) => Some(Binding::Each(elem)),
         Fact::Pair(_, _, _) => None,
@@ -68,7 +68,7 @@ fn next_pair(
         < bindings_after model.now (quants.Pairs rel) (option_map pair before)) }
 {
     let last = pair_fact(rel, before);
-    let next = model.after_near(Symbol::Rel(rel), last, near)?;
+    let next = model.pair_after(rel, last, near)?;
     match next {
         Fact::Pair(_, source, target) => match target {
             Target::Elem(target) => Some(Binding::Pair(source, target)),

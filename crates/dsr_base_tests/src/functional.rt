@@ -1,6 +1,6 @@
 // Pairs of which no two have the same first part.
-use dsr_rows::Functional;
-use std::alloc::Global;
+use dsr_rows::{Functional, Row};
+use std::alloc::{AllocError, Global};
 
 // A call on a list with room for 70 pairs, with its answer behind its arguments.
 #[derive(Clone, Copy)]
@@ -101,6 +101,25 @@ fn all_answer(alloc: Global, calls: &[Call]) -> bool {
         right = right && answers(&mut list, *call);
     }
     right
+}
+
+// The pairs of a row take the place of those that were there.
+pub fn are_copied(alloc: Global) -> Result<bool, AllocError> {
+    let mut row = Row::new(alloc, 70)?;
+    if row.places() == 70 {
+        row.set(2, 5);
+        row.set(64, 7);
+    }
+    let mut list = Functional::new(alloc, 70)?;
+    push(&mut list, 3, 1);
+    if list.room() as u64 == row.places() {
+        list.copy_from(&row);
+    }
+    let mut right = true;
+    for call in FOLLOWING.iter().skip(2) {
+        right = right && answers(&mut list, *call);
+    }
+    Ok(right && !list.has(3, 1))
 }
 
 pub fn are_asked_in_order(alloc: Global) -> bool {

@@ -1,6 +1,6 @@
 // Numbers for some places, and counts of sources.
 use dsr_rows::{Row, Tally};
-use std::alloc::Global;
+use std::alloc::{AllocError, Global};
 
 const GREATEST: u64 = 18_446_744_073_709_551_615;
 
@@ -8,6 +8,8 @@ const GREATEST: u64 = 18_446_744_073_709_551_615;
 #[derive(Clone, Copy)]
 enum Call {
     Set(u64, u64),
+    /// Sets the number, and tells whether there was none.
+    Put(u64, u64, bool),
     Forget(u64),
     Join(u64, u64),
     Get(u64, Option<u64>),
@@ -92,10 +94,24 @@ const JOINED: [Call; 14] = [
     Call::Join(2, 1),
 ];
 
+// It is told whether a place had no number before.
+const PUT: [Call; 6] = [
+    Call::Put(3, 5, true),
+    Call::Put(3, 4_294_967_296, false),
+    Call::Get(3, Some(4_294_967_296)),
+    Call::Forget(3),
+    Call::Put(3, 0, true),
+    Call::Get(3, Some(0)),
+];
+
 fn set(row: &mut Row, place: u64, number: u64) {
     if place < row.places() {
         row.set(place, number);
     }
+}
+
+fn put(row: &mut Row, place: u64, number: u64) -> bool {
+    place < row.places() && row.put(place, number)
 }
 
 fn forget(row: &mut Row, place: u64) {
@@ -122,6 +138,7 @@ fn get(row: &Row, place: u64) -> Option<u64> {
 fn answers(row: &mut Row, call: Call) -> bool {
     match call {
         Call::Get(place, number) => return get(row, place) == number,
+        Call::Put(place, number, is_new) => return put(row, place, number) == is_new,
         Call::Count(count) => return row.count() == count,
         Call::Next(from, place) => return row.next(from) == place,
         Call::Places(places) => return row.places() == places,
@@ -131,6 +148,21 @@ fn answers(row: &mut Row, call: Call) -> bool {
         Call::Clear => row.clear(),
     }
     true
+}
+
+// A copy has the numbers of the row, and none of its own.
+pub fn are_copied(alloc: Global) -> Result<bool, AllocError> {
+    let mut row = Row::new(alloc, 70)?;
+    let mut copy = Row::new(alloc, 70)?;
+    set(&mut row, 3, GREATEST);
+    set(&mut row, 69, 0);
+    set(&mut copy, 3, 5);
+    set(&mut copy, 64, 1);
+    if copy.places() == row.places() {
+        copy.copy_from(&row);
+    }
+    let numbers = [get(&copy, 3), get(&copy, 64), get(&copy, 69)];
+    Ok(copy.count() == 2 && numbers == [Some(GREATEST), None, Some(0)])
 }
 
 fn all_answer(alloc: Global, places: u64, calls: &[Call]) -> bool {
@@ -149,6 +181,7 @@ pub fn places_have_numbers(alloc: Global) -> bool {
         && all_answer(alloc, 1000, &LARGE)
         && all_answer(alloc, 10, &FORGOTTEN)
         && all_answer(alloc, 128, &JOINED)
+        && all_answer(alloc, 70, &PUT)
 }
 
 fn raise(tally: &mut Tally, target: u64) {

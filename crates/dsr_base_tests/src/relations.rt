@@ -2,6 +2,7 @@
 ghost use Rattle.std.specs.Prelude.{◌≡◌, ◌≤◌, ◌+◌, ◌++◌, ◌∷◌, [], IfOk, false, true, length};
 
 use dsr_related::Relation;
+use dsr_rows::Row;
 use std::alloc::{AllocError, Global};
 
 // What a relation is asked, with the answer behind it.
@@ -109,6 +110,22 @@ fn one(alloc: Global, is_counted: bool) -> Result<Relation, AllocError>
     Ok(relation)
 }
 
+// The same three pairs, copied from a row.
+fn copied(alloc: Global) -> Result<Relation, AllocError>
+    ensures { IfOk result (λ relation. relation.pairs.ordered ≡ true) }
+{
+    let mut row = Row::new(alloc, 8)?;
+    row.set(0, 2);
+    row.set(3, 0);
+    row.set(7, 2);
+    let mut relation = Relation::functional(alloc, 8, 0)?;
+    if relation.may_copy(&row) {
+        relation.copy_from(&row);
+    }
+    relation.finish();
+    Ok(relation)
+}
+
 fn answers(relation: &Relation, question: Question) -> bool
     requires { relation.now.pairs.ordered ≡ true }
 {
@@ -149,4 +166,5 @@ pub fn are_asked_in_order(alloc: Global) -> bool {
         && all_answer(many(alloc, false), &ASKED_OF_MANY)
         && all_answer(one(alloc, true), &ASKED_OF_ONE)
         && all_answer(one(alloc, false), &ASKED_OF_ONE)
+        && all_answer(copied(alloc), &ASKED_OF_ONE)
 }

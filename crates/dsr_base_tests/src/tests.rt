@@ -16,8 +16,10 @@ fn lowest_crates_answer(rt: HostRuntime) {
     assert!(rt; overlays::hold_as_whole_images(alloc).unwrap_or(false));
     assert!(rt; marks::all_answer(alloc));
     assert!(rt; numbers::places_have_numbers(alloc));
+    assert!(rt; numbers::are_copied(alloc).unwrap_or(false));
     assert!(rt; numbers::targets_have_sources(alloc));
     assert!(rt; functional::are_asked_in_order(alloc));
+    assert!(rt; functional::are_copied(alloc).unwrap_or(false));
     assert!(rt; pairs::are_asked_in_order(alloc));
     assert!(rt; pairs::are_exchanged_in_order(alloc));
     assert!(rt; relations::are_asked_in_order(alloc));

@@ -1,6 +1,7 @@
 // What look-ups in a model that is in order tell, in words.
-ghost use Rattle.std.specs.Prelude.{◌≡◌, true};
+ghost use Rattle.std.specs.Prelude.{◌≡◌, true, IfSome};
 ghost use Rattle.dsr_meaning.specs.Truth.{HasVariable};
+ghost use Rattle.dsr_model.specs.Facts.{MayBeOf};
 
 use crate::models::tuples::{add_element, add_target};
 use dsr_ir::{Binding, Element, Fact, Measure, Spec, Symbol, Target, Var};
@@ -101,6 +102,17 @@ fn source_of(fact: Option<Fact>) -> Option<Element> {
     }
 }
 
+// What comes after a fact, by the call for symbols of its kind.
+fn fact_after(model: &Model, symbol: Symbol, last: Option<Fact>, near: usize) -> Option<Fact>
+    requires ordered { model.now.ordered ≡ true }
+    requires of_symbol { IfSome last (MayBeOf model.now symbol) }
+{
+    match symbol {
+        Symbol::Set(set) => model.member_after(set, last),
+        Symbol::Rel(rel) => model.pair_after(rel, last, near),
+    }
+}
+
 // All facts of a symbol, least first; of a relation each source on a line of its own.
 fn add_walk(lines: &mut Lines, model: &Model, symbol: Symbol)
     requires { model.now.ordered ≡ true }
@@ -110,6 +122,9 @@ fn add_walk(lines: &mut Lines, model: &Model, symbol: Symbol)
     while let Some(fact) = model.after(symbol, last) {
         if model.after_near(symbol, last, near) != Some(fact) {
             lines.word(" not found near its place");
+        }
+        if fact_after(model, symbol, last, near) != Some(fact) {
+            lines.word(" not found by its kind");
         }
         if let Fact::Pair(rel, source, _) = fact {
             if source_of(last) != Some(source) {
@@ -130,6 +145,9 @@ fn add_set(lines: &mut Lines, model: &Model, set: u32)
     lines.part("\n  set ", u64::from(set));
     add_size(lines, model, Measure::Whole(set), Binding::Once);
     lines.word(":");
+    if model.next_member(set, 0) != model.after(Symbol::Set(set), None) {
+        lines.word(" not found from slot 0");
+    }
     add_walk(lines, model, Symbol::Set(set));
 }
 

@@ -140,19 +140,36 @@ fn signs_behind(alloc: Global, text: &mut Vec<u8>) -> Result<Vec<Sign>, NoMemory
     Ok(signs)
 }
 
+// Which kinds of tokens may stand behind a text, whatever their spelling.
+#[derive(Clone, Copy)]
+struct Kinds {
+    name: bool,
+    number: bool,
+    operator: bool,
+}
+
+fn kinds_behind(alloc: Global, text: &mut Vec<u8>) -> Result<Kinds, NoMemory> {
+    let name = may_follow(alloc, text, b"a")?;
+    let number = may_follow(alloc, text, b"1")?;
+    let operator = may_follow(alloc, text, b"+")?;
+    Ok(Kinds {
+        name,
+        number,
+        operator,
+    })
+}
+
 fn expected_behind(alloc: Global, front: &mut Vec<u8>, second: bool) -> Result<Expected, NoMemory> {
-    let name = may_follow(alloc, front, b"a")?;
-    let number = may_follow(alloc, front, b"1")?;
-    let operator = may_follow(alloc, front, b"+")?;
+    let kinds = kinds_behind(alloc, front)?;
     let end = refused_at(alloc, front)?.is_none();
     let signs = signs_behind(alloc, front)?;
     let keywords = keywords_behind(alloc, front, second)?;
     Ok(Expected {
         keywords,
         signs,
-        name,
-        number,
-        operator,
+        name: kinds.name,
+        number: kinds.number,
+        operator: kinds.operator,
         end,
     })
 }

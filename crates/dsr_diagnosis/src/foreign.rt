@@ -184,27 +184,28 @@ fn found_in(table: &[(&'static str, &'static str)], word: &[u8]) -> Option<&'sta
     None
 }
 
+// The words that are tried where this may stand.
+fn tried_words(expected: &Expected) -> &'static [(&'static str, &'static str)] {
+    if expected.has_keyword(Keyword::Constraint) {
+        DECLARATIONS
+    } else if expected.has_keyword(Keyword::U8) {
+        FIELDS
+    } else if expected.has_keyword(Keyword::When) {
+        CONDITIONS
+    } else if expected.has_keyword(Keyword::As) {
+        VIEWS
+    } else if expected.has_keyword(Keyword::And) {
+        CONNECTIVES
+    } else if expected.number {
+        NUMBERS
+    } else {
+        &[]
+    }
+}
+
 /// What stands here for a word of another language that can't stand at its place, by what may.
 pub fn instead_of(word: &[u8], expected: &Expected) -> Option<&'static str> {
-    if expected.has_keyword(Keyword::Constraint) {
-        return found_in(DECLARATIONS, word);
-    }
-    if expected.has_keyword(Keyword::U8) {
-        return found_in(FIELDS, word);
-    }
-    if expected.has_keyword(Keyword::When) {
-        return found_in(CONDITIONS, word);
-    }
-    if expected.has_keyword(Keyword::As) {
-        return found_in(VIEWS, word);
-    }
-    if expected.has_keyword(Keyword::And) {
-        return found_in(CONNECTIVES, word);
-    }
-    if expected.number {
-        return found_in(NUMBERS, word);
-    }
-    None
+    found_in(tried_words(expected), word)
 }
 
 /// What stands here for a word of another language that was read as a variable.

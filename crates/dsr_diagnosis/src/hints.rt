@@ -11,14 +11,21 @@ use dsr_tree::{Keyword, Lexeme, Sign};
 use dsr_wording::Text;
 use std::alloc::Global;
 
+// Whether the second token begins one byte behind the place of the first one.
+fn are_together(first: Option<&Lexeme>, second: Option<&Lexeme>) -> bool {
+    match (first, second) {
+        (Some(first), Some(second)) => second.place.saturating_sub(first.place) == 1,
+        _ => false,
+    }
+}
+
 // What two neighbouring signs were to mean, which are written otherwise here than in other
 // languages.
 fn pair_hint(first: Option<&Lexeme>, second: Option<&Lexeme>) -> Option<&'static str> {
-    let (first, second) = (first?, second?);
-    if second.place.saturating_sub(first.place) != 1 {
+    if !are_together(first, second) {
         return None;
     }
-    match (sign_in(Some(first))?, sign_in(Some(second))?) {
+    match (sign_in(first)?, sign_in(second)?) {
         (Sign::Equal, Sign::Equal) => Some("equality is written `=`"),
         (Sign::Over, Sign::Over) => Some("a comment begins with `#`"),
         (Sign::Over, Sign::Times) => Some("a comment begins with `#`, and ends with its line"),

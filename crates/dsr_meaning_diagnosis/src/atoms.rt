@@ -15,7 +15,7 @@ fn ends(lexeme: &Lexeme) -> bool {
 
 // The first relation that the atom or the quantifier at the place names.
 fn relation_at<'a>(scene: &Scene<'_>, tree: &'a Tree) -> Option<&'a Relation> {
-    for lexeme in scene.lexemes.iter().skip(scene.at) {
+    for lexeme in scene.lexemes.get(scene.at..).unwrap_or(&[]) {
         if ends(lexeme) {
             return None;
         }

@@ -6,8 +6,7 @@ ghost use Rattle.dsr_json.specs.Verdicts.{verdict_text};
 
 use dsr_ir::NoMemory;
 use dsr_script::{Status, Verdict};
-use dsr_wording::Text;
-use serde_json::Value;
+use serde_json::{Value, json};
 use std::alloc::{AllocError, Global};
 
 // The name of a status.
@@ -32,72 +31,47 @@ fn verdict_of(status: &Status) -> &'static str
     }
 }
 
-// A text in quotes.
-fn quoted(alloc: Global, text: &str) -> Result<String, AllocError> {
-    Value::String(text.to_string(alloc)?).to_string(alloc)
+fn text_value(alloc: Global, text: &str) -> Result<Value, AllocError> {
+    Ok(Value::String(text.to_string(alloc)?))
 }
 
-// Appends a text in quotes.
-fn push_quoted(document: &mut Text, text: &str) {
-    match quoted(document.allocator(), text) {
-        Ok(quoted) => document.push(quoted.as_str()),
-        Err(_) => document.cut(),
+// The words of a line.
+fn words_value(alloc: Global, line: &str) -> Result<Value, AllocError> {
+    let mut words = Vec::new(alloc);
+    for word in line.split(' ').filter(|word| !word.is_empty()) {
+        words.push(text_value(alloc, word)?)?;
     }
+    Ok(Value::Array(words))
 }
 
-// Appends a text of a list, behind a comma where it isn't the first one.
-fn push_item(document: &mut Text, place: usize, text: &str) {
-    document.push(if place > 0 { "," } else { "" });
-    push_quoted(document, text);
-}
-
-// Appends the words of a line.
-fn push_words(document: &mut Text, line: &str) {
-    document.push("[");
-    let mut place: usize = 0;
-    for word in line.split(' ') {
-        if !word.is_empty() {
-            push_item(document, place, word);
-            place = place.saturating_add(1);
-        }
+// The lines of an answer, each as its words.
+fn answer_value(alloc: Global, text: &str) -> Result<Value, AllocError> {
+    let mut lines = Vec::new(alloc);
+    for line in text.lines() {
+        lines.push(words_value(alloc, line)?)?;
     }
-    document.push("]");
+    Ok(Value::Array(lines))
 }
 
-// Appends the lines of an answer, each as its words.
-fn push_answer(document: &mut Text, answer: &str) {
-    document.push("{\"answer\":[");
-    for (place, line) in answer.lines().enumerate() {
-        document.push(if place > 0 { "," } else { "" });
-        push_words(document, line);
+// The lines that are told.
+fn told_value(alloc: Global, text: &str) -> Result<Value, AllocError> {
+    let mut lines = Vec::new(alloc);
+    for line in text.lines() {
+        lines.push(text_value(alloc, line)?)?;
     }
-    document.push("]");
+    Ok(Value::Array(lines))
 }
 
-// Appends the command, and what stands behind it.
-fn push_command(document: &mut Text, words: &[String]) {
-    let (command, arguments) = match words {
-        [command, arguments @ ..] => (command.as_str(), arguments),
-        [] => ("", words),
-    };
-    document.push(",\"arguments\":[");
-    for (place, argument) in arguments.iter().enumerate() {
-        push_item(document, place, argument.as_str());
+// What stands behind a command.
+fn arguments_value(alloc: Global, words: &[String]) -> Result<Value, AllocError> {
+    let mut arguments = Vec::new(alloc);
+    for word in words.iter().skip(1) {
+        arguments.push(text_value(alloc, word.as_str())?)?;
     }
-    document.push("],\"command\":");
-    push_quoted(document, command);
+    Ok(Value::Array(arguments))
 }
 
-// Appends the lines that are told.
-fn push_told(document: &mut Text, told: &str) {
-    document.push(",\"told\":[");
-    for (place, line) in told.lines().enumerate() {
-        push_item(document, place, line);
-    }
-    document.push("]");
-}
-
-/// An answer as one document, with a line feed: the command with its arguments, the status with its name, the lines of
+/// An answer as one document: the command with its arguments, the status with its name, the lines of
 /// the answer as lists of words, and the lines that are told of it.
 pub fn document(
     alloc: Global,
@@ -106,14 +80,22 @@ pub fn document(
     answer: &str,
     told: &str,
 ) -> Result<String, NoMemory> {
-    let mut document = Text::new(alloc);
-    push_answer(&mut document, answer);
-    push_command(&mut document, words);
-    document.push(",\"status\":");
-    document.number(u64::from(status.number()));
-    push_told(&mut document, told);
-    document.push(",\"verdict\":");
-    push_quoted(&mut document, verdict_of(status));
-    document.push("}\n");
-    document.whole()
+    let command = match words.first() {
+        Some(command) => command.as_str(),
+        None => "",
+    };
+    let arguments = arguments_value(alloc, words)?;
+    let lines = answer_value(alloc, answer)?;
+    let told = told_value(alloc, told)?;
+    let number = status.number();
+    let verdict = verdict_of(status);
+    let document = json!(in alloc; {
+        "command": command,
+        "arguments": arguments,
+        "status": number,
+        "verdict": verdict,
+        "answer": lines,
+        "told": told
+    })?;
+    Ok(document.to_string(alloc)?)
 }

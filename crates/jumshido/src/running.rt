@@ -81,7 +81,8 @@ fn put_document<R: Print + Eprint>(
     told: &str,
 ) -> Result<Status, NoMemory> {
     let answer = String::from_utf8_lossy(alloc, answer)?;
-    let text = document(alloc, words, &status, answer.as_str(), told)?;
+    let mut text = document(alloc, words, &status, answer.as_str(), told)?;
+    text.push('\n')?;
     Ok(put(rt, alloc, text.as_bytes(), status))
 }
 

@@ -1,14 +1,30 @@
 // What the declarations of a tree name.
-use dsr_passages::Names;
-use dsr_tree::{
-    Constraint, Content, Field, NamedField, Pool, Relation, Set, Structure, Tree, View,
-};
+ghost use Rattle.std.specs.Prelude.{◌≡◌, option_map};
+ghost use Rattle.dsr_declarations.specs.Finding.{first_named};
+ghost use Rattle.dsr_language_theory.specs.Names as names;
+ghost use Rattle.dsr_names.specs.Tables.{is_named};
 
-/// The structure with this name.
-pub fn structure_named<'a>(tree: &'a Tree, name: &[u8]) -> Option<&'a Structure> {
-    for structure in tree.structures.items() {
-        if structure.name.name.bytes() == name {
-            return Some(structure);
+use dsr_names::Named;
+use dsr_passages::Names;
+use dsr_tree::{Content, Field, NamedField, Set, Structure, Tree, View};
+
+// Whether an item has this name.
+fn is_named<T: Named>(item: &T, name: &[u8]) -> bool
+    ensures { result ≡ is_named (T.own_name item.now) name.now }
+{
+    match item.own_name() {
+        Some(own) => own.bytes() == name,
+        None => false,
+    }
+}
+
+/// The first of some declarations with this name.
+pub fn named<'a, T: Named>(items: &'a [T], name: &[u8]) -> Option<&'a T>
+    ensures { option_map (λ item. item.now) result ≡ first_named T.own_name name.now items.now }
+{
+    for item in items {
+        if is_named(item, name) {
+            return Some(item);
         }
     }
     None
@@ -16,32 +32,14 @@ pub fn structure_named<'a>(tree: &'a Tree, name: &[u8]) -> Option<&'a Structure>
 
 /// The structure of the head.
 pub fn head_of(tree: &Tree) -> Option<&Structure> {
-    structure_named(tree, b"Head")
+    named(tree.structures.items(), b"Head")
 }
 
 /// Whether a structure is the one of the head.
-pub fn is_head(structure: &Structure) -> bool {
+pub fn is_head(structure: &Structure) -> bool
+    ensures { result ≡ names.is_head structure.now.name.name }
+{
     structure.name.name.bytes() == b"Head".as_slice()
-}
-
-/// The pool with this name.
-pub fn pool_named<'a>(tree: &'a Tree, name: &[u8]) -> Option<&'a Pool> {
-    for pool in tree.pools.items() {
-        if pool.name.name.bytes() == name {
-            return Some(pool);
-        }
-    }
-    None
-}
-
-/// The set with this name.
-pub fn set_named<'a>(tree: &'a Tree, name: &[u8]) -> Option<&'a Set> {
-    for set in tree.sets.items() {
-        if set.name.name.bytes() == name {
-            return Some(set);
-        }
-    }
-    None
 }
 
 /// Whether a set is a complement.
@@ -49,36 +47,12 @@ pub fn is_complement(set: &Set) -> bool {
     matches!(&set.view, Some(View::Except { place: _, set: _ }))
 }
 
-/// The relation with this name.
-pub fn relation_named<'a>(tree: &'a Tree, name: &[u8]) -> Option<&'a Relation> {
-    for relation in tree.relations.items() {
-        if relation.name.name.bytes() == name {
-            return Some(relation);
-        }
-    }
-    None
-}
-
-/// The constraint with this name.
-pub fn constraint_named<'a>(tree: &'a Tree, name: &[u8]) -> Option<&'a Constraint> {
-    for constraint in tree.constraints.items() {
-        if constraint.name.name.bytes() == name {
-            return Some(constraint);
-        }
-    }
-    None
-}
-
 /// The field with this name that a structure declares.
 pub fn own_field<'a>(structure: &'a Structure, name: &[u8]) -> Option<&'a NamedField> {
-    for field in structure.fields.items() {
-        if let Field::Named(named) = field
-            && named.name.name.bytes() == name
-        {
-            return Some(named);
-        }
+    match named(structure.fields.items(), name) {
+        Some(Field::Named(field)) => Some(field),
+        _ => None,
     }
-    None
 }
 
 /// The first structure that declares a field with this name.
@@ -124,22 +98,27 @@ impl Declared {
     }
 }
 
+// What a set is declared as.
+fn declared_set(set: &Set) -> Declared {
+    if is_complement(set) {
+        Declared::Complement
+    } else {
+        Declared::Set
+    }
+}
+
 /// What a name is declared as.
 pub fn declared_as(tree: &Tree, name: &[u8]) -> Option<Declared> {
-    if pool_named(tree, name).is_some() {
+    if named(tree.pools.items(), name).is_some() {
         return Some(Declared::Pool);
     }
-    if let Some(set) = set_named(tree, name) {
-        return Some(if is_complement(set) {
-            Declared::Complement
-        } else {
-            Declared::Set
-        });
+    if let Some(set) = named(tree.sets.items(), name) {
+        return Some(declared_set(set));
     }
-    if relation_named(tree, name).is_some() {
+    if named(tree.relations.items(), name).is_some() {
         return Some(Declared::Relation);
     }
-    if structure_named(tree, name).is_some() {
+    if named(tree.structures.items(), name).is_some() {
         return Some(Declared::Structure);
     }
     match owner_of(tree, name) {
@@ -157,26 +136,21 @@ pub fn add_structures<'a>(names: &mut Names<'a>, tree: &'a Tree) {
     }
 }
 
-/// Adds the names of the pools.
-pub fn add_pools<'a>(names: &mut Names<'a>, tree: &'a Tree) {
-    for pool in tree.pools.items() {
-        names.push(pool.name.name.bytes());
-    }
-}
-
-/// Adds the names of the sets, those of complements too if they may stand.
-pub fn add_sets<'a>(names: &mut Names<'a>, tree: &'a Tree, complements: bool) {
-    for set in tree.sets.items() {
-        if complements || !is_complement(set) {
-            names.push(set.name.name.bytes());
+/// Adds the names of declarations.
+pub fn add_named<'a, T: Named>(names: &mut Names<'a>, items: &'a [T]) {
+    for item in items {
+        if let Some(name) = item.own_name() {
+            names.push(name.bytes());
         }
     }
 }
 
-/// Adds the names of the relations.
-pub fn add_relations<'a>(names: &mut Names<'a>, tree: &'a Tree) {
-    for relation in tree.relations.items() {
-        names.push(relation.name.name.bytes());
+/// Adds the names of the sets that are no complements.
+pub fn add_plain_sets<'a>(names: &mut Names<'a>, sets: &'a [Set]) {
+    for set in sets {
+        if !is_complement(set) {
+            names.push(set.name.name.bytes());
+        }
     }
 }
 

@@ -8,10 +8,9 @@ mod records;
 mod roles;
 
 pub use declared::{
-    Declared, constraint_named, declared_as, head_of, is_head, own_field, owner_of, pool_named,
-    relation_named, set_named, structure_named, target_of,
+    Declared, declared_as, head_of, is_head, named, own_field, owner_of, target_of,
 };
-pub use places::{rule_at, set_at, structure_at, supply_at};
+pub use places::{Placed, around};
 pub use records::{
     field_of, is_other_head, parent_of, place_in, place_of, pool_of, read_field, record_name,
 };

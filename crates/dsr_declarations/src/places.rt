@@ -1,62 +1,50 @@
 // The declarations in which a place of the text stands.
-use dsr_tree::{Constraint, Fresh, Rule, Set, Structure, Tree};
+use dsr_tree::{Constraint, Fresh, Rule, Set, Structure};
 
-/// The structure in which a place stands.
-pub fn structure_at(tree: &Tree, place: u64) -> Option<&Structure> {
-    let mut last = None;
-    for structure in tree.structures.items() {
-        if structure.place > place {
-            return last;
-        }
-        last = Some(structure);
-    }
-    last
+/// What begins at a place of the text.
+pub trait Placed {
+    /// The place at which it begins.
+    fn place(&self) -> u64;
 }
 
-/// The set in whose declaration a place stands.
-pub fn set_at(tree: &Tree, place: u64) -> Option<&Set> {
-    let mut last = None;
-    for set in tree.sets.items() {
-        if set.place > place {
-            return last;
-        }
-        last = Some(set);
+impl Placed for Structure {
+    fn place(&self) -> u64 {
+        self.place
     }
-    last
 }
 
-/// The supply in which a place stands.
-pub fn supply_at(tree: &Tree, place: u64) -> Option<&Fresh> {
-    let mut last = None;
-    for supply in tree.supplies.items() {
-        if supply.place > place {
-            return last;
-        }
-        last = Some(supply);
+impl Placed for Set {
+    fn place(&self) -> u64 {
+        self.place
     }
-    last
 }
 
-/// The rule in which a place stands.
-pub fn rule_at(tree: &Tree, place: u64) -> Option<&Rule> {
-    let mut last = None;
-    for rule in tree.rules.items() {
-        if rule.place > place {
-            return last;
-        }
-        last = Some(rule);
+impl Placed for Fresh {
+    fn place(&self) -> u64 {
+        self.place
     }
-    last
 }
 
-/// The constraint in which a place stands.
-pub fn constraint_at(tree: &Tree, place: u64) -> Option<&Constraint> {
+impl Placed for Rule {
+    fn place(&self) -> u64 {
+        self.place
+    }
+}
+
+impl Placed for Constraint {
+    fn place(&self) -> u64 {
+        self.place
+    }
+}
+
+/// The one of some declarations, as they stand in the text, in which a place stands.
+pub fn around<T: Placed>(items: &[T], place: u64) -> Option<&T> {
     let mut last = None;
-    for constraint in tree.constraints.items() {
-        if constraint.place > place {
+    for item in items {
+        if item.place() > place {
             return last;
         }
-        last = Some(constraint);
+        last = Some(item);
     }
     last
 }

@@ -1,6 +1,6 @@
 // The records that rules read, their fields, and what stands for them.
-use crate::declared::{add_fields, head_of, own_field, pool_named, set_named, structure_named};
-use crate::places::{constraint_at, rule_at};
+use crate::declared::{add_fields, head_of, named, own_field};
+use crate::places::around;
 use dsr_passages::{Declaration, Names, Scene};
 use dsr_tree::{Binder, Constraint, NamedField, Premise, Rule, Set, Structure, Tree, Var, View};
 
@@ -15,7 +15,7 @@ pub fn place_in(scene: &Scene<'_>) -> u64 {
 /// The structure that another one extends.
 pub fn parent_of<'a>(tree: &'a Tree, structure: &Structure) -> Option<&'a Structure> {
     match &structure.parent {
-        Some(parent) => structure_named(tree, parent.name.bytes()),
+        Some(parent) => named(tree.structures.items(), parent.name.bytes()),
         None => None,
     }
 }
@@ -58,10 +58,10 @@ pub fn structure_of<'a>(tree: &'a Tree, set: &Set) -> Option<&'a Structure> {
         },
     ) = &set.view
     {
-        return structure_named(tree, structure.name.bytes());
+        return named(tree.structures.items(), structure.name.bytes());
     }
-    let pool = pool_named(tree, set.pool.name.bytes())?;
-    structure_named(tree, pool.structure.name.bytes())
+    let pool = named(tree.pools.items(), set.pool.name.bytes())?;
+    named(tree.structures.items(), pool.structure.name.bytes())
 }
 
 /// The structure by which a rule's record is read.
@@ -69,7 +69,7 @@ pub fn record_of<'a>(tree: &'a Tree, rule: &Rule) -> Option<&'a Structure> {
     match &rule.premise {
         Premise::Head { place: _ } => head_of(tree),
         Premise::Member { name: _, set } => {
-            structure_of(tree, set_named(tree, set.name.bytes())?)
+            structure_of(tree, named(tree.sets.items(), set.name.bytes())?)
         }
     }
 }
@@ -84,7 +84,12 @@ pub fn pool_of<'a>(tree: &'a Tree, rule: &Rule) -> Option<&'a [u8]> {
     match &rule.premise {
         Premise::Head { place: _ } => None,
         Premise::Member { name: _, set } => {
-            Some(set_named(tree, set.name.bytes())?.pool.name.bytes())
+            Some(
+                named(tree.sets.items(), set.name.bytes())?
+                    .pool
+                    .name
+                    .bytes(),
+            )
         }
     }
 }
@@ -138,13 +143,13 @@ fn add_bound<'a>(names: &mut Names<'a>, constraint: &'a Constraint) {
 pub fn add_variables<'a>(names: &mut Names<'a>, scene: &Scene<'_>, tree: &'a Tree) {
     let (declaration, _) = scene.declaration();
     if declaration == Declaration::Rule {
-        if let Some(rule) = rule_at(tree, place_in(scene)) {
+        if let Some(rule) = around(tree.rules.items(), place_in(scene)) {
             names.push(record_name(rule));
         }
         return;
     }
     names.push(b"head");
-    if let Some(constraint) = constraint_at(tree, place_in(scene)) {
+    if let Some(constraint) = around(tree.constraints.items(), place_in(scene)) {
         add_bound(names, constraint);
     }
 }

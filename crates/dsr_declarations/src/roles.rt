@@ -1,8 +1,6 @@
 // What a name is used for, by the tokens round it.
-use crate::declared::{
-    add_fields, add_pools, add_relations, add_sets, add_structures, head_of, relation_named,
-};
-use crate::places::rule_at;
+use crate::declared::{add_fields, add_named, add_plain_sets, add_structures, head_of, named};
+use crate::places::around;
 use crate::records::{add_all_fields, add_variables, place_in, record_of};
 use dsr_ir::NoMemory;
 use dsr_passages::{Declaration, Names, Scene, keyword_in, name_in, sign_in};
@@ -77,7 +75,8 @@ fn is_source(scene: &Scene<'_>, tree: &Tree) -> bool {
     let Some(first) = name_in(scene.before(2)) else {
         return false;
     };
-    keyword_in(scene.before(4)) == Some(Keyword::Size) && relation_named(tree, first).is_some()
+    keyword_in(scene.before(4)) == Some(Keyword::Size)
+        && named(tree.relations.items(), first).is_some()
 }
 
 // The first word of which a size is asked.
@@ -141,7 +140,7 @@ fn add_fixed<'a>(names: &mut Names<'a>, tree: &'a Tree) {
 
 // Adds the names of the fields of the record that a rule reads.
 fn add_read<'a>(names: &mut Names<'a>, scene: &Scene<'_>, tree: &'a Tree) {
-    if let Some(rule) = rule_at(tree, place_in(scene))
+    if let Some(rule) = around(tree.rules.items(), place_in(scene))
         && let Some(structure) = record_of(tree, rule)
     {
         add_all_fields(names, tree, structure);
@@ -158,16 +157,16 @@ pub fn candidates<'a>(
     let mut names = Names::new(alloc);
     match role {
         Role::Structure => add_structures(&mut names, tree),
-        Role::Pool => add_pools(&mut names, tree),
+        Role::Pool => add_named(&mut names, tree.pools.items()),
         Role::FixedField => add_fixed(&mut names, tree),
-        Role::Set => add_sets(&mut names, tree, true),
-        Role::PlainSet => add_sets(&mut names, tree, false),
-        Role::Relation => add_relations(&mut names, tree),
+        Role::Set => add_named(&mut names, tree.sets.items()),
+        Role::PlainSet => add_plain_sets(&mut names, tree.sets.items()),
+        Role::Relation => add_named(&mut names, tree.relations.items()),
         Role::Field => add_read(&mut names, scene, tree),
         Role::Variable => add_variables(&mut names, scene, tree),
         Role::Measured => {
             add_variables(&mut names, scene, tree);
-            add_relations(&mut names, tree);
+            add_named(&mut names, tree.relations.items());
         }
     }
     names.whole()

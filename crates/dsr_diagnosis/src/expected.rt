@@ -10,7 +10,7 @@ use dsr_tree::{Keyword, Sign};
 use dsr_wording::Text;
 use std::alloc::Global;
 
-const KEYWORDS: [Keyword; 42] = [
+const KEYWORDS: &[Keyword] = &[
     Keyword::Version,
     Keyword::Order,
     Keyword::Little,
@@ -56,7 +56,7 @@ const KEYWORDS: [Keyword; 42] = [
 ];
 
 // The signs but those of expressions, which are told in one word.
-const SIGNS: [Sign; 18] = [
+const SIGNS: &[Sign] = &[
     Sign::Semicolon,
     Sign::Colon,
     Sign::Comma,
@@ -121,7 +121,7 @@ fn keywords_behind(
     second: bool,
 ) -> Result<Vec<Keyword>, NoMemory> {
     let mut keywords = Vec::new(alloc);
-    for keyword in &KEYWORDS {
+    for keyword in KEYWORDS {
         let is_one = second || *keyword != Keyword::Except;
         if is_one && may_follow(alloc, text, keyword_bytes(*keyword))? {
             keywords.push(*keyword)?;
@@ -132,7 +132,7 @@ fn keywords_behind(
 
 fn signs_behind(alloc: Global, text: &mut Vec<u8>) -> Result<Vec<Sign>, NoMemory> {
     let mut signs = Vec::new(alloc);
-    for sign in &SIGNS {
+    for sign in SIGNS {
         if may_follow(alloc, text, sign_bytes(*sign))? {
             signs.push(*sign)?;
         }
@@ -140,19 +140,36 @@ fn signs_behind(alloc: Global, text: &mut Vec<u8>) -> Result<Vec<Sign>, NoMemory
     Ok(signs)
 }
 
+// Which kinds of tokens may stand behind a text, whatever their spelling.
+#[derive(Clone, Copy)]
+struct Kinds {
+    name: bool,
+    number: bool,
+    operator: bool,
+}
+
+fn kinds_behind(alloc: Global, text: &mut Vec<u8>) -> Result<Kinds, NoMemory> {
+    let name = may_follow(alloc, text, b"a")?;
+    let number = may_follow(alloc, text, b"1")?;
+    let operator = may_follow(alloc, text, b"+")?;
+    Ok(Kinds {
+        name,
+        number,
+        operator,
+    })
+}
+
 fn expected_behind(alloc: Global, front: &mut Vec<u8>, second: bool) -> Result<Expected, NoMemory> {
-    let name = may_follow(alloc, front, b"a")?;
-    let number = may_follow(alloc, front, b"1")?;
-    let operator = may_follow(alloc, front, b"+")?;
+    let kinds = kinds_behind(alloc, front)?;
     let end = refused_at(alloc, front)?.is_none();
     let signs = signs_behind(alloc, front)?;
     let keywords = keywords_behind(alloc, front, second)?;
     Ok(Expected {
         keywords,
         signs,
-        name,
-        number,
-        operator,
+        name: kinds.name,
+        number: kinds.number,
+        operator: kinds.operator,
         end,
     })
 }

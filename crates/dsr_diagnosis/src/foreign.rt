@@ -13,7 +13,7 @@ const NO_ENUM: &str =
     "there are no enumerations: compare a number with a constant, as `x.kind = 1`";
 
 // Words that are tried where a declaration begins.
-const DECLARATIONS: [(&str, &str); 13] = [
+const DECLARATIONS: &[(&str, &str)] = &[
     ("struct", STRUCTURE),
     ("class", STRUCTURE),
     ("record", STRUCTURE),
@@ -47,7 +47,7 @@ const NO_FRACTION: &str = "there are no fractions: `skip 4` or `skip 8` passes o
 const NO_RECORD: &str = "no field is a record: write its fields, or a reference to a pool";
 
 // Words that are tried where a field begins.
-const FIELDS: [(&str, &str); 44] = [
+const FIELDS: &[(&str, &str)] = &[
     ("uint8_t", ONE_BYTE),
     ("uint16_t", TWO_BYTES),
     ("uint32_t", FOUR_BYTES),
@@ -101,21 +101,21 @@ const FIELDS: [(&str, &str); 44] = [
 ];
 
 // Words that are tried where a rule's conditions begin.
-const CONDITIONS: [(&str, &str); 3] = [
+const CONDITIONS: &[(&str, &str)] = &[
     ("if", "a rule's conditions stand behind `when`"),
     ("where", "a rule's conditions stand behind `when`"),
     ("with", "a rule's conditions stand behind `when`"),
 ];
 
 // Words that are tried between the parts of a formula.
-const CONNECTIVES: [(&str, &str); 3] = [
+const CONNECTIVES: &[(&str, &str)] = &[
     ("implies", "`a implies b` is `not a or b`"),
     ("iff", "`a iff b` is `a and b or not a and not b`"),
     ("xor", "`a xor b` is `a and not b or not a and b`"),
 ];
 
 // Words that are tried behind the pool of a set.
-const VIEWS: [(&str, &str); 3] = [
+const VIEWS: &[(&str, &str)] = &[
     (
         "except",
         "a complement is of version 2: begin the text with `version 2`",
@@ -128,7 +128,7 @@ const VIEWS: [(&str, &str); 3] = [
 ];
 
 // Words that are tried for numbers.
-const NUMBERS: [(&str, &str); 5] = [
+const NUMBERS: &[(&str, &str)] = &[
     ("null", "that there is no reference is `none(x.next)`"),
     ("NULL", "that there is no reference is `none(x.next)`"),
     ("nil", "that there is no reference is `none(x.next)`"),
@@ -137,7 +137,7 @@ const NUMBERS: [(&str, &str); 5] = [
 ];
 
 // Words that are tried where a formula begins, which are read as variables there.
-const PHRASES: [(&str, &str); 9] = [
+const PHRASES: &[(&str, &str)] = &[
     ("for", "a constraint of each member is `forall x in S : ..`"),
     (
         "foreach",
@@ -153,7 +153,7 @@ const PHRASES: [(&str, &str); 9] = [
 ];
 
 // Keywords that are tried as names, with names that serve.
-const RESPELT: [(&str, &str); 18] = [
+const RESPELT: &[(&str, &str)] = &[
     ("size", "`length` or `bytes`"),
     ("head", "`first`"),
     ("number", "`count`"),
@@ -184,41 +184,42 @@ fn found_in(table: &[(&'static str, &'static str)], word: &[u8]) -> Option<&'sta
     None
 }
 
+// The words that are tried where this may stand.
+fn tried_words(expected: &Expected) -> &'static [(&'static str, &'static str)] {
+    if expected.has_keyword(Keyword::Constraint) {
+        DECLARATIONS
+    } else if expected.has_keyword(Keyword::U8) {
+        FIELDS
+    } else if expected.has_keyword(Keyword::When) {
+        CONDITIONS
+    } else if expected.has_keyword(Keyword::As) {
+        VIEWS
+    } else if expected.has_keyword(Keyword::And) {
+        CONNECTIVES
+    } else if expected.number {
+        NUMBERS
+    } else {
+        &[]
+    }
+}
+
 /// What stands here for a word of another language that can't stand at its place, by what may.
 pub fn instead_of(word: &[u8], expected: &Expected) -> Option<&'static str> {
-    if expected.has_keyword(Keyword::Constraint) {
-        return found_in(&DECLARATIONS, word);
-    }
-    if expected.has_keyword(Keyword::U8) {
-        return found_in(&FIELDS, word);
-    }
-    if expected.has_keyword(Keyword::When) {
-        return found_in(&CONDITIONS, word);
-    }
-    if expected.has_keyword(Keyword::As) {
-        return found_in(&VIEWS, word);
-    }
-    if expected.has_keyword(Keyword::And) {
-        return found_in(&CONNECTIVES, word);
-    }
-    if expected.number {
-        return found_in(&NUMBERS, word);
-    }
-    None
+    found_in(tried_words(expected), word)
 }
 
 /// What stands here for a word of another language that was read as a variable.
 pub fn phrase_for(word: &[u8]) -> Option<&'static str> {
-    found_in(&PHRASES, word)
+    found_in(PHRASES, word)
 }
 
 /// Names that serve in place of a keyword.
 pub fn name_for(keyword: &[u8]) -> Option<&'static str> {
-    found_in(&RESPELT, keyword)
+    found_in(RESPELT, keyword)
 }
 
 // Marks that begin no token.
-const MARKS: [(char, &str); 26] = [
+const MARKS: &[(char, &str)] = &[
     ('!', "`!` stands in `!=` alone; a negation is `not`"),
     ('&', "that both hold is `a and b`"),
     ('|', "that one of two holds is `a or b`"),
@@ -258,7 +259,7 @@ const MARKS: [(char, &str); 26] = [
 
 /// What to write in place of a mark that begins no token.
 pub fn instead_of_mark(mark: char) -> Option<&'static str> {
-    for (foreign, instead) in &MARKS {
+    for (foreign, instead) in MARKS {
         if *foreign == mark {
             return Some(*instead);
         }

@@ -8,17 +8,24 @@ use dsr_passages::{
     Declaration, Scene, Words, begun_by, is_near, keyword_in, line_of, name_in, sign_in,
 };
 use dsr_tree::{Keyword, Lexeme, Sign};
-use dsr_wording::{Text, text_of};
+use dsr_wording::Text;
 use std::alloc::Global;
+
+// Whether the second token begins one byte behind the place of the first one.
+fn are_together(first: Option<&Lexeme>, second: Option<&Lexeme>) -> bool {
+    match (first, second) {
+        (Some(first), Some(second)) => second.place.saturating_sub(first.place) == 1,
+        _ => false,
+    }
+}
 
 // What two neighbouring signs were to mean, which are written otherwise here than in other
 // languages.
 fn pair_hint(first: Option<&Lexeme>, second: Option<&Lexeme>) -> Option<&'static str> {
-    let (first, second) = (first?, second?);
-    if second.place.saturating_sub(first.place) != 1 {
+    if !are_together(first, second) {
         return None;
     }
-    match (sign_in(Some(first))?, sign_in(Some(second))?) {
+    match (sign_in(first)?, sign_in(second)?) {
         (Sign::Equal, Sign::Equal) => Some("equality is written `=`"),
         (Sign::Over, Sign::Over) => Some("a comment begins with `#`"),
         (Sign::Over, Sign::Times) => Some("a comment begins with `#`, and ends with its line"),
@@ -89,12 +96,12 @@ fn meant_keyword(
 // Adds what was meant by a name that can't stand at its place; tells whether that is known.
 fn hint_name(alloc: Global, words: &mut Words, word: &[u8], expected: &Expected) -> bool {
     if let Some(hint) = instead_of(word, expected) {
-        words.hint(&[hint]);
+        words.hint(hint);
         return true;
     }
     match meant_keyword(alloc, word, expected) {
         Ok(Some(meant)) => {
-            words.hint(&["did you mean `", text_of(meant), "`?"]);
+            words.hint_of("did you mean `{}`?", &[meant]);
             true
         }
         Ok(None) => false,
@@ -105,15 +112,16 @@ fn hint_name(alloc: Global, words: &mut Words, word: &[u8], expected: &Expected)
     }
 }
 
-const NO_NAME: &str = "` is a keyword, and no keyword can be a name";
+const NO_NAME: &str = "`{}` is a keyword, and no keyword can be a name";
+
+const NO_NAME_BUT: &str = "`{}` is a keyword, and no keyword can be a name: write {}, say";
 
 // Adds that a keyword can't be a name.
 fn hint_no_name(words: &mut Words, keyword: Keyword) {
-    let bytes = keyword_bytes(keyword);
-    let word = text_of(bytes);
-    match name_for(bytes) {
-        Some(instead) => words.hint(&["`", word, NO_NAME, ": write ", instead, ", say"]),
-        None => words.hint(&["`", word, NO_NAME]),
+    let word = keyword_bytes(keyword);
+    match name_for(word) {
+        Some(instead) => words.hint_of(NO_NAME_BUT, &[word, instead.as_bytes()]),
+        None => words.hint_of(NO_NAME, &[word]),
     }
 }
 
@@ -159,7 +167,7 @@ fn hint_keyword(
     expected: &Expected,
 ) -> bool {
     if let Some(hint) = keyword_hint(scene, keyword, expected) {
-        words.hint(&[hint]);
+        words.hint(hint);
         return true;
     }
     let is_name = is_for_names(expected);
@@ -206,16 +214,16 @@ fn hint_word(alloc: Global, words: &mut Words, scene: &Scene<'_>, expected: &Exp
 /// Adds what may help with the token at the place.
 pub fn hint_token(alloc: Global, words: &mut Words, scene: &Scene<'_>, expected: &Expected) {
     if let Some(hint) = signs_hint(scene, expected) {
-        words.hint(&[hint]);
+        words.hint(hint);
         return;
     }
     if let Some(hint) = phrase_hint(scene) {
-        words.hint(&[hint]);
+        words.hint(hint);
         return;
     }
     // The version and the order stand before the seventh token.
     if !hint_word(alloc, words, scene, expected) && scene.at < 6 {
-        words.hint(&[OPENING]);
+        words.hint(OPENING);
     }
 }
 
@@ -251,7 +259,7 @@ pub fn hint_end(words: &mut Words, scene: &Scene<'_>, expected: &Expected) {
     }
     if let Some(sign) = missing(scene, expected) {
         let mut hint = Text::new(words.message.allocator());
-        hint.pieces(&["is a `", sign, "` missing at the end of line "]);
+        hint.fill("is a `{}` missing at the end of line ", &[sign.as_bytes()]);
         hint.number(line as u64);
         hint.push("?");
         words.add(hint);

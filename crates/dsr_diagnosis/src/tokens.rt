@@ -3,7 +3,6 @@ use crate::foreign::instead_of_mark;
 use dsr_ir::NoMemory;
 use dsr_passages::{Declaration, Diagnosis, Scene, Words, keyword_in, length_of, part, sign_in};
 use dsr_tree::{Keyword, Lexeme, Sign};
-use dsr_wording::text_of;
 use std::alloc::Global;
 
 // The most bytes of a letter.
@@ -36,30 +35,28 @@ fn digit_of(number: u8) -> char {
 fn say_mark(words: &mut Words, letter: Option<char>, byte: u8) {
     match letter {
         Some(letter) if !letter.is_control() && !letter.is_whitespace() => {
-            words.say(&["no token begins with `"]);
+            words.say("no token begins with `");
             words.message.push_letter(letter);
-            words.say(&["`"]);
+            words.say("`");
         }
         _ => {
-            words.say(&["no token begins with the byte 0x"]);
+            words.say("no token begins with the byte 0x");
             words.message.push_letter(digit_of(byte / 16));
             words.message.push_letter(digit_of(byte % 16));
         }
     }
 }
 
+const NUMBER: &str = "the number {} is greater than 18446744073709551615";
+
 // What is wrong with a word that is no token, or with a mark.
 fn say_token(words: &mut Words, word: &[u8], letter: Option<char>, byte: u8) {
     if byte.is_ascii_digit() {
-        words.say(&[
-            "the number ",
-            text_of(word),
-            " is greater than 18446744073709551615",
-        ]);
+        words.say_of(NUMBER, &[word]);
     } else if byte.is_ascii_alphabetic() {
-        words.say(&["this name has "]);
+        words.say("this name has ");
         words.message.number(word.len() as u64);
-        words.say(&[" bytes, and a name may have 32"]);
+        words.say(" bytes, and a name may have 32");
     } else {
         say_mark(words, letter, byte);
     }
@@ -76,7 +73,7 @@ pub fn no_token(alloc: Global, text: &[u8], place: usize) -> Result<Diagnosis, N
     if let Some(letter) = letter
         && let Some(hint) = instead_of_mark(letter)
     {
-        words.hint(&[hint]);
+        words.hint(hint);
     }
     words.at(place, word.len().max(1))
 }
@@ -107,7 +104,7 @@ fn limit_message(scene: &Scene<'_>, found: Option<&Lexeme>) -> &'static str {
 pub fn over_limit(alloc: Global, scene: &Scene<'_>) -> Result<Diagnosis, NoMemory> {
     let found = scene.found();
     let mut words = Words::new(alloc);
-    words.say(&[limit_message(scene, found)]);
+    words.say(limit_message(scene, found));
     words.at(place_of(scene, found), length_in(scene, found))
 }
 

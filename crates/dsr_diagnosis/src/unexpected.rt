@@ -4,7 +4,6 @@ use crate::hints::{hint_end, hint_token};
 use crate::tokens::{length_in, place_of};
 use dsr_ir::NoMemory;
 use dsr_passages::{Diagnosis, Scene, Words, length_of, number_in, part};
-use dsr_wording::text_of;
 use std::alloc::Global;
 
 // What stands at the place.
@@ -13,13 +12,9 @@ fn say_found(words: &mut Words, scene: &Scene<'_>) {
         Some(lexeme) => {
             let place = lexeme.place as usize;
             let end = place.saturating_add(length_of(scene.text, lexeme));
-            words.say(&[
-                "`",
-                text_of(part(scene.text, place, end)),
-                "` can't stand here",
-            ]);
+            words.say_of("`{}` can't stand here", &[part(scene.text, place, end)]);
         }
-        None => words.say(&["the text ends too early"]),
+        None => words.say("the text ends too early"),
     }
 }
 
@@ -27,7 +22,7 @@ fn say_found(words: &mut Words, scene: &Scene<'_>) {
 fn hint_expected(alloc: Global, words: &mut Words, scene: &Scene<'_>, expected: &Expected) {
     match number_in(scene.found()) {
         Some(_) if expected.number => {
-            words.hint(&["expected `1` or `2`, the versions there are"]);
+            words.hint("expected `1` or `2`, the versions there are");
         }
         _ => words.add(in_words(alloc, expected)),
     }

@@ -1,23 +1,13 @@
 // What a command of this program answers.
 use dsr_ir::NoMemory;
+use dsr_script::{Status, Verdict};
 use dsr_wording::Text;
 use std::alloc::Global;
-
-// Statuses of `dsr`.
-pub const USAGE: u8 = 3;
-
-pub const SPEC_REFUSED: u8 = 4;
-
-pub const LAYOUT_REFUSED: u8 = 5;
-
-pub const STORE_FAILED: u8 = 7;
-
-pub const TOO_LONG: u8 = 9;
 
 /// What a command of this program answers.
 #[derive(Drop)]
 pub struct Shown {
-    pub status: u8,
+    pub status: Status,
     /// What is put to the standard output.
     pub text: String,
     /// What is told on the standard error.
@@ -27,7 +17,7 @@ pub struct Shown {
 /// The same, while it is written.
 #[derive(Drop)]
 pub struct Answer {
-    pub status: u8,
+    pub status: Status,
     pub text: Text,
     pub told: Text,
 }
@@ -36,14 +26,14 @@ impl Answer {
     /// Nothing.
     pub fn new(alloc: Global) -> Answer {
         Answer {
-            status: 0,
+            status: Status::Said(Verdict::Ok),
             text: Text::new(alloc),
             told: Text::new(alloc),
         }
     }
 
     /// Refuses what is asked for, and tells why.
-    pub fn refuse(&mut self, status: u8, told: &str) {
+    pub fn refuse(&mut self, status: Status, told: &str) {
         self.status = status;
         self.told.push(told);
     }

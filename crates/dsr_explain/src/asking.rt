@@ -2,12 +2,13 @@
 ghost use Rattle.std.specs.Prelude.{◌≡◌};
 ghost use Rattle.dsr_meaning.specs.Typed.{IsTyped};
 
-use crate::answers::{Answer, SPEC_REFUSED, STORE_FAILED, Shown, TOO_LONG};
+use crate::answers::{Answer, Shown};
 use crate::limits::LONG_SPEC;
 use crate::reading::{Meaning, SpecRead, push_diagnosis, read_spec};
 use crate::showing::{View, show_file};
 use crate::telling::{Telling, push_telling};
 use dsr_ir::NoMemory;
+use dsr_script::{Status, Verdict};
 use dsr_store::Shelf;
 use std::alloc::Global;
 
@@ -37,11 +38,11 @@ fn refuse_unread(answer: &mut Answer, name: &str, read: &SpecRead) {
     match read {
         SpecRead::Means(_) => {}
         SpecRead::Refused(text, diagnosis) => {
-            answer.status = SPEC_REFUSED;
+            answer.status = Status::Said(Verdict::SpecRefused);
             push_diagnosis(&mut answer.told, name, text, diagnosis);
         }
-        SpecRead::TooLong => answer.refuse(TOO_LONG, LONG_SPEC),
-        SpecRead::Missed => answer.refuse(STORE_FAILED, ""),
+        SpecRead::TooLong => answer.refuse(Status::TooLong, LONG_SPEC),
+        SpecRead::Missed => answer.refuse(Status::StoreFailed, ""),
         SpecRead::NoMemory => answer.cut(),
     }
 }

@@ -1,7 +1,8 @@
 // The command `from-c`.
-use crate::answers::{Answer, SPEC_REFUSED, STORE_FAILED, Shown, TOO_LONG};
+use crate::answers::{Answer, Shown};
 use dsr_from_c::{push_specification, structures_of};
 use dsr_ir::NoMemory;
+use dsr_script::{Status, Verdict};
 use dsr_store::{Shelf, ShelfFault};
 use std::alloc::Global;
 
@@ -21,7 +22,7 @@ fn convert_text(answer: &mut Answer, name: &str, printed: &str) {
     match structures_of(answer.allocator(), printed) {
         Ok(structures) => {
             if !push_specification(&mut answer.text, &structures) {
-                answer.refuse(SPEC_REFUSED, name);
+                answer.refuse(Status::Said(Verdict::SpecRefused), name);
                 answer.told.push(ASK);
             }
         }
@@ -32,7 +33,7 @@ fn convert_text(answer: &mut Answer, name: &str, printed: &str) {
 // The same for the bytes of a file.
 fn convert_bytes(answer: &mut Answer, name: &str, bytes: &[u8]) {
     if bytes.len() as u64 > LIMIT {
-        answer.refuse(TOO_LONG, LONG);
+        answer.refuse(Status::TooLong, LONG);
         return;
     }
     match String::from_utf8_lossy(answer.allocator(), bytes) {
@@ -45,7 +46,7 @@ fn convert_bytes(answer: &mut Answer, name: &str, bytes: &[u8]) {
 fn convert_file<F: Shelf>(answer: &mut Answer, shelf: &mut F, name: &str) {
     match shelf.load(answer.allocator(), name, MORE) {
         Ok(bytes) => convert_bytes(answer, name, &bytes),
-        Err(ShelfFault::Failed) => answer.refuse(STORE_FAILED, ""),
+        Err(ShelfFault::Failed) => answer.refuse(Status::StoreFailed, ""),
         Err(ShelfFault::NoMemory) => answer.cut(),
     }
 }

@@ -1,7 +1,7 @@
 // What keeps the literals of a constraint from being made true, and what could be added.
 use dsr_graph::{Graph, Position, falsifies, ways};
 use dsr_ir::{Atom, Constraint, Literal, Measure, Op, Spec};
-use dsr_ways::{Variables, push_literal};
+use dsr_show::{Variables, push_literal};
 use dsr_wording::{Text, numbered};
 
 const LEAVING: &str = "\
@@ -89,7 +89,7 @@ fn hindrances(graph: &Graph, at: Position, literal: &Literal) -> &'static [&'sta
 fn push_need(
     text: &mut Text,
     spec: &Spec,
-    variables: &Variables<'_>,
+    variables: Variables<'_>,
     literal: &Literal,
     hindrances: &[&str],
 ) {
@@ -110,7 +110,7 @@ pub fn push_needs(
     text: &mut Text,
     spec: &Spec,
     graph: &Graph,
-    variables: &Variables<'_>,
+    variables: Variables<'_>,
     number: u32,
     constraint: &Constraint,
 ) {

@@ -1,13 +1,14 @@
 // What stands in the way of a plan, in words.
 ghost use Rattle.dsr_meaning.specs.Typed.{IsTyped};
 
-use crate::lines::word_at;
+use crate::lines::{push_filled, word_at};
 use crate::needs::push_needs;
 use crate::reading::Meaning;
 use crate::sources::{constraint_source, push_words};
 use dsr_graph::{Graph, graph};
 use dsr_ir::{Atom, Constraint, Literal, Op, Spec};
-use dsr_ways::{push_literal, variables_of};
+use dsr_show::push_literal;
+use dsr_ways::variables_of;
 use dsr_wording::{Text, numbered};
 
 // The number of the constraint with this name.
@@ -39,7 +40,7 @@ fn push_named(text: &mut Text, meaning: &Meaning, member: Option<u32>, name: &st
 fn push_hindered(text: &mut Text, meaning: &Meaning, graph: &Graph, number: u32) {
     if let Some(constraint) = meaning.spec.constraints.items().get(number as usize) {
         let variables = variables_of(&meaning.tree, number);
-        push_needs(text, &meaning.spec, graph, &variables, number, constraint);
+        push_needs(text, &meaning.spec, graph, variables, number, constraint);
     }
 }
 
@@ -52,18 +53,20 @@ fn push_stuck(text: &mut Text, meaning: &Meaning, graph: &Graph, member: Option<
     }
 }
 
-// A number of a line that counts from 1, counted from 0.
-fn from_zero(word: Option<&str>) -> Option<usize> {
-    word?.parse::<usize>().ok()?.checked_sub(1)
+// What a list has under a number that counts from 1.
+fn numbered_from_one<'a, T>(items: &'a [T], word: &str) -> Option<&'a T> {
+    match word.parse::<usize>() {
+        Ok(number) => items.get(number.checked_sub(1)?),
+        Err(_) => None,
+    }
 }
 
 // The literal of a constraint with the numbers `C.L.T`.
 fn literal_of<'a>(constraint: &'a Constraint, numbers: &str) -> Option<&'a Literal> {
-    let mut parts = numbers.split('.');
-    let conj = from_zero(parts.next())?;
-    let literal = from_zero(parts.next())?;
-    let literals = constraint.conjs.items().get(conj)?;
-    literals.literals.items().get(literal)
+    let (conj, rest) = numbers.split_once('.')?;
+    let literal = rest.split_once('.').unwrap_or((rest, "")).0;
+    let literals = numbered_from_one(constraint.conjs.items(), conj)?;
+    numbered_from_one(literals.literals.items(), literal)
 }
 
 // The literal of a member for which a way is tried.
@@ -77,54 +80,53 @@ fn push_tried(text: &mut Text, meaning: &Meaning, member: Option<u32>, numbers: 
     if let Some(literal) = tried(meaning, member, numbers) {
         let variables = variables_of(&meaning.tree, member.unwrap_or(0));
         text.push(" to make `");
-        push_literal(text, &meaning.spec, &variables, literal);
+        push_literal(text, &meaning.spec, variables, literal);
         text.push("` true");
     }
 }
 
+const GAIN: &str = " may add facts to `{7}`, and so break `{3}`\n";
+
+const LOSS: &str = " may take facts from `{7}`, and so break `{3}`\n";
+
 // Appends what a way of a member breaks: `way C.L.T breaks OTHER by gain of SYMBOL`.
 fn push_way(text: &mut Text, meaning: &Meaning, member: Option<u32>, line: &str) {
-    let way = word_at(line, 1);
-    text.push("    way ");
-    text.push(way);
-    push_tried(text, meaning, member, way);
-    text.push(if word_at(line, 5) == "gain" {
-        " may add facts to `"
-    } else {
-        " may take facts from `"
-    });
-    text.push(word_at(line, 7));
-    text.push("`, and so break `");
-    text.push(word_at(line, 3));
-    text.push("`\n");
+    push_filled(text, "    way {1}", line);
+    push_tried(text, meaning, member, word_at(line, 1));
+    let is_gain = word_at(line, 5) == "gain";
+    push_filled(text, if is_gain { GAIN } else { LOSS }, line);
 }
 
 const CYCLE: &str = "\
 . Of the ways above ask which can't happen in your structure, and say why in the specification: by \
 a constraint that is declared earlier, by a narrower rule, or by other words for the constraint\n";
 
+// What stands before a name of a cycle, by the name's place in the line.
+fn before_waiting(place: usize) -> &'static str {
+    match place {
+        1 => "  `",
+        2 => " waits for `",
+        _ => ", which waits for `",
+    }
+}
+
 // Appends which member waits for which: `cycle NAME .. NAME`.
 fn push_cycle(text: &mut Text, line: &str) {
-    for (place, name) in line.split_whitespace().skip(1).enumerate() {
-        text.push(match place {
-            0 => "  `",
-            1 => " waits for `",
-            _ => ", which waits for `",
-        });
-        text.push(name);
-        text.push("`");
+    for (place, name) in line.split_whitespace().enumerate() {
+        if place > 0 {
+            text.push(before_waiting(place));
+            text.push(name);
+            text.push("`");
+        }
     }
     text.push(CYCLE);
 }
 
-// Appends which constraint relies on a member: `relied by NAME`.
-fn push_relied(text: &mut Text, line: &str) {
-    text.push("    `");
-    text.push(word_at(line, 2));
-    text.push("` relies on it, and so is repaired later\n");
-}
+// Which constraint relies on a member: `relied by NAME`.
+const RELIED: &str = "    `{2}` relies on it, and so is repaired later\n";
 
-const UNREPAIRABLE: &str = "`: each of its conjunctions has a literal that nothing makes true\n";
+const UNREPAIRABLE: &str =
+    "  no order helps `{1}`: each of its conjunctions has a literal that nothing makes true\n";
 
 // Appends what a line of the answer means, which is about a member of the stuck set.
 fn push_line(text: &mut Text, meaning: &Meaning, graph: &Graph, member: Option<u32>, line: &str) {
@@ -132,12 +134,8 @@ fn push_line(text: &mut Text, meaning: &Meaning, graph: &Graph, member: Option<u
         "stuck" => push_stuck(text, meaning, graph, member, word_at(line, 1)),
         "way" => push_way(text, meaning, member, line),
         "cycle" => push_cycle(text, line),
-        "relied" => push_relied(text, line),
-        "unrepairable" => {
-            text.push("  no order helps `");
-            text.push(word_at(line, 1));
-            text.push(UNREPAIRABLE);
-        }
+        "relied" => push_filled(text, RELIED, line),
+        "unrepairable" => push_filled(text, UNREPAIRABLE, line),
         _ => {}
     }
 }

@@ -1,5 +1,5 @@
 // A repair's report in sentences.
-use crate::lines::{push_where, word_at};
+use crate::lines::{push_filled, push_where, word_at};
 use crate::listed::push_change;
 use dsr_show::ImageModel;
 use dsr_wording::{Text, numbered};
@@ -16,51 +16,35 @@ fn indent_of(number: &str) -> &'static str {
 
 // Appends what a step was for: `update I NAME BINDING C.L RULE`.
 fn push_update(text: &mut Text, line: &str) {
-    let number = word_at(line, 1);
-    text.push(indent_of(number));
-    text.push(number);
-    text.push(". `");
-    text.push(word_at(line, 2));
-    text.push("` was violated");
+    text.push(indent_of(word_at(line, 1)));
+    push_filled(text, "{1}. `{2}` was violated", line);
     push_where(text, word_at(line, 3));
     text.push("\n");
 }
 
-// Appends which record was reset: `reset ELEMENT`.
-fn push_reset(text: &mut Text, line: &str) {
-    text.push("     ");
-    text.push(word_at(line, 1));
-    text.push(" is a fresh record: all its fields are reset\n");
-}
+// Which record was reset: `reset ELEMENT`.
+const RESET: &str = "     {1} is a fresh record: all its fields are reset\n";
 
-// Appends what was set: `set ELEMENT.FIELD OLD NEW`.
-fn push_set(text: &mut Text, line: &str) {
-    text.push("     ");
-    text.push(word_at(line, 1));
-    text.push(" was ");
-    text.push(word_at(line, 2));
-    text.push(", and is ");
-    text.push(word_at(line, 3));
-    text.push("\n");
-}
+// What was set: `set ELEMENT.FIELD OLD NEW`.
+const SET: &str = "     {1} was {2}, and is {3}\n";
+
+const EMPTY: &str = "\
+, and asks for a fresh record of pool `{1}`, of which none is left: each slot is in a set behind \
+`avoid`\n";
 
 // Appends that no fresh record is left: `empty POOL NAME BINDING C.L`.
 fn push_empty(text: &mut Text, line: &str) {
-    text.push("error: `");
-    text.push(word_at(line, 2));
-    text.push("` is violated");
+    push_filled(text, "error: `{2}` is violated", line);
     push_where(text, word_at(line, 3));
-    text.push(", and asks for a fresh record of pool `");
-    text.push(word_at(line, 1));
-    text.push("`, of which none is left: each slot is in a set behind `avoid`\n");
+    push_filled(text, EMPTY, line);
 }
 
 // Appends what a line of a report means. The bytes are left to the answer.
 fn push_line(text: &mut Text, line: &str) {
     match word_at(line, 0) {
         "update" => push_update(text, line),
-        "reset" => push_reset(text, line),
-        "set" => push_set(text, line),
+        "reset" => push_filled(text, RESET, line),
+        "set" => push_filled(text, SET, line),
         "empty" => push_empty(text, line),
         _ => {}
     }

@@ -2,22 +2,26 @@
 ghost use Rattle.std.specs.Prelude.{◌≡◌};
 ghost use Rattle.dsr_meaning.specs.Typed.{IsTyped};
 
-use crate::answers::{Answer, LAYOUT_REFUSED, STORE_FAILED, TOO_LONG, USAGE};
+use crate::answers::Answer;
 use crate::images::{model_of, push_without_layout};
 use crate::limits::{IMAGE_LIMIT, LONG_IMAGE, MORE_THAN_IMAGE};
 use crate::reading::Meaning;
 use dsr_answers::pool_name;
 use dsr_ir::{Element, Spec, Symbol};
 use dsr_layout::{LayoutFault, record_count};
+use dsr_names::Named;
+use dsr_script::{Status, Verdict};
 use dsr_show::{ImageModel, push_picture, push_record, push_relation, push_set, push_summary};
 use dsr_store::{Shelf, ShelfFault};
 use dsr_truth::violations;
 use dsr_wording::{Text, numbered};
 
-// The number of the pool of a name, counted from 0.
-fn pool_named(spec: &Spec, name: &str) -> Option<u32> {
-    for (number, pool) in spec.base.pools.items().iter().enumerate() {
-        if pool.name.bytes() == name.as_bytes() {
+// The number of the first of some declarations with this name, counted from 0.
+fn number_named<T: Named>(items: &[T], name: &str) -> Option<u32> {
+    for (number, item) in items.iter().enumerate() {
+        if let Some(own) = item.own_name()
+            && own.bytes() == name.as_bytes()
+        {
             return Some(numbered(number));
         }
     }
@@ -32,7 +36,7 @@ fn slot_of(rest: &str) -> Option<u32> {
 // The slot of a pool that is written as `3]` behind the pool's name and a bracket.
 fn record_at(spec: &Spec, name: &str, rest: &str) -> Option<Element> {
     let slot = slot_of(rest)?;
-    let number = pool_named(spec, name)?;
+    let number = number_named(spec.base.pools.items(), name)?;
     Some(Element {
         pool: number.saturating_add(1),
         slot,
@@ -52,24 +56,15 @@ fn record_named(spec: &Spec, what: &str) -> Option<Element> {
 
 /// The set or relation of a name.
 pub fn symbol_named(spec: &Spec, what: &str) -> Option<Symbol> {
-    for (number, set) in spec.base.sets.items().iter().enumerate() {
-        if set.name.bytes() == what.as_bytes() {
-            return Some(Symbol::Set(numbered(number)));
-        }
+    match number_named(spec.base.sets.items(), what) {
+        Some(set) => Some(Symbol::Set(set)),
+        None => Some(Symbol::Rel(number_named(spec.base.rels.items(), what)?)),
     }
-    for (number, rel) in spec.base.rels.items().iter().enumerate() {
-        if rel.name.bytes() == what.as_bytes() {
-            return Some(Symbol::Rel(numbered(number)));
-        }
-    }
-    None
 }
 
 // Appends how many slots a pool has.
 fn push_slots(told: &mut Text, name: &[u8], count: u64) {
-    told.push("error: pool `");
-    told.name(name);
-    told.push("` has ");
+    told.fill("error: pool `{}` has ", &[name]);
     told.number(count);
     told.push(" slots, from 0 on\n");
 }
@@ -81,13 +76,13 @@ fn show_slot(answer: &mut Answer, image: &ImageModel<'_>, elem: Element) {
         push_record(&mut answer.text, image, elem);
         return;
     }
-    answer.status = USAGE;
+    answer.status = Status::Said(Verdict::Usage);
     push_slots(&mut answer.told, pool_name(image.spec, elem.pool), count);
 }
 
 // Tells that a word names nothing.
 fn refuse_name(answer: &mut Answer, what: &str) {
-    answer.refuse(USAGE, "error: `");
+    answer.refuse(Status::Said(Verdict::Usage), "error: `");
     answer.told.push(what);
     answer.told.push("` is no record, as nodes[3] or head, and no set or relation\n");
 }
@@ -140,7 +135,7 @@ fn show_model(answer: &mut Answer, image: &ImageModel<'_>, view: View<'_>) {
 
 // Tells why an image has no layout.
 fn refuse_layout(answer: &mut Answer, spec: &Spec, name: &str, bytes: &[u8], fault: LayoutFault) {
-    answer.status = LAYOUT_REFUSED;
+    answer.status = Status::Said(Verdict::LayoutRefused);
     push_without_layout(&mut answer.told, spec, name, bytes, fault);
 }
 
@@ -149,7 +144,7 @@ fn show_bytes(answer: &mut Answer, meaning: &Meaning, name: &str, bytes: &[u8], 
     requires { IsTyped meaning.now.spec }
 {
     if bytes.len() as u64 > IMAGE_LIMIT {
-        answer.refuse(TOO_LONG, LONG_IMAGE);
+        answer.refuse(Status::TooLong, LONG_IMAGE);
         return;
     }
     match model_of(answer.allocator(), meaning, bytes) {
@@ -171,7 +166,7 @@ pub fn show_file<F: Shelf>(
 {
     match shelf.load(answer.allocator(), name, MORE_THAN_IMAGE) {
         Ok(bytes) => show_bytes(answer, meaning, name, &bytes, view),
-        Err(ShelfFault::Failed) => answer.refuse(STORE_FAILED, ""),
+        Err(ShelfFault::Failed) => answer.refuse(Status::StoreFailed, ""),
         Err(ShelfFault::NoMemory) => answer.cut(),
     }
 }

@@ -27,7 +27,7 @@ fn push_first(
     found: &[(u32, Binding)],
 ) {
     let mut last = None;
-    for (constraint, binding) in found.iter().take(TOLD) {
+    for (constraint, binding) in found.get(..TOLD).unwrap_or(found) {
         if last != Some(*constraint) {
             push_source(text, meaning, *constraint);
         }

@@ -1,4 +1,5 @@
-//! Reads specifications and images from the standard input, and prints what is told of each.
+//! Reads specifications, with images or alone, from the standard input, and prints what is told of
+//! each.
 //!
 //! A line `=== NAME COMMAND STATUS WHAT ..` begins a case: the command, with the fourth of its words
 //! behind a `/` where it isn't the file `x`, the status that `dsr` gives, and what is shown, if
@@ -6,9 +7,14 @@
 //! up to a line `+++ HEX` with the bytes of the image, or `+++ HEX HEX` with those of what was saved,
 //! too, and below that what `dsr` answers. Of each is printed the first line, what the answer means,
 //! and what is shown. Of `%from-c` structures of C stand in the place of the specification.
+//!
+//! Below a line `=== NAME` alone stands the text of a specification, which ends before the line feed
+//! that stands before the next such line. Printed is what is wrong with it, or `means a
+//! specification`.
 #![tactic(auto)]
 
 use anyhow::bail;
+use dsr_diagnosis::{Diagnosis, diagnose, shown as diagnosis_shown};
 use dsr_explain::{Shown, Telling, draw, explained, from_c, show, tell};
 use dsr_ir::NoMemory;
 use dsr_script::{Status, Verdict};
@@ -144,15 +150,38 @@ fn push_answers(text: &mut Text, shelf: &mut SureShelf, heading: &str, answer: &
     }
 }
 
+fn push_diagnosis(text: &mut Text, spec: &str, diagnosis: &Diagnosis) {
+    match diagnosis_shown(text.allocator(), "s", spec.as_bytes(), diagnosis) {
+        Ok(told) => text.push(told.as_str()),
+        Err(_) => text.cut(),
+    }
+}
+
+fn push_fault(text: &mut Text, spec: &str) {
+    match diagnose(text.allocator(), spec.as_bytes()) {
+        Ok(Some(diagnosis)) => push_diagnosis(text, spec, &diagnosis),
+        Ok(None) => text.push("means a specification\n"),
+        Err(_) => text.cut(),
+    }
+}
+
+fn push_answer(text: &mut Text, heading: &str, rest: &str) {
+    let (spec, rest) = rest.split_once("+++ ").unwrap_or((rest, ""));
+    let (images, answer) = rest.split_once('\n').unwrap_or((rest, ""));
+    let mut shelf = shelf_of(text, spec, images);
+    push_answers(text, &mut shelf, heading, answer);
+}
+
 fn push_case(text: &mut Text, given: &str) {
     let (heading, rest) = given.split_once('\n').unwrap_or((given, ""));
     text.push("=== ");
     text.push(heading);
     text.push("\n");
-    let (spec, rest) = rest.split_once("+++ ").unwrap_or((rest, ""));
-    let (images, answer) = rest.split_once('\n').unwrap_or((rest, ""));
-    let mut shelf = shelf_of(text, spec, images);
-    push_answers(text, &mut shelf, heading, answer);
+    if heading.contains(' ') {
+        push_answer(text, heading, rest);
+    } else {
+        push_fault(text, rest.strip_suffix("\n").unwrap_or(rest));
+    }
 }
 
 fn all_told(alloc: Global, input: &str) -> Result<String, NoMemory> {

@@ -65,9 +65,14 @@ fn extent_of(numbers: &str) -> Option<(u64, u64)> {
     Some((number_of(start)?, number_of(size)?))
 }
 
+// What stands before and behind a mark in a text that begins with a front.
+fn split_behind<'a>(text: &'a str, front: &str, mark: &str) -> Option<(&'a str, &'a str)> {
+    text.strip_prefix(front)?.split_once(mark)
+}
+
 // What a line tells of a member: `/* PLACE | SIZE */ DECLARATION;`.
 fn line_of(text: &str) -> Option<Line<'_>> {
-    let (numbers, rest) = text.strip_prefix("/*")?.split_once("*/")?;
+    let (numbers, rest) = split_behind(text, "/*", "*/")?;
     let declaration = rest.trim().strip_suffix(";")?;
     let (start, size) = extent_of(numbers)?;
     Some(Line {
@@ -79,7 +84,7 @@ fn line_of(text: &str) -> Option<Line<'_>> {
 
 // The size of a structure: `/* total size (bytes): SIZE */`, or `/* total size: SIZE bytes */`.
 fn size_of(text: &str) -> Option<u64> {
-    let (_, rest) = text.strip_prefix("/* total size")?.split_once(':')?;
+    let (_, rest) = split_behind(text, "/* total size", ":")?;
     number_of(rest.trim().split(' ').next()?)
 }
 
@@ -204,49 +209,42 @@ fn depth_behind(depth: u64, line: &str) -> u64 {
     }
 }
 
-// The size that is told behind the members of a structure; 0 where none is.
-fn size_within(text: &str) -> u64 {
-    let mut size = 0;
+// Adds what a line tells of a structure: a member, or the size.
+fn add_line(alloc: Global, structure: &mut Structure, line: &str) -> Result<(), NoMemory> {
+    if let Some(size) = size_of(line) {
+        structure.size = size;
+    }
+    if let Some(told) = told_by(line) {
+        structure.members.push(member_of(alloc, &told)?)?;
+    }
+    Ok(())
+}
+
+// Adds what lines tell of a structure. What stands in inner braces is passed over.
+fn add_lines(alloc: Global, structure: &mut Structure, text: &str) -> Result<(), NoMemory> {
     let mut depth = 0u64;
     for line in text.lines() {
         let line = line.trim();
         let behind = depth_behind(depth, line);
         if depth == 0 && behind == 0 {
-            size = size_of(line).unwrap_or(size);
+            add_line(alloc, structure, line)?;
         }
         depth = behind;
     }
-    size
+    Ok(())
 }
 
-// The members of a structure. What stands in inner braces is passed over.
-fn members_of(alloc: Global, text: &str) -> Result<Vec<Member>, NoMemory> {
-    let mut members = Vec::new(alloc);
-    let mut depth = 0u64;
-    for line in text.lines() {
-        let line = line.trim();
-        let behind = depth_behind(depth, line);
-        if depth == 0
-            && behind == 0
-            && let Some(told) = told_by(line)
-        {
-            members.push(member_of(alloc, &told)?)?;
-        }
-        depth = behind;
-    }
-    Ok(members)
-}
-
-// The structure that begins with its name and a brace.
+// The structure that begins with its name and a brace; of 0 bytes where no size is told.
 fn structure_of(alloc: Global, text: &str, place: usize) -> Result<Structure, NoMemory> {
     let (name, rest) = text.split_once('{').unwrap_or((text, ""));
     let name = name_or_number(alloc, name.trim(), place)?;
-    let members = members_of(alloc, rest)?;
-    Ok(Structure {
+    let mut structure = Structure {
         name,
-        members,
-        size: size_within(rest),
-    })
+        members: Vec::new(alloc),
+        size: 0,
+    };
+    add_lines(alloc, &mut structure, rest)?;
+    Ok(structure)
 }
 
 /// Whether there is a structure of this name.
@@ -259,15 +257,21 @@ pub fn is_known(structures: &[Structure], name: &str) -> bool {
     false
 }
 
+// Adds a structure that is whole, once.
+fn add(structures: &mut Vec<Structure>, structure: Structure) -> Result<(), NoMemory> {
+    if structure.size > 0 && !is_known(structures, structure.name.as_str()) {
+        structures.push(structure)?;
+    }
+    Ok(())
+}
+
 /// The structures that stand in what gdb prints, each once. One that isn't whole has no bytes, and
 /// is passed over.
 pub fn structures_of(alloc: Global, text: &str) -> Result<Vec<Structure>, NoMemory> {
     let mut structures = Vec::new(alloc);
     for part in text.split("type = struct ").skip(1) {
         let structure = structure_of(alloc, part, structures.len())?;
-        if structure.size > 0 && !is_known(&structures, structure.name.as_str()) {
-            structures.push(structure)?;
-        }
+        add(&mut structures, structure)?;
     }
     Ok(structures)
 }

@@ -1,7 +1,7 @@
 // The specification of structures: a pool and a set for each, a rule for each address, and that no
 // address is illegal.
 use crate::reading::{Member, Structure, is_known};
-use crate::spelling::push_name;
+use crate::spelling::push_names;
 use dsr_wording::Text;
 
 // The structure to which a member leads, of those that are known.
@@ -10,21 +10,6 @@ fn known_target<'a>(structures: &[Structure], member: &'a Member) -> Option<&'a 
         Some(target) if is_known(structures, target.as_str()) => Some(target.as_str()),
         _ => None,
     }
-}
-
-// Appends the name of a structure's pool.
-fn push_pool_name(text: &mut Text, structure: &str) {
-    push_name(text, structure, "s");
-}
-
-// Appends the name of a structure's set.
-fn push_set_name(text: &mut Text, structure: &str) {
-    push_name(text, structure, "_set");
-}
-
-// Appends the name of the set of the records with an illegal address.
-fn push_astray_name(text: &mut Text, structure: &str) {
-    push_name(text, structure, "_astray");
 }
 
 // Appends bytes that belong to no field.
@@ -43,18 +28,21 @@ fn push_count(text: &mut Text, count: u64) {
     text.push("]");
 }
 
-// Appends a member as a field.
-fn push_member(text: &mut Text, structures: &[Structure], member: &Member) {
+// Appends a member as a field, up to where it leads.
+fn push_declared(text: &mut Text, member: &Member) {
     text.push("  u");
     text.number(member.width.saturating_mul(8));
-    text.push(" ");
-    push_name(text, member.name.as_str(), "");
+    push_names(text, " {}", member.name.as_str());
     if let Some(count) = member.count {
         push_count(text, count);
     }
+}
+
+// Appends a member as a field.
+fn push_member(text: &mut Text, structures: &[Structure], member: &Member) {
+    push_declared(text, member);
     if let Some(target) = known_target(structures, member) {
-        text.push(" -> ");
-        push_pool_name(text, target);
+        push_names(text, " -> {s}", target);
     }
     text.push(";\n");
 }
@@ -80,9 +68,8 @@ fn push_members(text: &mut Text, structures: &[Structure], structure: &Structure
 
 // Appends a structure.
 fn push_structure(text: &mut Text, structures: &[Structure], structure: &Structure) {
-    text.push("structure ");
-    push_name(text, structure.name.as_str(), "");
-    text.push(" {\n");
+    push_names(text, "structure {} ", structure.name.as_str());
+    text.push("{\n");
     let end = push_members(text, structures, structure);
     push_gap(text, structure.size.saturating_sub(end));
     text.push("}\n");
@@ -94,11 +81,7 @@ const BASE: u64 = 4096;
 
 // Appends a pool of one record, which begins at a byte.
 fn push_pool(text: &mut Text, structure: &Structure, start: u64) {
-    text.push("pool ");
-    push_pool_name(text, structure.name.as_str());
-    text.push(" : ");
-    push_name(text, structure.name.as_str(), "");
-    text.push("[1] at ");
+    push_names(text, "pool {s} : {}[1] at ", structure.name.as_str());
     text.number(start);
     text.push(" codes ");
     text.number(start.saturating_add(BASE));
@@ -126,23 +109,12 @@ fn has_address(structures: &[Structure], structure: &Structure) -> bool {
     false
 }
 
-// Appends the end of a set's declaration.
-fn push_set_end(text: &mut Text, structure: &str) {
-    text.push(" of ");
-    push_pool_name(text, structure);
-    text.push(";\n");
-}
-
 // Appends the sets of a structure: its records, and those with an illegal address.
 fn push_own_sets(text: &mut Text, structures: &[Structure], structure: &Structure) {
     let name = structure.name.as_str();
-    text.push("set ");
-    push_set_name(text, name);
-    push_set_end(text, name);
+    push_names(text, "set {_set} of {s};\n", name);
     if has_address(structures, structure) {
-        text.push("set ");
-        push_astray_name(text, name);
-        push_set_end(text, name);
+        push_names(text, "set {_astray} of {s};\n", name);
     }
 }
 
@@ -155,18 +127,15 @@ fn push_sets(text: &mut Text, structures: &[Structure]) {
 
 // Appends where a rule begins: at a record, and at an entry where its field is an array.
 fn push_source(text: &mut Text, structure: &Structure, member: &Member) {
-    text.push("rule x in ");
-    push_set_name(text, structure.name.as_str());
+    push_names(text, "rule x in {_set}", structure.name.as_str());
     if member.count.is_some() {
-        text.push(", k in ");
-        push_name(text, member.name.as_str(), "");
+        push_names(text, ", k in {}", member.name.as_str());
     }
 }
 
 // Appends the field of a record, or its entry where it is an array.
 fn push_field(text: &mut Text, member: &Member) {
-    text.push("x.");
-    push_name(text, member.name.as_str(), "");
+    push_names(text, "x.{}", member.name.as_str());
     if member.count.is_some() {
         text.push("[k]");
     }
@@ -177,15 +146,11 @@ fn push_address(text: &mut Text, structure: &Structure, member: &Member, target:
     push_source(text, structure, member);
     text.push(" => ");
     push_field(text, member);
-    text.push(" in ");
-    push_set_name(text, target);
-    text.push(";\n");
+    push_names(text, " in {_set};\n", target);
     push_source(text, structure, member);
     text.push(" when illegal(");
     push_field(text, member);
-    text.push(") => x in ");
-    push_astray_name(text, structure.name.as_str());
-    text.push(";\n");
+    push_names(text, ") => x in {_astray};\n", structure.name.as_str());
 }
 
 // Appends the rules of a structure.
@@ -197,16 +162,8 @@ fn push_rules(text: &mut Text, structures: &[Structure], structure: &Structure) 
     }
 }
 
-// Appends the constraint that no address of a structure is illegal.
-fn push_legal(text: &mut Text, structure: &str) {
-    text.push("constraint ");
-    push_name(text, structure, "_legal");
-    text.push(" : forall x in ");
-    push_astray_name(text, structure);
-    text.push(" : not x in ");
-    push_astray_name(text, structure);
-    text.push(";\n");
-}
+// The constraint that no address of a structure is illegal.
+const LEGAL: &str = "constraint {_legal} : forall x in {_astray} : not x in {_astray};\n";
 
 const HEADING: &str = "\
 # From what gdb printed. Of each pool set three numbers: how many records there are, behind `at` the
@@ -219,16 +176,8 @@ structure Head {
 }
 ";
 
-// Appends the rule by which all records of the first structure are there.
-fn push_first(text: &mut Text, first: &str) {
-    text.push("rule head, k in pool ");
-    push_pool_name(text, first);
-    text.push(" => ");
-    push_pool_name(text, first);
-    text.push("[k] in ");
-    push_set_name(text, first);
-    text.push(";\n");
-}
+// The rule by which all records of the first structure are there.
+const FIRST: &str = "rule head, k in pool {s} => {s}[k] in {_set};\n";
 
 // Appends the rules, and then the constraints.
 fn push_meaning(text: &mut Text, structures: &[Structure]) {
@@ -237,7 +186,7 @@ fn push_meaning(text: &mut Text, structures: &[Structure]) {
     }
     for structure in structures {
         if has_address(structures, structure) {
-            push_legal(text, structure.name.as_str());
+            push_names(text, LEGAL, structure.name.as_str());
         }
     }
 }
@@ -253,7 +202,7 @@ pub fn push_specification(text: &mut Text, structures: &[Structure]) -> bool {
     }
     push_pools(text, structures);
     push_sets(text, structures);
-    push_first(text, first.name.as_str());
+    push_names(text, FIRST, first.name.as_str());
     push_meaning(text, structures);
     true
 }

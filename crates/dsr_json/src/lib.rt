@@ -1,27 +1,33 @@
 //! Answers as JSON documents.
 #![tactic(auto)]
 
+ghost use Rattle.std.specs.Prelude.{◌≡◌};
+ghost use Rattle.dsr_json.specs.Verdicts.{verdict_text};
+
+use dsr_ir::NoMemory;
+use dsr_script::{Status, Verdict};
 use serde_json::{Value, json};
 use std::alloc::{AllocError, Global};
 
 // The name of a status.
-fn status_name(status: u8) -> &'static str {
+fn verdict_of(status: &Status) -> &'static str
+    ensures { result.now ≡ verdict_text status.now }
+{
     match status {
-        0 => "ok",
-        1 => "inconsistent",
-        2 => "no plan",
-        3 => "usage",
-        4 => "specification refused",
-        5 => "no layout",
-        6 => "supply empty",
-        7 => "store failed",
-        8 => "output failed",
-        9 => "too long",
-        10 => "no memory",
-        11 => "certificate refused",
-        12 => "report refused",
-        13 => "edit refused",
-        _ => "other",
+        Status::Said(Verdict::Ok) => "ok",
+        Status::Said(Verdict::Inconsistent) => "inconsistent",
+        Status::Said(Verdict::PlanRefused) => "no plan",
+        Status::Said(Verdict::Usage) => "usage",
+        Status::Said(Verdict::SpecRefused) => "specification refused",
+        Status::Said(Verdict::LayoutRefused) => "no layout",
+        Status::Said(Verdict::SupplyEmpty) => "supply empty",
+        Status::StoreFailed => "store failed",
+        Status::OutputFailed => "output failed",
+        Status::TooLong => "too long",
+        Status::NoMemory => "no memory",
+        Status::Said(Verdict::CertRefused) => "certificate refused",
+        Status::Said(Verdict::ReportRefused) => "report refused",
+        Status::Said(Verdict::EditRefused) => "edit refused",
     }
 }
 
@@ -70,10 +76,10 @@ fn arguments_value(alloc: Global, words: &[String]) -> Result<Value, AllocError>
 pub fn document(
     alloc: Global,
     words: &[String],
-    status: u8,
+    status: &Status,
     answer: &str,
     told: &str,
-) -> Result<String, AllocError> {
+) -> Result<String, NoMemory> {
     let command = match words.first() {
         Some(command) => command.as_str(),
         None => "",
@@ -81,14 +87,15 @@ pub fn document(
     let arguments = arguments_value(alloc, words)?;
     let lines = answer_value(alloc, answer)?;
     let told = told_value(alloc, told)?;
-    let name = status_name(status);
+    let number = status.number();
+    let verdict = verdict_of(status);
     let document = json!(in alloc; {
         "command": command,
         "arguments": arguments,
-        "status": status,
-        "verdict": name,
+        "status": number,
+        "verdict": verdict,
         "answer": lines,
         "told": told
     })?;
-    document.to_string(alloc)
+    Ok(document.to_string(alloc)?)
 }

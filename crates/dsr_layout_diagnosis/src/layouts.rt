@@ -58,9 +58,7 @@ const NO_NUMBER: &str =
 fn push_unknown_structure(text: &mut Text, scene: &Scene<'_>) -> bool {
     for (number, structure) in scene.spec.base.structures.items().iter().enumerate() {
         if scene.numbers.bytes_of(numbered(number)).is_none() {
-            text.push("the size of structure `");
-            text.name(structure.name.bytes());
-            text.push("` ");
+            text.fill("the size of structure `{}` ", &[structure.name.bytes()]);
             text.push(NO_NUMBER);
             return true;
         }
@@ -74,9 +72,7 @@ fn push_unknown_pool(text: &mut Text, scene: &Scene<'_>) {
         if let Some(part) = unknown_part(&scene.numbers.pool(pool)) {
             text.push("the ");
             text.push(part);
-            text.push(" of pool `");
-            text.name(pool.name.bytes());
-            text.push("` ");
+            text.fill(" of pool `{}` ", &[pool.name.bytes()]);
             text.push(NO_NUMBER);
             return;
         }
@@ -111,15 +107,13 @@ fn push_overlap(text: &mut Text, scene: &Scene<'_>, pool: u32, other: u32) {
     push_fixed(text, scene);
 }
 
+const SLOT: &str = ", and a slot of pool `{}`, which is read by it, has ";
+
 // That a structure is larger than a slot.
 fn push_subtype(text: &mut Text, scene: &Scene<'_>, pool: u32, structure: u32) {
-    text.push("structure `");
-    text.push(scene.structure_name(structure));
-    text.push("` has ");
+    text.fill("structure `{}` has ", &[scene.structure_name(structure)]);
     push_bytes(text, scene.numbers.bytes_of(structure));
-    text.push(", and a slot of pool `");
-    text.name(pool_name(scene.spec, pool));
-    text.push("`, which is read by it, has ");
+    text.fill(SLOT, &[pool_name(scene.spec, pool)]);
     let slot = match scene.pool(pool) {
         Some(extent) => extent.slot,
         None => None,
@@ -128,6 +122,11 @@ fn push_subtype(text: &mut Text, scene: &Scene<'_>, pool: u32, structure: u32) {
     text.push(": give the slots more, by `slot N` in the pool's declaration\n");
 }
 
+const ONE_CODE: &str =
+    "the step between the codes of pool `{}` is 0, so all its slots would have one code\n";
+
+const NO_BYTES: &str = "a slot of pool `{}` has 0 bytes\n";
+
 // That a slot or a step is 0.
 fn push_zero(text: &mut Text, scene: &Scene<'_>, pool: u32) {
     let name = pool_name(scene.spec, pool);
@@ -135,17 +134,11 @@ fn push_zero(text: &mut Text, scene: &Scene<'_>, pool: u32) {
         Some(extent) => extent.step,
         None => None,
     };
-    if step == Some(0) {
-        text.push("the step between the codes of pool `");
-        text.name(name);
-        text.push("` is 0, so all its slots would have one code\n");
-    } else {
-        text.push("a slot of pool `");
-        text.name(name);
-        text.push("` has 0 bytes\n");
-    }
+    text.fill(if step == Some(0) { ONE_CODE } else { NO_BYTES }, &[name]);
     push_fixed(text, scene);
 }
+
+const IS_CODE: &str = ", which is none of pool `{}`, is the code of a slot: codes go from ";
 
 // That the code of no slot is the code of one.
 fn push_none_code(text: &mut Text, scene: &Scene<'_>, pool: u32) {
@@ -154,9 +147,7 @@ fn push_none_code(text: &mut Text, scene: &Scene<'_>, pool: u32) {
     };
     text.push("the value ");
     push_known(text, extent.none);
-    text.push(", which is none of pool `");
-    text.name(pool_name(scene.spec, pool));
-    text.push("`, is the code of a slot: codes go from ");
+    text.fill(IS_CODE, &[pool_name(scene.spec, pool)]);
     push_known(text, extent.code);
     text.push(" to ");
     push_known(text, extent.last_code());
@@ -168,11 +159,8 @@ fn push_none_code(text: &mut Text, scene: &Scene<'_>, pool: u32) {
 
 // Appends a reference with its bits.
 fn push_reference(text: &mut Text, scene: &Scene<'_>, structure: u32, field: u32) {
-    text.push("the reference `");
-    text.push(scene.structure_name(structure));
-    text.push(".");
-    text.name(field_name(scene.spec, structure, field));
-    text.push("` has ");
+    text.fill("the reference `{}.", &[scene.structure_name(structure)]);
+    text.fill("{}` has ", &[field_name(scene.spec, structure, field)]);
     let bits = match declared_field(&scene.spec.base, FieldRef { structure, field }) {
         Some(field) => width_bits(field.width),
         None => 0,
@@ -184,9 +172,10 @@ fn push_reference(text: &mut Text, scene: &Scene<'_>, structure: u32, field: u32
 // That a code doesn't fit a reference.
 fn push_code(text: &mut Text, scene: &Scene<'_>, pool: u32, structure: u32, field: u32) {
     push_reference(text, scene, structure, field);
-    text.push(", too few for the codes of pool `");
-    text.name(pool_name(scene.spec, pool));
-    text.push("`");
+    text.fill(
+        ", too few for the codes of pool `{}`",
+        &[pool_name(scene.spec, pool)],
+    );
     if let Some(extent) = scene.pool(pool) {
         text.push(": none is ");
         push_known(text, extent.none);
@@ -199,13 +188,12 @@ fn push_code(text: &mut Text, scene: &Scene<'_>, pool: u32, structure: u32, fiel
     push_fixed(text, scene);
 }
 
+const GREAT_COUNT: &str =
+    "constraint `{}` compares a field with a count that may be greater than the field can hold: widen the field\n";
+
 // That a count doesn't fit a field.
 fn push_great_count(text: &mut Text, spec: &Spec, constraint: u32) {
-    text.push("constraint `");
-    text.name(constraint_name(spec, constraint));
-    text.push(
-        "` compares a field with a count that may be greater than the field can hold: widen the field\n",
-    );
+    text.fill(GREAT_COUNT, &[constraint_name(spec, constraint)]);
 }
 
 const MANY_INSTANCES: &str =

@@ -37,9 +37,7 @@ pub fn push_extent(text: &mut Text, scene: &Scene<'_>, pool: u32) {
         text.push(" from byte 0 on");
         return;
     };
-    text.push("pool `");
-    text.name(pool_name(scene.spec, pool));
-    text.push("` has ");
+    text.fill("pool `{}` has ", &[pool_name(scene.spec, pool)]);
     push_count(text, extent.count, "slot", "slots");
     text.push(" of ");
     push_bytes(text, extent.slot);
@@ -51,9 +49,7 @@ pub fn push_extent(text: &mut Text, scene: &Scene<'_>, pool: u32) {
 
 // Appends the value of a field of the head.
 fn push_value(text: &mut Text, name: &[u8], value: Option<u64>) {
-    text.push("  head.");
-    text.name(name);
-    text.push(" is ");
+    text.fill("  head.{} is ", &[name]);
     push_known(text, value);
     text.push("\n");
 }

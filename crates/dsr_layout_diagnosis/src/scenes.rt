@@ -2,7 +2,6 @@
 use crate::extents::{Extents, PoolExtent, extents_of};
 use dsr_ir::{NoMemory, Spec};
 use dsr_schema::pool_at;
-use dsr_wording::text_of;
 use std::alloc::Global;
 
 /// A specification and an image, and the numbers that it has there.
@@ -35,10 +34,10 @@ impl<'a> Scene<'a> {
     }
 
     /// The name of a structure.
-    pub fn structure_name(&self, structure: u32) -> &str {
+    pub fn structure_name(&self, structure: u32) -> &[u8] {
         match self.spec.base.structures.items().get(structure as usize) {
-            Some(structure) => text_of(structure.name.bytes()),
-            None => "?",
+            Some(structure) => structure.name.bytes(),
+            None => b"?",
         }
     }
 }

@@ -1,20 +1,44 @@
 // Where sets, relations and fields are used.
+ghost use Rattle.std.specs.Prelude.{◌≡◌};
+ghost use Rattle.dsr_lint.specs.Uses as uses;
+
 use dsr_ir::{
     Atom, Bound, Constraint, FieldRef, Literal, Measure, Path, Quant, Rule, Span, Spec, Symbol,
     Test,
 };
 
 /// Whether some rule gives facts of a symbol.
-pub fn is_given(spec: &Spec, symbol: Symbol) -> bool {
-    spec.rules.items().iter().any(|rule| rule.inc.gives(symbol))
+pub fn is_given(spec: &Spec, symbol: Symbol) -> bool
+    ensures { result ≡ uses.is_given spec.now.rules symbol }
+{
+    for rule in spec.rules.items() {
+        if rule.inc.gives(symbol) {
+            return true;
+        }
+    }
+    false
+}
+
+// Whether a set is the premise of a rule.
+fn is_set(set: u32, premise: Option<u32>) -> bool
+    ensures { result ≡ uses.is_set set premise }
+{
+    match premise {
+        Some(premise) => premise == set,
+        None => false,
+    }
 }
 
 /// Whether a set is the premise of a rule.
-pub fn is_premise(spec: &Spec, set: u32) -> bool {
-    spec.rules
-        .items()
-        .iter()
-        .any(|rule| rule.premise == Some(set))
+pub fn is_premise(spec: &Spec, set: u32) -> bool
+    ensures { result ≡ uses.is_premise spec.now.rules set }
+{
+    for rule in spec.rules.items() {
+        if is_set(set, rule.premise) {
+            return true;
+        }
+    }
+    false
 }
 
 fn measures(measure: &Measure, symbol: Symbol) -> bool {

@@ -1,6 +1,6 @@
 // What is told of quantifiers and atoms that don't fit what they ask.
 use crate::pairs::hint_related;
-use dsr_declarations::relation_named;
+use dsr_declarations::named;
 use dsr_passages::{Scene, Words, keyword_in, name_in, sign_in};
 use dsr_tree::{Keyword, Lexeme, Relation, Sign, Tree};
 
@@ -15,12 +15,12 @@ fn ends(lexeme: &Lexeme) -> bool {
 
 // The first relation that the atom or the quantifier at the place names.
 fn relation_at<'a>(scene: &Scene<'_>, tree: &'a Tree) -> Option<&'a Relation> {
-    for lexeme in scene.lexemes.iter().skip(scene.at) {
+    for lexeme in scene.lexemes.get(scene.at..).unwrap_or(&[]) {
         if ends(lexeme) {
             return None;
         }
         if let Some(name) = name_in(Some(lexeme))
-            && let Some(relation) = relation_named(tree, name)
+            && let Some(relation) = named(tree.relations.items(), name)
         {
             return Some(relation);
         }
@@ -59,20 +59,20 @@ fn hint_relation(words: &mut Words, scene: &Scene<'_>, tree: &Tree) {
 
 // That a quantifier runs over pairs with numbers.
 fn say_quantifier(words: &mut Words, scene: &Scene<'_>, tree: &Tree) {
-    words.say(&["`forall <x, y> in R` asks for a relation to records"]);
+    words.say("`forall <x, y> in R` asks for a relation to records");
     hint_relation(words, scene, tree);
-    words.hint(&["of a relation to numbers write `forall x in S : x.R <= 9`, or `head.R <= 9`"]);
+    words.hint("of a relation to numbers write `forall x in S : x.R <= 9`, or `head.R <= 9`");
 }
 
 /// That a quantifier or an atom doesn't fit what it asks.
 pub fn say_atom(words: &mut Words, scene: &Scene<'_>, tree: &Tree) {
     match (keyword_in(scene.found()), keyword_in(scene.behind(1))) {
         (Some(Keyword::Forall), _) => say_quantifier(words, scene, tree),
-        (Some(Keyword::Head), Some(Keyword::In)) => words.say(&["the head is in no set"]),
+        (Some(Keyword::Head), Some(Keyword::In)) => words.say("the head is in no set"),
         _ => {
-            words.say(&["pools or kinds of values disagree here"]);
+            words.say("pools or kinds of values disagree here");
             hint_relation(words, scene, tree);
-            words.hint(&[atom_hint(scene)]);
+            words.hint(atom_hint(scene));
         }
     }
 }

@@ -2,7 +2,6 @@
 use dsr_declarations::{is_other_head, place_of, record_name};
 use dsr_passages::Words;
 use dsr_tree::{Guard, Path, Rule};
-use dsr_wording::text_of;
 
 // Where a guard begins.
 fn guard_place(guard: &Guard) -> u64 {
@@ -37,17 +36,13 @@ fn guard_at(rule: &Rule, place: u64) -> Option<&Guard> {
     None
 }
 
+const ALONE: &str = "this rule reads fields of `{}` alone, as `{}.f`";
+
 /// That a rule reads the head where its record is another one.
 pub fn say_other_head(words: &mut Words, rule: &Rule) {
-    words.say(&["`head` isn't the record of this rule"]);
-    let name = text_of(record_name(rule));
-    words.hint(&[
-        "this rule reads fields of `",
-        name,
-        "` alone, as `",
-        name,
-        ".f`",
-    ]);
+    words.say("`head` isn't the record of this rule");
+    let name = record_name(rule);
+    words.hint_of(ALONE, &[name, name]);
 }
 
 const TESTED: &str =
@@ -59,9 +54,9 @@ fn say_tested(words: &mut Words, rule: &Rule, path: &Path) {
         say_other_head(words, rule);
         return;
     }
-    let field = text_of(path.field.name.bytes());
-    words.say(&["`", field, "` is a number, and no reference"]);
-    words.hint(&[TESTED]);
+    let field = path.field.name.bytes();
+    words.say_of("`{}` is a number, and no reference", &[field]);
+    words.hint(TESTED);
 }
 
 const COMPARED: &str =
@@ -73,9 +68,9 @@ fn say_compared(words: &mut Words, rule: &Rule, path: &Path) {
         say_other_head(words, rule);
         return;
     }
-    let field = text_of(path.field.name.bytes());
-    words.say(&["`", field, "` is a reference, and compared with no number"]);
-    words.hint(&[COMPARED]);
+    let field = path.field.name.bytes();
+    words.say_of("`{}` is a reference, and compared with no number", &[field]);
+    words.hint(COMPARED);
 }
 
 const GUARDS: &str = "references are tested by `legal(x.f)` and the like, numbers are compared";
@@ -98,8 +93,8 @@ pub fn say_guard(words: &mut Words, rule: &Rule, place: u64) {
             },
         ) => say_compared(words, rule, path),
         None => {
-            words.say(&["this guard doesn't fit what it tests"]);
-            words.hint(&[GUARDS]);
+            words.say("this guard doesn't fit what it tests");
+            words.hint(GUARDS);
         }
     }
 }

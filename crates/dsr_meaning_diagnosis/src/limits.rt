@@ -1,8 +1,7 @@
 // What is told of what stands where the language doesn't allow it, or once too often.
-use dsr_declarations::{is_head, own_field, place_in, rule_at, structure_at};
+use dsr_declarations::{around, is_head, own_field, place_in};
 use dsr_passages::{Declaration, Scene, Words, name_in};
 use dsr_tree::{Rule, Structure, Tree};
-use dsr_wording::text_of;
 
 // Whether a rule has more guards than it may have.
 fn has_many_guards(rule: &Rule) -> bool {
@@ -14,7 +13,7 @@ fn has_many_guards(rule: &Rule) -> bool {
 
 // Of rules there are too many, or one has too many guards.
 fn rule_limit(scene: &Scene<'_>, tree: &Tree) -> &'static str {
-    match rule_at(tree, place_in(scene)) {
+    match around(tree.rules.items(), place_in(scene)) {
         Some(rule) if has_many_guards(rule) => "more than four guards in one rule",
         _ => "more than 128 rules",
     }
@@ -36,10 +35,10 @@ fn limit(scene: &Scene<'_>, tree: &Tree) -> &'static str {
 
 /// That there are more than the language allows.
 pub fn say_limit(words: &mut Words, scene: &Scene<'_>, tree: &Tree) {
-    words.say(&[limit(scene, tree)]);
+    words.say(limit(scene, tree));
     let (declaration, _) = scene.declaration();
     if declaration == Declaration::Constraint && !scene.is_second() {
-        words.hint(&["version 2 allows 128: begin the text with `version 2`"]);
+        words.hint("version 2 allows 128: begin the text with `version 2`");
     }
 }
 
@@ -58,9 +57,9 @@ fn fixed_hint(structure: &Structure, name: &[u8]) -> &'static str {
 /// That a fixed field stands where none may.
 pub fn say_fixed(words: &mut Words, scene: &Scene<'_>, tree: &Tree) {
     let name = name_in(scene.found()).unwrap_or(b"");
-    words.say(&["`", text_of(name), "` can't be fixed"]);
-    if let Some(structure) = structure_at(tree, place_in(scene)) {
-        words.hint(&[fixed_hint(structure, name)]);
+    words.say_of("`{}` can't be fixed", &[name]);
+    if let Some(structure) = around(tree.structures.items(), place_in(scene)) {
+        words.hint(fixed_hint(structure, name));
     }
 }
 
@@ -68,9 +67,9 @@ pub fn say_fixed(words: &mut Words, scene: &Scene<'_>, tree: &Tree) {
 pub fn say_parent(words: &mut Words, scene: &Scene<'_>) {
     match (name_in(scene.before(2)), name_in(scene.found())) {
         (Some(name), Some(parent)) if name != parent => {
-            words.say(&["the parent `", text_of(parent), "` is declared later"]);
-            words.hint(&["a parent stands before all that extend it"]);
+            words.say_of("the parent `{}` is declared later", &[parent]);
+            words.hint("a parent stands before all that extend it");
         }
-        _ => words.say(&["a structure can't extend itself"]),
+        _ => words.say("a structure can't extend itself"),
     }
 }

@@ -8,7 +8,7 @@ use crate::twice::say_twice;
 use crate::unknown::say_unknown;
 use crate::views::{say_set, say_supply};
 use crate::widths::{say_unaligned, say_width};
-use dsr_declarations::{place_in, place_of, rule_at};
+use dsr_declarations::{around, place_in, place_of};
 use dsr_ir::NoMemory;
 use dsr_passages::{Declaration, Diagnosis, Scene, Words, length_of};
 use dsr_tree::{Condition, Inclusion, Rule, Tree};
@@ -92,10 +92,10 @@ fn inclusion_place(inclusion: &Inclusion) -> u64 {
 
 fn say_rule(words: &mut Words, scene: &Scene<'_>, tree: &Tree) {
     let place = place_in(scene);
-    match rule_at(tree, place) {
+    match around(tree.rules.items(), place) {
         Some(rule) if place < inclusion_place(&rule.inclusion) => say_guard(words, rule, place),
         Some(rule) => say_inclusion(words, tree, rule),
-        None => words.say(&["pools or kinds of values disagree here"]),
+        None => words.say("pools or kinds of values disagree here"),
     }
 }
 
@@ -133,8 +133,8 @@ fn say(alloc: Global, words: &mut Words, scene: &Scene<'_>, tree: &Tree, conditi
         Condition::Width => say_width(words, scene, tree),
         _ => {
             let (message, hint) = fixed_words(condition);
-            words.say(&[message]);
-            words.hint(&[hint]);
+            words.say(message);
+            words.hint(hint);
         }
     }
 }

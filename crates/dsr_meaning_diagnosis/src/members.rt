@@ -1,9 +1,8 @@
 // What is told of members that rules give to sets of other pools.
 use crate::guards::say_other_head;
-use dsr_declarations::{is_other_head, pool_of, read_field, set_named, target_of};
+use dsr_declarations::{is_other_head, named, pool_of, read_field, target_of};
 use dsr_passages::Words;
 use dsr_tree::{Member, MemberPart, Rule, Tree, Var};
-use dsr_wording::text_of;
 
 /// Adds where a field of a rule's record leads, or that it is a number.
 pub fn hint_field(words: &mut Words, tree: &Tree, rule: &Rule, name: &[u8]) {
@@ -11,23 +10,15 @@ pub fn hint_field(words: &mut Words, tree: &Tree, rule: &Rule, name: &[u8]) {
         return;
     };
     match target_of(field) {
-        Some(pool) => {
-            words.hint(&[
-                "`",
-                text_of(name),
-                "` leads to the pool `",
-                text_of(pool),
-                "`",
-            ]);
-        }
-        None => words.hint(&["`", text_of(name), "` is a number"]),
+        Some(pool) => words.hint_of("`{}` leads to the pool `{}`", &[name, pool]),
+        None => words.hint_of("`{}` is a number", &[name]),
     }
 }
 
 /// Adds of which pool a rule's record is, by its name.
 pub fn hint_record(words: &mut Words, tree: &Tree, rule: &Rule, name: &[u8]) {
-    let pool = text_of(pool_of(tree, rule).unwrap_or(b""));
-    words.hint(&["`", text_of(name), "` is a record of the pool `", pool, "`"]);
+    let pool = pool_of(tree, rule).unwrap_or(b"");
+    words.hint_of("`{}` is a record of the pool `{}`", &[name, pool]);
 }
 
 // Adds what is known of a member that a rule gives.
@@ -37,8 +28,10 @@ fn hint_member(words: &mut Words, tree: &Tree, rule: &Rule, member: &Member) {
             hint_field(words, tree, rule, field.name.bytes());
         }
         (Some(MemberPart::Slot(_)), Var::Name(pool)) => {
-            let pool = text_of(pool.name.bytes());
-            words.hint(&["what is given is a slot of the pool `", pool, "`"]);
+            words.hint_of(
+                "what is given is a slot of the pool `{}`",
+                &[pool.name.bytes()],
+            );
         }
         (None, Var::Name(name)) => hint_record(words, tree, rule, name.name.bytes()),
         _ => {}
@@ -57,18 +50,18 @@ fn gives_head(member: &Member) -> bool {
 /// That what a rule gives to a set isn't of its pool.
 pub fn say_member(words: &mut Words, tree: &Tree, rule: &Rule, member: &Member, set: &[u8]) {
     if gives_head(member) {
-        words.say(&["the head is in no set"]);
-        words.hint(&["a rule gives one of its references, as `head.f in S`"]);
+        words.say("the head is in no set");
+        words.hint("a rule gives one of its references, as `head.f in S`");
         return;
     }
     if is_other_head(rule, &member.var) {
         say_other_head(words, rule);
         return;
     }
-    words.say(&["what is given isn't of the set's pool"]);
+    words.say("what is given isn't of the set's pool");
     hint_member(words, tree, rule, member);
-    if let Some(declared) = set_named(tree, set) {
-        let pool = text_of(declared.pool.name.bytes());
-        words.hint(&["`", text_of(set), "` is a set of the pool `", pool, "`"]);
+    if let Some(declared) = named(tree.sets.items(), set) {
+        let pool = declared.pool.name.bytes();
+        words.hint_of("`{}` is a set of the pool `{}`", &[set, pool]);
     }
 }

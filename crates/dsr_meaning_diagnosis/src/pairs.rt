@@ -1,23 +1,26 @@
 // What is told of pairs that rules give to relations of other pools or kinds.
 use crate::guards::say_other_head;
 use crate::members::{hint_field, hint_record};
-use dsr_declarations::{is_other_head, read_field, relation_named};
+use dsr_declarations::{is_other_head, named, read_field};
 use dsr_passages::Words;
 use dsr_tree::{Path, Relation, Rule, Target, Term, Tree, Var};
-use dsr_wording::text_of;
 
 /// Adds what a relation relates.
 pub fn hint_related(words: &mut Words, relation: &Relation) {
-    let name = text_of(relation.name.name.bytes());
+    let name = relation.name.name.bytes();
     let source = match &relation.source {
-        Var::Head { place: _ } => "head",
-        Var::Name(pool) => text_of(pool.name.bytes()),
+        Var::Head { place: _ } => b"head",
+        Var::Name(pool) => pool.name.bytes(),
     };
-    let (what, pool, end) = match &relation.target {
-        Target::Number { place: _ } => ("numbers", "", ""),
-        Target::Pool(pool) => ("records of `", text_of(pool.name.bytes()), "`"),
-    };
-    words.hint(&["`", name, "` relates `", source, "` to ", what, pool, end]);
+    match &relation.target {
+        Target::Number { place: _ } => {
+            words.hint_of("`{}` relates `{}` to numbers", &[name, source]);
+        }
+        Target::Pool(pool) => {
+            let names = [name, source, pool.name.bytes()];
+            words.hint_of("`{}` relates `{}` to records of `{}`", &names);
+        }
+    }
 }
 
 // Whether `head` stands where a rule's record has a name.
@@ -46,13 +49,15 @@ fn is_slot_alone(tree: &Tree, rule: &Rule, term: &Term, path: &Path) -> bool {
 // Adds what the first part of a pair is.
 fn hint_source(words: &mut Words, tree: &Tree, rule: &Rule, term: &Term) {
     match term {
-        Term::Head { place: _ } => words.hint(&["the first part is the head"]),
+        Term::Head { place: _ } => words.hint("the first part is the head"),
         Term::Named {
             name,
             index: Some(_),
         } => {
-            let pool = text_of(name.name.bytes());
-            words.hint(&["the first part is a slot of the pool `", pool, "`"]);
+            words.hint_of(
+                "the first part is a slot of the pool `{}`",
+                &[name.name.bytes()],
+            );
         }
         Term::Named { name, index: None } => hint_record(words, tree, rule, name.name.bytes()),
     }
@@ -72,12 +77,12 @@ pub fn say_pair(
         return;
     }
     if is_slot_alone(tree, rule, term, path) {
-        words.say(&["behind a slot stands a field that is read at the index"]);
-        words.hint(&["write `<p[k], x.f[k]> in R` for an array f, or `<x, x.f> in R`"]);
+        words.say("behind a slot stands a field that is read at the index");
+        words.hint("write `<p[k], x.f[k]> in R` for an array f, or `<x, x.f> in R`");
         return;
     }
-    words.say(&["this pair isn't one of the relation"]);
-    if let Some(relation) = relation_named(tree, relation) {
+    words.say("this pair isn't one of the relation");
+    if let Some(relation) = named(tree.relations.items(), relation) {
         hint_related(words, relation);
     }
     hint_source(words, tree, rule, term);

@@ -1,28 +1,28 @@
 // What is told of a name that isn't declared as what it is used for.
 use dsr_declarations::{
-    Declared, Role, candidates, declared_as, field_of, head_of, in_words, many_in_words,
-    one_in_words, own_field, owner_of, place_in, role_of, rule_at, set_named, structure_named,
+    Declared, Role, around, candidates, declared_as, field_of, head_of, in_words, many_in_words,
+    named, one_in_words, own_field, owner_of, place_in, role_of,
 };
 use dsr_passages::{Declaration, Scene, Words, meant_by, name_in, push_quoted};
-use dsr_tree::Tree;
-use dsr_wording::{Text, text_of};
+use dsr_tree::{Structure, Tree};
+use dsr_wording::Text;
 use std::alloc::Global;
 
 // What may have been meant to be `Head`.
-const ALMOST_HEAD: [&str; 7] = [
-    "Header",
-    "HEAD",
-    "HEADER",
-    "Root",
-    "Superblock",
-    "SuperBlock",
-    "Super",
+const ALMOST_HEAD: &[&[u8]] = &[
+    b"Header",
+    b"HEAD",
+    b"HEADER",
+    b"Root",
+    b"Superblock",
+    b"SuperBlock",
+    b"Super",
 ];
 
 // A structure that may have been meant to be `Head`.
-fn almost_head(tree: &Tree) -> Option<&'static str> {
+fn almost_head(structures: &[Structure]) -> Option<&'static [u8]> {
     for name in ALMOST_HEAD {
-        if structure_named(tree, name.as_bytes()).is_some() {
+        if named(structures, name).is_some() {
             return Some(name);
         }
     }
@@ -31,16 +31,17 @@ fn almost_head(tree: &Tree) -> Option<&'static str> {
 
 // That there is no structure of the head.
 fn say_no_head(words: &mut Words, tree: &Tree) {
-    words.say(&["there is no structure `Head`, which is the record at byte 0"]);
-    match almost_head(tree) {
-        Some(name) => words.hint(&["if `", name, "` is that record, call it `Head`"]),
-        None => words.hint(&["write `structure Head { }` where nothing of that record is read"]),
+    words.say("there is no structure `Head`, which is the record at byte 0");
+    match almost_head(tree.structures.items()) {
+        Some(name) => words.hint_of("if `{}` is that record, call it `Head`", &[name]),
+        None => words.hint("write `structure Head { }` where nothing of that record is read"),
     }
 }
 
-const NOT_FIXED: &str = "` is a field of `Head` but not `fixed`: write `fixed` before its width";
+const NOT_FIXED: &str = "`{}` is a field of `Head` but not `fixed`: write `fixed` before its width";
 
-const INHERITED: &str = "`: expressions read fixed fields that `Head` itself declares";
+const INHERITED: &str =
+    "`Head` inherits `{}`: expressions read fixed fields that `Head` itself declares";
 
 // Adds why a field of the head serves in no expression; tells whether there is one of this name.
 fn hint_head_field(words: &mut Words, tree: &Tree, name: &[u8]) -> bool {
@@ -48,12 +49,12 @@ fn hint_head_field(words: &mut Words, tree: &Tree, name: &[u8]) -> bool {
         return false;
     };
     if own_field(head, name).is_some() {
-        words.hint(&["`", text_of(name), NOT_FIXED]);
+        words.hint_of(NOT_FIXED, &[name]);
         return true;
     }
     let is_inherited = field_of(tree, head, name).is_some();
     if is_inherited {
-        words.hint(&["`Head` inherits `", text_of(name), INHERITED]);
+        words.hint_of(INHERITED, &[name]);
     }
     is_inherited
 }
@@ -66,8 +67,8 @@ fn hint_field(words: &mut Words, tree: &Tree, name: &[u8], role: Role) -> bool {
     let Some(owner) = owner_of(tree, name) else {
         return false;
     };
-    let owner = text_of(owner.name.name.bytes());
-    words.hint(&["`", text_of(name), "` is a field of `", owner, "`"]);
+    let owner = owner.name.name.bytes();
+    words.hint_of("`{}` is a field of `{}`", &[name, owner]);
     true
 }
 
@@ -77,7 +78,7 @@ fn is_index(scene: &Scene<'_>, tree: &Tree, name: &[u8]) -> bool {
     if declaration != Declaration::Rule {
         return false;
     }
-    let Some(rule) = rule_at(tree, place_in(scene)) else {
+    let Some(rule) = around(tree.rules.items(), place_in(scene)) else {
         return false;
     };
     match &rule.span {
@@ -86,22 +87,19 @@ fn is_index(scene: &Scene<'_>, tree: &Tree, name: &[u8]) -> bool {
     }
 }
 
+const INDEX: &str = "`{}` is the rule's index, which stands in brackets alone";
+
 // Adds what the name is declared as in place of what it is used for; tells whether it is.
 fn hint_other(words: &mut Words, scene: &Scene<'_>, tree: &Tree, name: &[u8], role: Role) -> bool {
     if is_index(scene, tree, name) {
-        let text = text_of(name);
-        words.hint(&[
-            "`",
-            text,
-            "` is the rule's index, which stands in brackets alone",
-        ]);
+        words.hint_of(INDEX, &[name]);
         return true;
     }
     match declared_as(tree, name) {
         Some(Declared::Field) => hint_field(words, tree, name, role),
         Some(kind) => {
             let mut hint = Text::new(words.message.allocator());
-            hint.pieces(&["`", text_of(name), "` is "]);
+            hint.fill("`{}` is ", &[name]);
             hint.push(kind.in_words());
             words.add(hint);
             true
@@ -118,31 +116,32 @@ fn say_undeclared(
     name: &[u8],
     role: Role,
 ) -> bool {
-    if role == Role::PlainSet && set_named(tree, name).is_some() {
-        words.say(&[
-            "`",
-            text_of(name),
-            "` is a complement, which can't stand here",
-        ]);
+    if role == Role::PlainSet && named(tree.sets.items(), name).is_some() {
+        words.say_of("`{}` is a complement, which can't stand here", &[name]);
         return false;
     }
-    words.say(&["no ", in_words(role)]);
-    words.say(&[" is called `", text_of(name), "`"]);
+    words.say("no ");
+    words.say(in_words(role));
+    words.say_of(" is called `{}`", &[name]);
     hint_other(words, scene, tree, name, role)
+}
+
+// What is said before a list of so many things that are declared for the use.
+fn list_words(count: usize, role: Role) -> (&'static str, &'static str, &'static str) {
+    match count {
+        0 => ("there are no ", many_in_words(role), ""),
+        1 => ("the only ", one_in_words(role), " is "),
+        _ => ("the ", many_in_words(role), " are "),
+    }
 }
 
 // Adds what is declared for the use.
 fn hint_list(words: &mut Words, known: &[&[u8]], role: Role) {
-    if known.is_empty() {
-        words.hint(&["there are no ", many_in_words(role)]);
-        return;
-    }
     let mut hint = Text::new(words.message.allocator());
-    if known.len() == 1 {
-        hint.pieces(&["the only ", one_in_words(role), " is "]);
-    } else {
-        hint.pieces(&["the ", many_in_words(role), " are "]);
-    }
+    let (before, things, behind) = list_words(known.len(), role);
+    hint.push(before);
+    hint.push(things);
+    hint.push(behind);
     push_quoted(&mut hint, known, " and ");
     words.add(hint);
 }
@@ -150,7 +149,7 @@ fn hint_list(words: &mut Words, known: &[&[u8]], role: Role) {
 // Adds what was meant by a name, or what is declared for the use.
 fn hint_meant(alloc: Global, words: &mut Words, name: &[u8], known: &[&[u8]], role: Role) {
     match meant_by(alloc, name, known) {
-        Ok(Some(meant)) => words.hint(&["did you mean `", text_of(meant), "`?"]),
+        Ok(Some(meant)) => words.hint_of("did you mean `{}`?", &[meant]),
         Ok(None) => hint_list(words, known, role),
         Err(_) => words.cut(),
     }
@@ -167,8 +166,8 @@ pub fn say_unknown(alloc: Global, words: &mut Words, scene: &Scene<'_>, tree: &T
     };
     let role = role_of(scene, tree);
     if role == Role::Structure && name == b"Head".as_slice() {
-        words.say(&["`Head` can't stand here"]);
-        words.hint(&[NO_HEAD_HERE]);
+        words.say("`Head` can't stand here");
+        words.hint(NO_HEAD_HERE);
         return;
     }
     let is_other = say_undeclared(words, scene, tree, name, role);

@@ -1,10 +1,10 @@
 // What is told of bits: fields that begin inside a byte, and constants that are too wide.
-use dsr_declarations::{place_in, read_field, rule_at, structure_at};
+use dsr_declarations::{around, place_in, read_field};
 use dsr_passages::{Declaration, Scene, Words, keyword_in, name_in, number_in, sign_in};
 use dsr_tree::{
     Content, Field, Inclusion, Keyword, NamedField, Rule, Sign, Structure, Tree, Width,
 };
-use dsr_wording::{Text, text_of};
+use dsr_wording::Text;
 
 // How many bits an entry of this width has.
 fn bits_of(width: Width) -> u64 {
@@ -49,9 +49,9 @@ fn taken_before(structure: &Structure, place: u64) -> u64 {
 
 /// That a field of whole bytes begins inside a byte.
 pub fn say_unaligned(words: &mut Words, scene: &Scene<'_>, tree: &Tree) {
-    words.say(&["a field of whole bytes, an array or a `skip` begins inside a byte"]);
+    words.say("a field of whole bytes, an array or a `skip` begins inside a byte");
     let place = place_in(scene);
-    let Some(structure) = structure_at(tree, place) else {
+    let Some(structure) = around(tree.structures.items(), place) else {
         return;
     };
     let taken = taken_before(structure, place);
@@ -82,7 +82,7 @@ fn compared_field<'a>(scene: &Scene<'_>, tree: &'a Tree) -> Option<&'a NamedFiel
         _ => 2,
     };
     let name = name_in(scene.before(steps))?;
-    read_field(tree, rule_at(tree, place_in(scene))?, name)
+    read_field(tree, around(tree.rules.items(), place_in(scene))?, name)
 }
 
 // The field by which a rule gives numbers to a relation.
@@ -129,7 +129,7 @@ fn is_reset_at(field: &NamedField, place: u64) -> bool {
 // The field whose value after a reset stands at the place.
 fn reset_field<'a>(scene: &Scene<'_>, tree: &'a Tree) -> Option<&'a NamedField> {
     let place = place_in(scene);
-    for field in structure_at(tree, place)?.fields.items() {
+    for field in around(tree.structures.items(), place)?.fields.items() {
         if let Field::Named(named) = field
             && is_reset_at(named, place)
         {
@@ -154,7 +154,7 @@ fn narrow_field<'a>(scene: &Scene<'_>, tree: &'a Tree) -> Option<&'a NamedField>
 fn hint_width(words: &mut Words, field: &NamedField) {
     let bits = bits_of(field.width);
     let mut hint = Text::new(words.message.allocator());
-    hint.pieces(&["`", text_of(field.name.name.bytes()), "` has "]);
+    hint.fill("`{}` has ", &[field.name.name.bytes()]);
     hint.number(bits);
     hint.push(" bits, and holds numbers from 0 to ");
     hint.number(greatest(bits));
@@ -165,15 +165,15 @@ fn hint_width(words: &mut Words, field: &NamedField) {
 pub fn say_width(words: &mut Words, scene: &Scene<'_>, tree: &Tree) {
     let number = number_in(scene.found()).unwrap_or(0);
     if keyword_in(scene.before(1)) == Some(Keyword::Bits) {
-        words.say(&["a field can't have "]);
+        words.say("a field can't have ");
         words.message.number(number);
-        words.say(&[" bits"]);
-        words.hint(&["`bits N` takes N from 1 to 32"]);
+        words.say(" bits");
+        words.hint("`bits N` takes N from 1 to 32");
         return;
     }
-    words.say(&["the constant "]);
+    words.say("the constant ");
     words.message.number(number);
-    words.say(&[" doesn't fit its field"]);
+    words.say(" doesn't fit its field");
     if let Some(field) = narrow_field(scene, tree) {
         hint_width(words, field);
     }

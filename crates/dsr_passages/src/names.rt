@@ -51,13 +51,12 @@ fn before(number: usize, count: usize, last: &'static str) -> &'static str {
 
 /// Appends names in quotes, with `last` before the last one; of many only the first ones.
 pub fn push_quoted(text: &mut Text, names: &[&[u8]], last: &'static str) {
-    for (number, name) in names.iter().enumerate().take(MOST) {
+    for (number, name) in names.iter().enumerate() {
+        if number == MOST {
+            text.push(", ..");
+            return;
+        }
         text.push(before(number, names.len(), last));
-        text.push("`");
-        text.name(name);
-        text.push("`");
-    }
-    if names.len() > MOST {
-        text.push(", ..");
+        text.fill("`{}`", &[name]);
     }
 }

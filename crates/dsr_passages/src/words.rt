@@ -29,9 +29,14 @@ impl Words {
         self.is_cut = true;
     }
 
-    /// Says what is wrong, in pieces one behind the other.
-    pub fn say(&mut self, pieces: &[&str]) {
-        self.message.pieces(pieces);
+    /// Says what is wrong.
+    pub fn say(&mut self, text: &str) {
+        self.message.push(text);
+    }
+
+    /// The same in a template, with names in place of each `{}`.
+    pub fn say_of(&mut self, template: &str, names: &[&[u8]]) {
+        self.message.fill(template, names);
     }
 
     /// Adds a hint.
@@ -48,10 +53,17 @@ impl Words {
         }
     }
 
-    /// Adds a hint of pieces, one behind the other.
-    pub fn hint(&mut self, pieces: &[&str]) {
+    /// Adds a hint that is this text.
+    pub fn hint(&mut self, text: &str) {
         let mut hint = Text::new(self.message.allocator());
-        hint.pieces(pieces);
+        hint.push(text);
+        self.add(hint);
+    }
+
+    /// Adds a hint of a template, with names in place of each `{}`.
+    pub fn hint_of(&mut self, template: &str, names: &[&[u8]]) {
+        let mut hint = Text::new(self.message.allocator());
+        hint.fill(template, names);
         self.add(hint);
     }
 

@@ -1,109 +1,16 @@
-// Literals of constraints, with the records in place of their variables.
+// The values on which the truth of literals rests.
 ghost use Rattle.std.specs.Prelude.{◌↔◌, IfSome, IsTrue};
 ghost use Rattle.dsr_meaning.specs.Truth.{HasSize, HasVariable};
 ghost use Rattle.dsr_model.specs.Facts.{IsInModel};
 
 use crate::images::ImageModel;
 use crate::listing::{Which, push_members, push_records};
-use crate::names::{push_element, push_rel_name, push_set_name};
+use crate::literals::{Variables, push_measure, push_path};
+use crate::names::{push_element, push_rel_name};
 use crate::pairs::push_given;
-use dsr_ir::{Atom, Binding, Bound, Element, Literal, Measure, Op, Rel, Spec, Var};
+use dsr_ir::{Atom, Binding, Bound, Element, Literal, Measure, Rel, Var};
 use dsr_schema::element_of;
-use dsr_wording::{Text, sign_of};
-
-// Appends what a variable stands for.
-fn push_var(text: &mut Text, spec: &Spec, binding: &Binding, var: Var) {
-    if let Some(elem) = element_of(binding, var) {
-        push_element(text, spec, elem);
-    }
-}
-
-// Appends what is counted, as it is written.
-fn push_measured(text: &mut Text, spec: &Spec, binding: &Binding, measure: &Measure) {
-    match *measure {
-        Measure::Whole(set) => push_set_name(text, spec, set),
-        Measure::Out(var, rel) => push_path(text, spec, binding, var, rel),
-        Measure::Into(rel, var) => {
-            push_rel_name(text, spec, rel);
-            text.push(".");
-            push_var(text, spec, binding, var);
-        }
-    }
-}
-
-// Appends what a relation gives to a variable, as it is written.
-fn push_path(text: &mut Text, spec: &Spec, binding: &Binding, var: Var, rel: u32) {
-    push_var(text, spec, binding, var);
-    text.push(".");
-    push_rel_name(text, spec, rel);
-}
-
-// Appends a size.
-fn push_measure(text: &mut Text, spec: &Spec, binding: &Binding, measure: &Measure) {
-    text.push("size(");
-    push_measured(text, spec, binding, measure);
-    text.push(")");
-}
-
-// Appends what a value is compared with.
-fn push_bound(text: &mut Text, spec: &Spec, binding: &Binding, bound: &Bound) {
-    match bound {
-        Bound::Num(number) => text.number(*number),
-        Bound::Size(measure) => push_measure(text, spec, binding, measure),
-    }
-}
-
-// Appends a sign of comparison, between spaces.
-fn push_sign(text: &mut Text, op: Op) {
-    text.push(" ");
-    text.push(sign_of(op));
-    text.push(" ");
-}
-
-// Appends a pair.
-fn push_pair(text: &mut Text, spec: &Spec, binding: &Binding, first: Var, second: Var) {
-    text.push("<");
-    push_var(text, spec, binding, first);
-    text.push(", ");
-    push_var(text, spec, binding, second);
-    text.push("> in ");
-}
-
-// Appends an atom.
-fn push_atom(text: &mut Text, spec: &Spec, binding: &Binding, atom: &Atom) {
-    match atom {
-        Atom::Member(var, set) => {
-            push_var(text, spec, binding, *var);
-            text.push(" in ");
-            push_set_name(text, spec, *set);
-        }
-        Atom::Pair(first, second, rel) => {
-            push_pair(text, spec, binding, *first, *second);
-            push_rel_name(text, spec, *rel);
-        }
-        Atom::Count(measure, op, number) => {
-            push_measure(text, spec, binding, measure);
-            push_sign(text, *op);
-            text.number(*number);
-        }
-        Atom::Value(var, rel, op, bound) => {
-            push_path(text, spec, binding, *var, *rel);
-            push_sign(text, *op);
-            push_bound(text, spec, binding, bound);
-        }
-    }
-}
-
-/// Appends a literal, with the records in place of its variables.
-pub fn push_literal(text: &mut Text, spec: &Spec, binding: &Binding, literal: &Literal) {
-    if literal.given {
-        text.push("given ");
-    }
-    if literal.negated {
-        text.push("not ");
-    }
-    push_atom(text, spec, binding, &literal.atom);
-}
+use dsr_wording::Text;
 
 // The declaration of a relation.
 fn declared<'a>(image: &'a ImageModel<'_>, rel: u32) -> Option<&'a Rel> {
@@ -166,13 +73,6 @@ fn push_counted(text: &mut Text, image: &ImageModel<'_>, binding: &Binding, meas
     }
 }
 
-// Appends that a size is so much.
-fn push_size(text: &mut Text, spec: &Spec, binding: &Binding, measure: &Measure, size: u64) {
-    push_measure(text, spec, binding, measure);
-    text.push(" is ");
-    text.number(size);
-}
-
 // Appends a size with its number, and what is counted, behind a lead.
 fn push_size_value(
     text: &mut Text,
@@ -185,19 +85,17 @@ fn push_size_value(
         return;
     };
     text.push(lead);
-    push_size(text, image.spec, binding, measure, size);
+    push_measure(text, image.spec, Variables::Bound(binding), measure);
+    text.push(" is ");
+    text.number(size);
     if size > 0 {
         text.push(": ");
         push_counted(text, image, binding, measure);
     }
 }
 
-// Appends the values that a relation gives to a record.
-fn push_values_of(text: &mut Text, image: &ImageModel<'_>, source: Element, rel: u32) {
-    push_element(text, image.spec, source);
-    text.push(".");
-    push_rel_name(text, image.spec, rel);
-    text.push(" is ");
+// Appends what a relation gives to a record, or that this is nothing.
+fn push_all_out(text: &mut Text, image: &ImageModel<'_>, rel: u32, source: Element) {
     if push_out(text, image, rel, source) == 0 {
         text.push("nothing");
     }
@@ -214,7 +112,9 @@ fn push_value_of(
 ) {
     if let Some(source) = element_of(binding, var) {
         text.push(lead);
-        push_values_of(text, image, source, rel);
+        push_path(text, image.spec, Variables::Bound(binding), var, rel);
+        text.push(" is ");
+        push_all_out(text, image, rel, source);
     }
 }
 
@@ -224,9 +124,7 @@ fn push_targets(text: &mut Text, image: &ImageModel<'_>, source: Element, rel: u
     text.push(" leads from ");
     push_element(text, image.spec, source);
     text.push(" to ");
-    if push_out(text, image, rel, source) == 0 {
-        text.push("nothing");
-    }
+    push_all_out(text, image, rel, source);
 }
 
 // Appends the records to which a pair's relation leads, behind a lead.

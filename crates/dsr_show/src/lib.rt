@@ -1,11 +1,12 @@
-//! Images told to a person: records by their fields, sets and relations by what is in them, and
-//! violated constraints with the truth of each of their literals.
+//! Images told to a person: records by their fields, sets and relations by what is in them, literals,
+//! and violated constraints with the truth of each of their literals.
 #![tactic(auto)]
 
 mod atoms;
 mod facts;
 mod images;
 mod listing;
+mod literals;
 mod names;
 mod pairs;
 mod pictures;
@@ -15,6 +16,7 @@ mod violated;
 
 pub use images::{ImageModel, image_model};
 pub use listing::{push_set, push_summary};
+pub use literals::{Variables, push_literal, push_measure, push_var};
 pub use names::{push_binding, push_element};
 pub use pairs::push_relation;
 pub use pictures::push_picture;

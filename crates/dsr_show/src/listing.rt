@@ -102,9 +102,7 @@ pub fn push_set(text: &mut Text, image: &ImageModel<'_>, set: u32) {
 
 // Appends that a pool has so many slots.
 fn push_slot_count(text: &mut Text, name: &[u8], count: u64) {
-    text.push("pool ");
-    text.name(name);
-    text.push(": ");
+    text.fill("pool {}: ", &[name]);
     text.number(count);
     text.push(" slots\n");
 }

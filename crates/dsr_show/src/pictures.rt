@@ -62,12 +62,8 @@ fn push_facts(text: &mut Text, image: &ImageModel<'_>, symbol: Symbol, name: &[u
     }
 }
 
-// Appends the name of a violated constraint that has no records.
-fn push_violated_name(text: &mut Text, name: &[u8]) {
-    text.push("  \"");
-    text.name(name);
-    text.push(" is violated\" [shape=plaintext, fontcolor=red];\n");
-}
+// The name of a violated constraint that has no records.
+const VIOLATED: &str = "  \"{} is violated\" [shape=plaintext, fontcolor=red];\n";
 
 // Appends the two records of a violation.
 fn push_violated_pair(
@@ -85,7 +81,7 @@ fn push_violated_pair(
 // Appends a violation: its records, or its constraint where it has none.
 fn push_violated(text: &mut Text, image: &ImageModel<'_>, name: &[u8], binding: &Binding) {
     match *binding {
-        Binding::Once => push_violated_name(text, name),
+        Binding::Once => text.fill(VIOLATED, &[name]),
         Binding::Each(elem) => push_node(text, image, elem, " [color=red, fontcolor=red]"),
         Binding::Pair(first, second) => push_violated_pair(text, image, first, second, name),
     }
@@ -103,7 +99,7 @@ pub fn push_picture(text: &mut Text, image: &ImageModel<'_>, violated: &[(u32, B
     for (number, rel) in image.spec.base.rels.items().iter().enumerate() {
         push_facts(text, image, Symbol::Rel(numbered(number)), rel.name.bytes());
     }
-    for (constraint, binding) in violated.iter().take(DRAWN) {
+    for (constraint, binding) in violated.get(..DRAWN).unwrap_or(violated) {
         push_violated(
             text,
             image,

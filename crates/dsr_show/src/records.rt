@@ -1,6 +1,6 @@
 // Records by their fields.
 use crate::images::ImageModel;
-use crate::names::{push_element, push_rel_name};
+use crate::names::push_element;
 use crate::pairs::{gives_any, push_given};
 use crate::values::{field_value, is_member};
 use dsr_answers::pool_name;
@@ -129,9 +129,7 @@ fn push_field(
     number: FieldRef,
     field: &Field,
 ) {
-    text.push("  ");
-    text.name(field.name.bytes());
-    text.push(": ");
+    text.fill("  {}: ", &[field.name.bytes()]);
     push_content(text, image, elem, number, field.kind);
     text.push("\n");
 }
@@ -189,9 +187,7 @@ fn push_sets(text: &mut Text, image: &ImageModel<'_>, elem: Element) {
 
 // Appends what a relation gives to a record, as a line.
 fn push_row(text: &mut Text, image: &ImageModel<'_>, elem: Element, number: u32, rel: &Rel) {
-    text.push("  ");
-    push_rel_name(text, image.spec, number);
-    text.push(": ");
+    text.fill("  {}: ", &[rel.name.bytes()]);
     let _listed = push_given(text, image, number, rel, elem);
     text.push("\n");
 }

@@ -1,6 +1,7 @@
 // A violated binding of a constraint, with the truth of each literal.
-use crate::atoms::{push_literal, push_values_behind};
+use crate::atoms::push_values_behind;
 use crate::images::ImageModel;
+use crate::literals::{Variables, push_literal};
 use crate::names::push_binding;
 use dsr_ir::{Binding, Conj, Literal};
 use dsr_truth::literal as is_true;
@@ -13,7 +14,7 @@ fn push_truth(text: &mut Text, image: &ImageModel<'_>, binding: &Binding, litera
     } else {
         "    false: "
     });
-    push_literal(text, image.spec, binding, literal);
+    push_literal(text, image.spec, Variables::Bound(binding), literal);
     push_values_behind(text, "; ", image, binding, literal);
     text.push("\n");
 }

@@ -41,42 +41,28 @@ fn may_break(graph: &Graph, number: u32, constraint: &Constraint, other: u32) ->
     false
 }
 
-// Appends an edge from a constraint to another one.
-fn push_edge(text: &mut Text, from: &Constraint, to: &Constraint, attributes: &str) {
-    text.push("  \"");
-    text.name(from.name.bytes());
-    text.push("\" -> \"");
-    text.name(to.name.bytes());
-    text.push(attributes);
-}
+// Edges from a constraint to another one.
+const MAY_BREAK: &str = "  \"{}\" -> \"{}\" [label=\"may break\"];\n";
 
-const MAY_BREAK: &str = "\" [label=\"may break\"];\n";
-
-const RELIES_ON: &str = "\" [label=\"relies on\", style=dashed];\n";
+const RELIES_ON: &str = "  \"{}\" -> \"{}\" [label=\"relies on\", style=dashed];\n";
 
 // Appends the edges from a constraint.
 fn push_edges(text: &mut Text, spec: &Spec, graph: &Graph, number: u32, constraint: &Constraint) {
     for (other, its) in spec.constraints.items().iter().enumerate() {
+        let names = [constraint.name.bytes(), its.name.bytes()];
         if may_break(graph, number, constraint, numbered(other)) {
-            push_edge(text, constraint, its, MAY_BREAK);
+            text.fill(MAY_BREAK, &names);
         }
         if relies(graph, number, numbered(other)) {
-            push_edge(text, constraint, its, RELIES_ON);
+            text.fill(RELIES_ON, &names);
         }
     }
-}
-
-// Appends a constraint as a node.
-fn push_node(text: &mut Text, constraint: &Constraint) {
-    text.push("  \"");
-    text.name(constraint.name.bytes());
-    text.push("\" [shape=box];\n");
 }
 
 // Appends the constraints, each with the edges from it.
 fn push_nodes(text: &mut Text, spec: &Spec, graph: &Graph) {
     for (number, constraint) in spec.constraints.items().iter().enumerate() {
-        push_node(text, constraint);
+        text.fill("  \"{}\" [shape=box];\n", &[constraint.name.bytes()]);
         push_edges(text, spec, graph, numbered(number), constraint);
     }
 }

@@ -4,10 +4,10 @@
 #![tactic(auto)]
 
 mod dot;
-mod literals;
 mod templates;
+mod variables;
 mod ways;
 
 pub use dot::push_graph;
-pub use literals::{Variables, push_literal, variables_of};
+pub use variables::variables_of;
 pub use ways::push_repairs;

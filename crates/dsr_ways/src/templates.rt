@@ -1,7 +1,7 @@
 // Templates in words: what is written where.
-use crate::literals::{Variables, push_measure, var_name};
 use dsr_answers::{field_name, pool_name};
 use dsr_ir::{At, Goal, Pick, Place, Spec, Template, Update, Write};
+use dsr_show::{Variables, push_measure, push_var};
 use dsr_wording::Text;
 
 // What a template is for.
@@ -20,11 +20,11 @@ fn purpose(goal: Goal) -> &'static str {
 }
 
 // Appends the record that is written.
-fn place_name<'a>(variables: &Variables<'a>, place: Place) -> &'a str {
+fn push_place(text: &mut Text, spec: &Spec, variables: Variables<'_>, place: Place) {
     match place {
-        Place::Head => "head",
-        Place::Of(var) => var_name(variables, var),
-        Place::Deriver => "the record that gives it",
+        Place::Head => text.push("head"),
+        Place::Of(var) => push_var(text, spec, variables, var),
+        Place::Deriver => text.push("the record that gives it"),
     }
 }
 
@@ -37,11 +37,11 @@ fn entry_name(at: At) -> &'static str {
 }
 
 // Appends the value that is written.
-fn push_pick(text: &mut Text, spec: &Spec, variables: &Variables<'_>, pick: &Pick) {
+fn push_pick(text: &mut Text, spec: &Spec, variables: Variables<'_>, pick: &Pick) {
     match pick {
         Pick::Num(number) => text.number(*number),
         Pick::NoneCode => text.push("none"),
-        Pick::CodeOf(var) => text.push(var_name(variables, *var)),
+        Pick::CodeOf(var) => push_var(text, spec, variables, *var),
         Pick::Fresh => text.push("the fresh record"),
         Pick::SizeOf(measure) => push_measure(text, spec, variables, measure),
     }
@@ -51,15 +51,14 @@ fn push_pick(text: &mut Text, spec: &Spec, variables: &Variables<'_>, pick: &Pic
 fn push_write(
     text: &mut Text,
     spec: &Spec,
-    variables: &Variables<'_>,
+    variables: Variables<'_>,
     update: &Update,
     write: &Write,
 ) {
     let number = write.path.field;
     text.push("; ");
-    text.push(place_name(variables, update.place));
-    text.push(".");
-    text.name(field_name(spec, number.structure, number.field));
+    push_place(text, spec, variables, update.place);
+    text.fill(".{}", &[field_name(spec, number.structure, number.field)]);
     text.push(entry_name(update.at));
     text.push(" := ");
     push_pick(text, spec, variables, &write.pick);
@@ -70,14 +69,12 @@ fn push_rule(text: &mut Text, spec: &Spec, update: &Update) {
     text.push("; by rule ");
     text.number(u64::from(update.rule.saturating_add(1)));
     if let Some(pool) = update.fresh {
-        text.push("; a fresh record of ");
-        text.name(pool_name(spec, pool));
-        text.push(" is reset");
+        text.fill("; a fresh record of {} is reset", &[pool_name(spec, pool)]);
     }
 }
 
 // Appends an update.
-fn push_update(text: &mut Text, spec: &Spec, variables: &Variables<'_>, update: &Update) {
+fn push_update(text: &mut Text, spec: &Spec, variables: Variables<'_>, update: &Update) {
     push_rule(text, spec, update);
     for write in update.writes.items() {
         push_write(text, spec, variables, update, write);
@@ -85,7 +82,7 @@ fn push_update(text: &mut Text, spec: &Spec, variables: &Variables<'_>, update: 
 }
 
 /// Appends what a template writes.
-pub fn push_template(text: &mut Text, spec: &Spec, variables: &Variables<'_>, template: &Template) {
+pub fn push_template(text: &mut Text, spec: &Spec, variables: Variables<'_>, template: &Template) {
     text.push(purpose(template.goal));
     for update in template.updates.items() {
         push_update(text, spec, variables, update);

@@ -1,13 +1,17 @@
 // How each constraint would be repaired.
+ghost use Rattle.std.specs.Prelude.{◌≡◌, option_map};
 ghost use Rattle.dsr_meaning.specs.Typed.{IsTyped};
+ghost use Rattle.dsr_plan_theory.specs.Plans.{way_at};
+ghost use Rattle.dsr_ways.specs.TakenNumbers.{told_number};
 
-use crate::literals::{Variables, push_literal, variables_of};
 use crate::templates::push_template;
+use crate::variables::variables_of;
 use dsr_answers::constraint_name;
 use dsr_command_plan::{Found, find};
 use dsr_graph::{Graph, Position, breaks, falsifies, graph, ways};
 use dsr_ir::{Conj, Constraint, Literal, Spec};
 use dsr_plan_theory::{Row, Way};
+use dsr_show::{Variables, push_literal};
 use dsr_tree::Tree;
 use dsr_wording::{Text, numbered};
 
@@ -27,14 +31,32 @@ fn row_of<'a>(repairs: &Repairs<'a>, constraint: u32) -> Option<&'a Row> {
     }
 }
 
+// The way of a row for a literal.
+fn way_of<'a>(row: &'a Row, conj: u32, literal: u32) -> Option<&'a Way>
+    ensures { option_map (λ way. way.now) result ≡ way_at row.now conj literal }
+{
+    match row.ways.items().get(conj as usize) {
+        Some(ways) => ways.items().get(literal as usize),
+        None => None,
+    }
+}
+
+// The number of the template of a way, counted from 1; 0 where the literal is tested.
+fn number_of(way: &Way) -> u32
+    ensures { result ≡ told_number way.now }
+{
+    match way {
+        Way::Test => 0,
+        Way::By(number, _) => *number,
+    }
+}
+
 // The number of the template that the plan takes for a literal, counted from 1; 0 where it is
 // tested, none where there is no plan.
 fn taken(repairs: &Repairs<'_>, at: Position) -> Option<u32> {
-    let row = row_of(repairs, at.constraint)?;
-    let ways = row.ways.items().get(at.conj as usize)?;
-    match ways.items().get(at.literal as usize)? {
-        Way::Test => Some(0),
-        Way::By(number, _) => Some(*number),
+    match way_of(row_of(repairs, at.constraint)?, at.conj, at.literal) {
+        Some(way) => Some(number_of(way)),
+        None => None,
     }
 }
 
@@ -66,7 +88,7 @@ fn push_broken(text: &mut Text, repairs: &Repairs<'_>, at: Position, way: u32) {
 fn push_listed(
     text: &mut Text,
     repairs: &Repairs<'_>,
-    variables: &Variables<'_>,
+    variables: Variables<'_>,
     at: Position,
     taken: Option<u32>,
 ) {
@@ -87,7 +109,7 @@ fn push_listed(
 }
 
 // Appends what is done for a literal.
-fn push_ways(text: &mut Text, repairs: &Repairs<'_>, variables: &Variables<'_>, at: Position) {
+fn push_ways(text: &mut Text, repairs: &Repairs<'_>, variables: Variables<'_>, at: Position) {
     let taken = taken(repairs, at);
     push_listed(text, repairs, variables, at, taken);
     if taken == Some(0) {
@@ -102,7 +124,7 @@ fn push_ways(text: &mut Text, repairs: &Repairs<'_>, variables: &Variables<'_>, 
 fn push_literal_ways(
     text: &mut Text,
     repairs: &Repairs<'_>,
-    variables: &Variables<'_>,
+    variables: Variables<'_>,
     at: Position,
     literal: &Literal,
 ) {
@@ -120,7 +142,7 @@ fn push_literal_ways(
 fn push_conj(
     text: &mut Text,
     repairs: &Repairs<'_>,
-    variables: &Variables<'_>,
+    variables: Variables<'_>,
     constraint: u32,
     number: u32,
     conj: &Conj,
@@ -153,7 +175,7 @@ fn push_heading(text: &mut Text, repairs: &Repairs<'_>, number: u32) {
 fn push_constraint(
     text: &mut Text,
     repairs: &Repairs<'_>,
-    variables: &Variables<'_>,
+    variables: Variables<'_>,
     number: u32,
     constraint: &Constraint,
 ) {
@@ -168,7 +190,7 @@ fn push_constraints(text: &mut Text, repairs: &Repairs<'_>, tree: &Tree) {
     for (number, constraint) in repairs.spec.constraints.items().iter().enumerate() {
         let number = numbered(number);
         let variables = variables_of(tree, number);
-        push_constraint(text, repairs, &variables, number, constraint);
+        push_constraint(text, repairs, variables, number, constraint);
     }
 }
 

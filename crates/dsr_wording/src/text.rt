@@ -36,6 +36,19 @@ impl Text {
         }
     }
 
+    /// Appends a template, with names in place of each `{}`.
+    pub fn fill(&mut self, template: &str, names: &[&[u8]]) {
+        let mut rest = template;
+        for name in names {
+            if let Some((before, behind)) = rest.split_once("{}") {
+                self.push(before);
+                self.name(name);
+                rest = behind;
+            }
+        }
+        self.push(rest);
+    }
+
     /// Appends what a value shows of itself.
     pub fn shown<D: Display>(&mut self, value: &D) {
         if write!(self.text, "{value}").is_err() {

@@ -79,6 +79,45 @@ pub fn asked_of<'a>(command: &str, given: &ArgMatches<'a>) -> Option<Asked<'a>> 
     }
 }
 
+// A list of words that grows. That memory ran out is kept, and told in the end.
+#[derive(Drop)]
+struct Words {
+    words: Vec<String>,
+    is_cut: bool,
+}
+
+impl Words {
+    fn new(alloc: Global) -> Words {
+        Words {
+            words: Vec::new(alloc),
+            is_cut: false,
+        }
+    }
+
+    // Adds a word that was made.
+    fn push(&mut self, word: String) {
+        if self.words.push(word).is_err() {
+            self.is_cut = true;
+        }
+    }
+
+    // Adds a copy of a word.
+    fn add(&mut self, word: &str) {
+        match word.to_string(*self.words.allocator()) {
+            Ok(word) => self.push(word),
+            Err(_) => self.is_cut = true,
+        }
+    }
+
+    // All of the words, or that memory ran out.
+    fn whole(self) -> Result<Vec<String>, NoMemory> {
+        if self.is_cut {
+            return Err(NoMemory);
+        }
+        Ok(self.words)
+    }
+}
+
 // The word that stands for an argument; none where it isn't given.
 fn word_of<'a>(given: &ArgMatches<'a>, argument: Argument) -> Option<&'a str> {
     match argument.kind {
@@ -97,22 +136,22 @@ pub fn words_of(
     command: &str,
     given: &ArgMatches<'_>,
 ) -> Result<Vec<String>, NoMemory> {
-    let mut words = Vec::new(alloc);
-    words.push(command.to_string(alloc)?)?;
+    let mut words = Words::new(alloc);
+    words.add(command);
     for argument in arguments_of(command) {
         if let Some(word) = word_of(given, *argument) {
-            words.push(word.to_string(alloc)?)?;
+            words.add(word);
         }
     }
-    Ok(words)
+    words.whole()
 }
 
 /// The same words with one more file behind them.
 pub fn with_file(alloc: Global, words: &[String], file: &str) -> Result<Vec<String>, NoMemory> {
-    let mut more = Vec::new(alloc);
+    let mut more = Words::new(alloc);
     for word in words {
-        more.push(word.clone()?)?;
+        more.add(word.as_str());
     }
-    more.push(file_name(file).to_string(alloc)?)?;
-    Ok(more)
+    more.add(file_name(file));
+    more.whole()
 }

@@ -1,5 +1,5 @@
 // The words that the program takes.
-use crate::table::{Argument, COMMANDS, Entry, Kind};
+use crate::table::{Argument, Entry, Kind, commands};
 use clap::{Arg, ArgAction, Command};
 use std::alloc::{AllocError, Global};
 
@@ -18,42 +18,82 @@ const JSON: Argument = Argument {
     help: "Answer with one JSON document, as docs/JSON.md says",
 };
 
+// How what is read of an argument is kept.
+fn action_of(kind: Kind) -> ArgAction {
+    match kind {
+        Kind::Flag => ArgAction::SetTrue,
+        Kind::Reads => ArgAction::Append,
+        _ => ArgAction::Set,
+    }
+}
+
+// An argument without what tells how it is written.
+fn described_arg<'a>(alloc: Global, argument: Argument) -> Arg<'a> {
+    Arg::new(alloc, argument.name)
+        .required(argument.required)
+        .help(argument.help)
+        .action(action_of(argument.kind))
+}
+
 // An argument as it is read.
 fn arg_of<'a>(alloc: Global, argument: Argument) -> Arg<'a> {
-    let arg = Arg::new(alloc, argument.name)
-        .required(argument.required)
-        .help(argument.help);
+    let arg = described_arg(alloc, argument);
     match argument.kind {
-        Kind::Flag => arg.long(argument.name).action(ArgAction::SetTrue),
-        Kind::Reads => arg.action(ArgAction::Append).num_args(1..),
-        _ => arg.action(ArgAction::Set),
+        Kind::Flag => arg.long(argument.name),
+        Kind::Reads => arg.num_args(1..),
+        _ => arg,
     }
+}
+
+// The arguments of a command.
+fn args_of<'a>(alloc: Global, arguments: &[Argument]) -> Result<Vec<Arg<'a>>, AllocError> {
+    let mut args = Vec::new(alloc);
+    for argument in arguments {
+        args.push(arg_of(alloc, *argument))?;
+    }
+    Ok(args)
 }
 
 // A command with its arguments.
 fn command_of<'a>(alloc: Global, entry: Entry) -> Result<Command<'a>, AllocError> {
-    let mut command = Command::new(alloc, entry.name).about(entry.about);
-    for argument in entry.arguments {
-        command = command.arg(arg_of(alloc, *argument))?;
-    }
-    Ok(command)
+    let args = args_of(alloc, entry.arguments)?;
+    Command::new(alloc, entry.name)
+        .about(entry.about)
+        .args(args)
 }
 
-// The program without its commands.
-fn program<'a>(alloc: Global) -> Result<Command<'a>, AllocError> {
+// Adds a command.
+fn add<'a>(subcommands: &mut Vec<Command<'a>>, entry: Entry) -> Result<(), AllocError> {
+    let command = command_of(*subcommands.allocator(), entry)?;
+    subcommands.push(command)?;
+    Ok(())
+}
+
+// All commands.
+fn subcommands<'a>(alloc: Global) -> Result<Vec<Command<'a>>, AllocError> {
+    let mut subcommands = Vec::new(alloc);
+    for entry in commands() {
+        add(&mut subcommands, *entry)?;
+    }
+    Ok(subcommands)
+}
+
+// The program with what its help tells.
+fn described<'a>(alloc: Global) -> Command<'a> {
     Command::new(alloc, "jumshido")
         .version(VERSION)
         .about(ABOUT)
         .after_help(AFTER)
         .subcommand_required(true)
-        .arg(arg_of(alloc, JSON).global(true))
+}
+
+// The program without its commands.
+fn program<'a>(alloc: Global) -> Result<Command<'a>, AllocError> {
+    described(alloc).arg(arg_of(alloc, JSON).global(true))
 }
 
 /// The whole command line. Words of any lifetime can be read by it.
 pub fn command_line<'a>(alloc: Global) -> Result<Command<'a>, AllocError> {
-    let mut program = program(alloc)?;
-    for entry in COMMANDS {
-        program = program.subcommand(command_of(alloc, *entry)?)?;
-    }
-    Ok(program)
+    let subcommands = subcommands(alloc)?;
+    program(alloc)?.subcommands(subcommands)
 }

@@ -1,5 +1,5 @@
 // What shells are to read to complete the words of this program.
-use crate::table::COMMANDS;
+use crate::table::commands;
 use dsr_ir::NoMemory;
 use dsr_wording::Text;
 use std::alloc::Global;
@@ -65,7 +65,7 @@ const HELP: &str = "Print the help of a command";
 
 // Appends the names of all commands.
 fn push_names(text: &mut Text) {
-    for entry in COMMANDS {
+    for entry in commands() {
         text.push(entry.name);
         text.push(" ");
     }
@@ -87,7 +87,7 @@ fn push_zsh(text: &mut Text, name: &str, about: &str) {
 
 fn zsh(text: &mut Text) {
     text.push(ZSH);
-    for entry in COMMANDS {
+    for entry in commands() {
         push_zsh(text, entry.name, entry.about);
     }
     push_zsh(text, "help", HELP);
@@ -106,7 +106,7 @@ fn fish(text: &mut Text) {
     text.push(FISH);
     push_names(text);
     text.push("\nend\n");
-    for entry in COMMANDS {
+    for entry in commands() {
         push_fish(text, entry.name, entry.about);
     }
     push_fish(text, "help", HELP);

@@ -13,13 +13,11 @@ mod running;
 mod table;
 
 use crate::answers::answer;
+use dsr_script::Status;
 use std::alloc::{AllocError, Global};
 use std::env::{self, Args};
 use std::io::{self, IsTerminal};
 use std::process::ExitCode;
-
-// The status of want of memory, as that of `dsr`.
-const NO_MEMORY: u8 = 10;
 
 // The words, with the program's name. Words that the system can't give as text ask for nothing.
 fn words_of(alloc: Global, given: io::Result<Args>) -> Result<Vec<String>, AllocError> {
@@ -33,14 +31,14 @@ fn main(rt: HostRuntime) -> ExitCode {
     let alloc = rt.alloc();
     let words = match words_of(alloc, env::args(&rt)) {
         Ok(words) => words,
-        Err(_) => return ExitCode::from(NO_MEMORY),
+        Err(_) => return ExitCode::from(Status::NoMemory.number()),
     };
     let coloured = rt.stderr().is_terminal();
     match answer(&rt, alloc, &words, coloured) {
-        Ok(status) => ExitCode::from(status),
+        Ok(status) => ExitCode::from(status.number()),
         Err(_) => {
             let _ = eprintln!(rt; "jumshido: there is not enough memory");
-            ExitCode::from(NO_MEMORY)
+            ExitCode::from(Status::NoMemory.number())
         }
     }
 }

@@ -3,12 +3,13 @@ use crate::colours::coloured;
 use crate::reasons::reason;
 use dsr_input::InputShelf;
 use dsr_ir::NoMemory;
+use dsr_script::{Status, Verdict};
 use dsr_store::{Sink, StdSink};
 use std::alloc::Global;
 use std::rt::Files;
 
-// The status of a text that couldn't be put, as that of `dsr`.
-const OUTPUT_FAILED: u8 = 8;
+/// That what was asked for is done.
+pub const DONE: Status = Status::Said(Verdict::Ok);
 
 /// How answers are given.
 #[derive(Clone, Copy)]
@@ -28,14 +29,14 @@ pub fn tell<R: Eprint>(rt: &R, alloc: Global, text: &str, colours: bool) {
 }
 
 /// Puts an answer to the standard output, and gives the status.
-pub fn put<R: Print + Eprint>(rt: &R, alloc: Global, text: &[u8], status: u8) -> u8 {
+pub fn put<R: Print + Eprint>(rt: &R, alloc: Global, text: &[u8], status: Status) -> Status {
     let mut sink = StdSink { rt, faults: 0 };
     match sink.put(alloc, text) {
         Ok(()) => status,
         Err(_) => {
             let told = "error: the answer can't be written to the standard output\n";
             tell(rt, alloc, told, false);
-            OUTPUT_FAILED
+            Status::OutputFailed
         }
     }
 }

@@ -36,16 +36,16 @@ fn folder_of(name: &str) -> &str {
     }
 }
 
-const NO_FILE: &str = ", for want of leave or of room";
+const NO_FILE: &str = "no file can be made in the folder {}, for want of leave or of room";
 
 // Why no file can be made in a folder, as far as can be told without making one.
 fn push_folder_reason<R: Files>(text: &mut Text, rt: &R, name: &str) {
     let folder = folder_of(name);
     match fs::metadata(rt, folder) {
-        Ok(found) if !found.is_dir() => text.pieces(&[folder, " is no folder"]),
-        Ok(_found) => text.pieces(&["no file can be made in the folder ", folder, NO_FILE]),
+        Ok(found) if !found.is_dir() => text.fill("{} is no folder", &[folder.as_bytes()]),
+        Ok(_found) => text.fill(NO_FILE, &[folder.as_bytes()]),
         Err(error) => {
-            text.pieces(&["the folder ", folder, ": "]);
+            text.fill("the folder {}: ", &[folder.as_bytes()]);
             text.shown(&error);
         }
     }

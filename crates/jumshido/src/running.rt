@@ -1,6 +1,6 @@
 // Commands that are run, each to its status.
 use crate::asking::{Asked, with_file};
-use crate::putting::{Manner, missed_told, put, tell};
+use crate::putting::{DONE, Manner, missed_told, put, tell};
 use dsr_cli::run;
 use dsr_explain::{Shown, draw, explained, from_c, show, tell as tell_spec};
 use dsr_input::InputShelf;
@@ -10,9 +10,6 @@ use dsr_script::Status;
 use dsr_store::{Shelf, SureSink};
 use std::alloc::Global;
 use std::rt::Files;
-
-// The status of a file that can't be read, as that of `dsr`.
-const STORE_FAILED: u8 = 7;
 
 // How a command of `dsr` ended, with its answer.
 #[derive(Drop)]
@@ -62,16 +59,44 @@ fn run_plain<R: Files + Print + Eprint>(
     alloc: Global,
     words: &Vec<String>,
     colours: bool,
-) -> Result<u8, NoMemory> {
+) -> Result<Status, NoMemory> {
     let mut shelf = InputShelf::new(rt, alloc);
     let outcome = outcome_of(alloc, words, &mut shelf)?;
-    let number = put(rt, alloc, &outcome.answer, outcome.status.number());
+    let status = put(rt, alloc, &outcome.answer, outcome.status);
     // The answer is put: what it means can't change the status.
     match meaning_of(rt, alloc, &mut shelf, words, &outcome) {
         Ok(told) => tell(rt, alloc, told.as_str(), colours),
         Err(_) => tell(rt, alloc, NO_MORE, colours),
     }
-    Ok(number)
+    Ok(status)
+}
+
+// Puts an answer as a document, in a line.
+fn put_document<R: Print + Eprint>(
+    rt: &R,
+    alloc: Global,
+    words: &[String],
+    status: Status,
+    answer: &[u8],
+    told: &str,
+) -> Result<Status, NoMemory> {
+    let answer = String::from_utf8_lossy(alloc, answer)?;
+    let mut text = document(alloc, words, &status, answer.as_str(), told)?;
+    text.push('\n')?;
+    Ok(put(rt, alloc, text.as_bytes(), status))
+}
+
+// Puts what a command of `dsr` answered as a document, with what that means.
+fn put_outcome<R: Files + Print + Eprint>(
+    rt: &R,
+    alloc: Global,
+    shelf: &mut InputShelf<'_, R>,
+    words: &[String],
+    outcome: &Outcome,
+) -> Result<Status, NoMemory> {
+    let told = meaning_of(rt, alloc, shelf, words, outcome)?;
+    let (status, answer) = (outcome.status, outcome.answer.as_slice());
+    put_document(rt, alloc, words, status, answer, told.as_str())
 }
 
 // Runs a command of `dsr`, and answers with a document.
@@ -79,27 +104,10 @@ fn run_json<R: Files + Print + Eprint>(
     rt: &R,
     alloc: Global,
     words: &Vec<String>,
-) -> Result<u8, NoMemory> {
+) -> Result<Status, NoMemory> {
     let mut shelf = InputShelf::new(rt, alloc);
     let outcome = outcome_of(alloc, words, &mut shelf)?;
-    let told = meaning_of(rt, alloc, &mut shelf, words, &outcome)?;
-    let number = outcome.status.number();
-    put_document(rt, alloc, words, number, &outcome.answer, told.as_str())
-}
-
-// Puts an answer as a document.
-fn put_document<R: Print + Eprint>(
-    rt: &R,
-    alloc: Global,
-    words: &[String],
-    status: u8,
-    answer: &[u8],
-    told: &str,
-) -> Result<u8, NoMemory> {
-    let answer = String::from_utf8_lossy(alloc, answer)?;
-    let mut text = document(alloc, words, status, answer.as_str(), told)?;
-    text.push('\n')?;
-    Ok(put(rt, alloc, text.as_bytes(), status))
+    put_outcome(rt, alloc, &mut shelf, words, &outcome)
 }
 
 /// Runs a command of `dsr`.
@@ -108,7 +116,7 @@ pub fn run_dsr<R: Files + Print + Eprint>(
     alloc: Global,
     words: &Vec<String>,
     manner: Manner,
-) -> Result<u8, NoMemory> {
+) -> Result<Status, NoMemory> {
     if manner.json {
         run_json(rt, alloc, words)
     } else {
@@ -117,60 +125,88 @@ pub fn run_dsr<R: Files + Print + Eprint>(
 }
 
 // Puts which image an answer is of, and gives the status.
-fn put_heading<R: Print + Eprint>(rt: &R, alloc: Global, image: &str) -> u8 {
+fn put_heading<R: Print + Eprint>(rt: &R, alloc: Global, image: &str) -> Status {
     for piece in ["image ", image, "\n"] {
-        let status = put(rt, alloc, piece.as_bytes(), 0);
-        if status != 0 {
+        let status = put(rt, alloc, piece.as_bytes(), DONE);
+        if status != DONE {
             return status;
         }
     }
-    0
+    DONE
 }
 
-/// Checks each image, and gives the greatest status.
+// The status with the greater number.
+fn greater(one: Status, other: Status) -> Status {
+    if one.number() < other.number() {
+        other
+    } else {
+        one
+    }
+}
+
+// Checks an image.
+fn check<R: Files + Print + Eprint>(
+    rt: &R,
+    alloc: Global,
+    words: &[String],
+    image: &str,
+    manner: Manner,
+) -> Result<Status, NoMemory> {
+    let words = with_file(alloc, words, image)?;
+    run_dsr(rt, alloc, &words, manner)
+}
+
+/// Checks each image, and gives the status with the greatest number.
 pub fn check_all<R: Files + Print + Eprint>(
     rt: &R,
     alloc: Global,
     words: &[String],
     images: &[&str],
     manner: Manner,
-) -> Result<u8, NoMemory> {
-    let mut status = 0;
+) -> Result<Status, NoMemory> {
+    let has_headings = images.len() > 1 && !manner.json;
+    let mut status = DONE;
     for image in images {
-        if images.len() > 1 && !manner.json {
-            status = status.max(put_heading(rt, alloc, image));
+        if has_headings {
+            status = greater(status, put_heading(rt, alloc, image));
         }
-        let words = with_file(alloc, words, image)?;
-        status = status.max(run_dsr(rt, alloc, &words, manner)?);
+        status = greater(status, check(rt, alloc, words, image, manner)?);
     }
     Ok(status)
 }
 
-// Puts what a command of this program shows.
-fn put_shown<R: Files + Print + Eprint>(
+// Puts what a command of this program shows, and tells what is told of it.
+fn put_shown<R: Print + Eprint>(
+    rt: &R,
+    alloc: Global,
+    words: &[String],
+    shown: &Shown,
+    told: &str,
+    manner: Manner,
+) -> Result<Status, NoMemory> {
+    let (status, text) = (shown.status, shown.text.as_bytes());
+    if manner.json {
+        return put_document(rt, alloc, words, status, text, told);
+    }
+    let status = put(rt, alloc, text, status);
+    tell(rt, alloc, told, manner.colours);
+    Ok(status)
+}
+
+// The same. Where a file couldn't be read the system tells why.
+fn put_asked<R: Files + Print + Eprint>(
     rt: &R,
     alloc: Global,
     shelf: &InputShelf<'_, R>,
     words: &[String],
     shown: &Shown,
     manner: Manner,
-) -> Result<u8, NoMemory> {
-    let missed = if shown.status == STORE_FAILED {
-        missed_told(rt, alloc, shelf)?
-    } else {
-        String::new(alloc)
-    };
-    let told = if missed.is_empty() {
-        shown.told.as_str()
-    } else {
-        missed.as_str()
-    };
-    if manner.json {
-        return put_document(rt, alloc, words, shown.status, shown.text.as_bytes(), told);
+) -> Result<Status, NoMemory> {
+    if !matches!(shown.status, Status::StoreFailed) {
+        return put_shown(rt, alloc, words, shown, shown.told.as_str(), manner);
     }
-    let number = put(rt, alloc, shown.text.as_bytes(), shown.status);
-    tell(rt, alloc, told, manner.colours);
-    Ok(number)
+    let missed = missed_told(rt, alloc, shelf)?;
+    put_shown(rt, alloc, words, shown, missed.as_str(), manner)
 }
 
 // What is shown where this is asked.
@@ -190,8 +226,8 @@ pub fn run_asked<R: Files + Print + Eprint>(
     words: &[String],
     asked: Asked<'_>,
     manner: Manner,
-) -> Result<u8, NoMemory> {
+) -> Result<Status, NoMemory> {
     let mut shelf = InputShelf::new(rt, alloc);
     let shown = shown_of(alloc, &mut shelf, asked)?;
-    put_shown(rt, alloc, &shelf, words, &shown, manner)
+    put_asked(rt, alloc, &shelf, words, &shown, manner)
 }

@@ -150,8 +150,7 @@ const SHELL: Argument = Argument {
     help: "bash, zsh or fish",
 };
 
-/// The commands: those of `dsr`, and then those that are of this program alone.
-pub const COMMANDS: &[Entry] = &[
+const COMMANDS: &[Entry] = &[
     Entry {
         name: "check",
         about: "Tell whether images are consistent, and each violated constraint with its values",
@@ -244,9 +243,15 @@ pub const COMMANDS: &[Entry] = &[
     },
 ];
 
+/// The commands: those of `dsr`, and then those that are of this program alone. Each function that
+/// names a table is proved with all of it, so this one alone does.
+pub fn commands() -> &'static [Entry] {
+    COMMANDS
+}
+
 /// The arguments of a command.
 pub fn arguments_of(command: &str) -> &'static [Argument] {
-    for entry in COMMANDS {
+    for entry in commands() {
         if entry.name == command {
             return entry.arguments;
         }

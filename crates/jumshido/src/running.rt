@@ -1,4 +1,7 @@
 // Commands that are run, each to its status.
+ghost use Rattle.std.specs.Prelude.{◌≡◌, ◌≤◌, ◌⊎◌};
+ghost use Rattle.dsr_script.specs.Statuses.{status_number};
+
 use crate::asking::{Asked, with_file};
 use crate::putting::{DONE, Manner, missed_told, put, tell};
 use dsr_cli::run;
@@ -136,7 +139,11 @@ fn put_heading<R: Print + Eprint>(rt: &R, alloc: Global, image: &str) -> Status 
 }
 
 // The status with the greater number.
-fn greater(one: Status, other: Status) -> Status {
+fn greater(one: Status, other: Status) -> Status
+    ensures among { (result ≡ one) ⊎ (result ≡ other) }
+    ensures first { status_number one ≤ status_number result }
+    ensures second { status_number other ≤ status_number result }
+{
     if one.number() < other.number() {
         other
     } else {

@@ -7,12 +7,16 @@ use dsr_script::{Told, Verdict};
 use itoa::Buffer;
 use std::alloc::Global;
 
-/// Appends a piece. Most are a few constant bytes, which the caller then writes by itself.
+/// Appends a piece. Most are constant, and many of these one byte, which the caller then writes by
+/// itself.
 #[inline(always)]
 pub fn push(text: &mut Vec<u8>, piece: &[u8]) -> Result<(), NoMemory>
     ensures { OnOk result (text.new.items ≡ text.old.items ++ piece.now) }
 {
-    text.extend_from_slice(piece)?;
+    match piece {
+        [byte] => text.push(*byte)?,
+        _ => text.extend_from_slice(piece)?,
+    }
     Ok(())
 }
 

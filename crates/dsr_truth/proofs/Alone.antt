@@ -1,18 +1,21 @@
 -- Constraints that have one literal alone, and bindings of a constraint's own quantifier.
-use Rattle.std.proofs.Common.{◌≡◌, ◌↔◌, Bool, true, false, List, [], ◌∷◌, Option, Some, All, IsTrue, refl, sym, ap, subst, inl}
+use Rattle.std.proofs.Common.{◌≡◌, ◌↔◌, ℕ, Bool, true, false, List, [], ◌∷◌, Option, None, Some, All, IsTrue, refl, sym, ap, subst, inl}
 use Rattle.std.specs.Prelude.{MatchBool}
 use Rattle.std.proofs.lemmas.List.Elements.{All-cons, All-head, All-nil}
 use Rattle.dsr_ir.specs.declared.constraints.Conj.{Conj}
 use Rattle.dsr_ir.specs.declared.constraints.Constraint.{Constraint}
 use Rattle.dsr_ir.specs.declared.constraints.Literal.{Literal}
 use Rattle.dsr_ir.specs.declared.constraints.Quant.{Quant}
+use Rattle.dsr_ir.specs.declared.constraints.Quant.TheVariants as quants
 use Rattle.dsr_ir.specs.declared.tuples.Binding.{Binding}
+use Rattle.dsr_ir.specs.declared.tuples.Binding.TheVariants as bindings
 use Rattle.dsr_ir.specs.declared.tuples.Fact.{Fact}
-use Rattle.dsr_meaning.specs.Consistency.{ConjHolds}
+use Rattle.dsr_meaning.specs.Consistency.{ConjHolds, IsBinding}
 use Rattle.dsr_meaning.specs.Counting.{IsIn}
 use Rattle.dsr_meaning.specs.Truth.{LiteralHolds}
+use Rattle.dsr_truth.proofs.Satisfying.{some_or_none}
 use Rattle.dsr_truth.specs.Only.{only_in, only_literal, only_of}
-use Rattle.dsr_truth.specs.Walks.{FindsLeastBinding, IsLaterBinding, IsSatisfied, IsUnsatisfied}
+use Rattle.dsr_truth.specs.Walks.{FindsLeastBinding, HoldsForPairs, IsLaterBinding, IsSatisfied, IsUnsatisfied, IsViolatedAt}
 
 same_literal : {l m : Literal} → Some l ≡ Some m → l ≡ m
 same_literal e = cc
@@ -53,3 +56,18 @@ pub own_next : (is_fact : Fact → Type 0) (c : Constraint) (q : Quant) (last an
     → FindsLeastBinding (IsLaterBinding is_fact c.quant last) answer
 own_next is_fact c q last answer same next =
     subst (λ k. FindsLeastBinding (IsLaterBinding is_fact k last) answer) (sym same) next
+
+-- no pair violates a constraint over pairs whose only literal is true for any two records
+pub pairs_hold : (is_fact : Fact → Type 0) (c : Constraint) (rel : ℕ) → c.quant ≡ quants.Pairs rel → HoldsForPairs is_fact (only_literal c)
+    → (b : Binding) → IsViolatedAt is_fact c b → ⊥
+pairs_hold is_fact c rel over holds b violated = by_literal (only_literal c) refl holds b
+    (subst (λ q. IsBinding is_fact q b) over violated.0) violated.1
+  where
+    by_literal : (only : Option Literal) → only_literal c ≡ only → HoldsForPairs is_fact only → (b : Binding)
+        → IsBinding is_fact (quants.Pairs rel) b → IsUnsatisfied is_fact b c → ⊥
+    by_literal None is holds b bound unsatisfied = absurd holds
+    by_literal (Some l) is holds bindings.Once bound unsatisfied = absurd bound
+    by_literal (Some l) is holds (bindings.Each e) bound unsatisfied = absurd bound
+    by_literal (Some l) is holds (bindings.Pair x y) bound unsatisfied =
+        let satisfied = met is_fact (bindings.Pair x y) c.conjs l is (holds x y) in
+        some_or_none (ConjHolds is_fact (bindings.Pair x y)) c.conjs satisfied unsatisfied

@@ -180,3 +180,12 @@ module _ (Values : ℕ → Type 0) (number : ℕ) where
 
   pub tells_other : (op : Op) (has : Bool) → op ≡ Ne → IsTrue has ↔ Values number → Tells op (not has)
   tells_other op has is told = subst (λ o. Tells o (not has)) (sym is) (all_other has told)
+
+-- a size that isn't greater than one that is small enough is small enough
+pub smaller_compares : (op : Op) (n most k : ℕ) → (op ≡ Lt) ⊎ (op ≡ Le) → n ≤ most → Compares op most k → Compares op n k
+smaller_compares op n most k (inl is) few meets =
+    let less : most < k = subst (λ o. Compares o most k) is meets in
+    subst (λ o. Compares o n k) (sym is) (omega (arith, few, less))
+smaller_compares op n most k (inr is) few meets =
+    let less : most ≤ k = subst (λ o. Compares o most k) is meets in
+    subst (λ o. Compares o n k) (sym is) (omega (arith, few, less))

@@ -148,6 +148,19 @@ module _ (is_fact : Fact → Type 0) (spec : Spec) (k : ℕ) (c : Constraint)
       ];
     }
 
+  -- no binding is violated
+  pub found_sound : (vs : List BoundConstraint) → ((b : Binding) → IsViolatedAt is_fact c b → ⊥)
+      → AreFound is_fact spec k None vs → AreFound is_fact spec (k + 1) None vs
+  found_sound vs none found = record {
+    in_order = found.in_order;
+    all = λ v violated less. elim (cases_eq v.constraint k) [
+      | inl same ↦ absurd (none v.binding (violated_at v same violated))
+      | inr other ↦ found.all v violated (omega (arith, less, other))
+    ];
+    only = found.only;
+    passed = λ v here. let less = found.passed v here in omega (arith, less);
+  }
+
   -- no further binding comes
   pub found_end : (last : Option Binding) (vs : List BoundConstraint)
       → FindsLeastBinding (IsLaterBinding is_fact c.quant last) None

@@ -1,7 +1,8 @@
 -- Walks over the bindings of a constraint, and what of its violated bindings was found on the way.
-use Rattle.std.specs.Prelude.{◌≡◌, ◌<◌, ◌⊎◌, ⊤, ℕ, List, Option, None, Some, MatchOption, All}
+use Rattle.std.specs.Prelude.{◌≡◌, ◌<◌, ◌⊎◌, ⊤, ℕ, List, Option, None, Some, IsSomeAnd, MatchOption, All}
 use Rattle.dsr_ir.specs.declared.constraints.Conj.{Conj}
 use Rattle.dsr_ir.specs.declared.constraints.Constraint.{Constraint}
+use Rattle.dsr_ir.specs.declared.constraints.Literal.{Literal}
 use Rattle.dsr_ir.specs.declared.constraints.Quant.{Quant}
 use Rattle.dsr_ir.specs.declared.constraints.Quant.TheVariants as quants
 use Rattle.dsr_ir.specs.declared.declarations.Spec.{Spec}
@@ -15,6 +16,7 @@ use Rattle.dsr_ir.specs.declared.updates.Symbol.TheVariants.{Set, Rel}
 use Rattle.dsr_meaning.specs.Consistency.{AreInOrder, BoundConstraint, ConjHolds, IsBinding, IsViolated, bound_constraint}
 use Rattle.dsr_meaning.specs.Counting.{IsIn}
 use Rattle.dsr_meaning.specs.Orders.{BindingPrecedes}
+use Rattle.dsr_meaning.specs.Truth.{LiteralHolds}
 use Rattle.dsr_model.specs.Facts.{MayBeOf, facts_after}
 use Rattle.dsr_model.specs.Views.{ModelView}
 
@@ -26,6 +28,11 @@ IsSatisfied is_fact b constraint =
 -- no conjunction has all its literals true
 abbrev pub IsUnsatisfied : (Fact → Type 0) → Binding → Constraint → Type 0
 IsUnsatisfied is_fact b constraint = All (λ conj. ConjHolds is_fact b conj → ⊥) constraint.conjs
+
+-- the literal is true for any two records
+abbrev pub HoldsForPairs : (Fact → Type 0) → Option Literal → Type 0
+HoldsForPairs is_fact only =
+    IsSomeAnd only (λ literal. (x : Element) (y : Element) → LiteralHolds is_fact (bindings.Pair x y) literal)
 
 -- the binding is one of the quantifier, and no conjunction has all its literals true
 abbrev pub IsViolatedAt : (Fact → Type 0) → Constraint → Binding → Type 0

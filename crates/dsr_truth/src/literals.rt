@@ -1,5 +1,7 @@
 // When literals and conjunctions are true.
 ghost use Rattle.std.specs.Prelude.{◌≡◌, ◌↔◌, ℕ, true, Some, IfSome, IsFalse, IsSome, IsTrue, IsSomeAnd, MatchBool, MatchOption, slice_get};
+ghost use Rattle.dsr_ir.specs.declared.tuples.Binding.TheVariants as bindings;
+ghost use Rattle.dsr_ir.specs.declared.tuples.Element as elements;
 ghost use Rattle.dsr_ir.specs.declared.tuples.Fact.TheVariants as facts;
 ghost use Rattle.dsr_ir.specs.declared.constraints.Atom.TheVariants as atoms;
 ghost use Rattle.dsr_ir.specs.declared.constraints.Measure.TheVariants as measures;
@@ -11,7 +13,7 @@ ghost use Rattle.dsr_meaning.specs.Truth.{AtomHolds, HasBound, HasSize, LiteralH
 ghost use Rattle.dsr_model.specs.Facts.{IsInModel};
 ghost use Rattle.dsr_truth.specs.Only as said;
 ghost use Rattle.dsr_truth.specs.Values.{FindsGreatestValue, ReachDown, ReachUp, SomeFails};
-ghost use Rattle.dsr_truth.specs.Walks.{IsSatisfied, IsUnsatisfied};
+ghost use Rattle.dsr_truth.specs.Walks.{HoldsForPairs, IsSatisfied, IsUnsatisfied};
 
 use dsr_ir::{
     Atom, Binding, Bound, Conj, Constraint, Element, Fact, Literal, Measure, Op, Spec, Target, Var,
@@ -278,6 +280,43 @@ fn sources_of_second(measure: Measure) -> Option<u32>
     match measure {
         Measure::Into(rel, Var::Second) => Some(rel),
         _ => None,
+    }
+}
+
+// Whether how many sources the second variable has meets the comparison, whatever its record is:
+// where no target has too many.
+fn sources_compare(model: &Model, measure: Measure, op: Op, number: u64) -> bool
+    requires { model.now.ordered ≡ true }
+    ensures { IsTrue result → (x : elements.Element) (y : elements.Element)
+        → AtomHolds (IsInModel model.now) (bindings.Pair x y) (atoms.Count measure op number) }
+{
+    let Some(rel) = sources_of_second(measure) else {
+        return false;
+    };
+    let Some(most) = model.most_sources(rel) else {
+        return false;
+    };
+    match op {
+        Op::Lt | Op::Le => compares(op, most, number),
+        Op::Eq | Op::Ne | Op::Gt | Op::Ge => false,
+    }
+}
+
+// Whether the only literal of a constraint over pairs is true for any two records, as it can be
+// told without a look at them.
+pub fn holds_for_pairs(model: &Model, only: Option<Literal>) -> bool
+    requires { model.now.ordered ≡ true }
+    ensures { IsTrue result → HoldsForPairs (IsInModel model.now) only }
+{
+    let Some(literal) = only else {
+        return false;
+    };
+    if literal.negated {
+        return false;
+    }
+    match literal.atom {
+        Atom::Count(measure, op, number) => sources_compare(model, measure, op, number),
+        Atom::Member(_, _) | Atom::Pair(_, _, _) | Atom::Value(_, _, _, _) => false,
     }
 }
 

@@ -7,7 +7,7 @@ ghost use Rattle.dsr_model.specs.Facts.{IsInModel};
 ghost use Rattle.dsr_truth.specs.Walks.{AreFound, FindsLeastBinding, IsLaterViolated, IsViolatedAt, IsViolatedFrom, IsViolatedOf, MayBind};
 ghost use Rattle.dsr_meaning.specs.Limits.{most_constraints};
 
-use crate::literals::{is_met, is_satisfied, only_literal, sources_literal};
+use crate::literals::{holds_for_pairs, is_met, is_satisfied, only_literal, sources_literal};
 use crate::walks::{is_binding, next_binding};
 use dsr_ir::{Binding, Constraint, Literal, NoMemory, Quant, Spec};
 use dsr_model::Model;
@@ -57,6 +57,9 @@ fn next_violated_pair(
 {
     let quant = Quant::Pairs(rel);
     let only = only_literal(constraint);
+    if holds_for_pairs(model, only) {
+        return None;
+    }
     match sources_literal(only) {
         Some(known) => next_violated_over(model, constraint, quant, Some(known), before),
         None => next_violated_over(model, constraint, quant, only, before),
@@ -129,6 +132,9 @@ fn pair_violations(
 {
     let quant = Quant::Pairs(rel);
     let only = only_literal(constraint);
+    if holds_for_pairs(model, only) {
+        return Ok(());
+    }
     match sources_literal(only) {
         Some(known) => {
             violations_over(model, spec, number, constraint, quant, Some(known), found)

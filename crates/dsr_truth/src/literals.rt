@@ -308,13 +308,13 @@ pub fn holds_for_pairs(model: &Model, only: Option<Literal>) -> bool
     requires { model.now.ordered ≡ true }
     ensures { IsTrue result → HoldsForPairs (IsInModel model.now) only }
 {
-    let Some(literal) = only else {
+    let Some(alone) = only else {
         return false;
     };
-    if literal.negated {
+    if alone.negated {
         return false;
     }
-    match literal.atom {
+    match alone.atom {
         Atom::Count(measure, op, number) => sources_compare(model, measure, op, number),
         Atom::Member(_, _) | Atom::Pair(_, _, _) | Atom::Value(_, _, _, _) => false,
     }

@@ -1,3 +1,1 @@
-pub mod NoCommand
 pub mod Stages
-pub mod TrialNumbers

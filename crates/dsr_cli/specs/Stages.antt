@@ -9,8 +9,8 @@ use Rattle.dsr_tree.specs.Trees.{TreeShape}
 use Rattle.dsr_language_theory.specs.Specifications.{specification}
 use Rattle.dsr_cli.specs.declared.waiting.Waiting.{Waiting}
 use Rattle.dsr_cli.specs.declared.waiting.Waiting.TheVariants as stages
-use Rattle.dsr_cli.specs.declared.words.Task.{Task}
-use Rattle.dsr_cli.specs.declared.words.Task.TheVariants as tasks
+use Rattle.dsr_words.specs.declared.commands.Task.{Task}
+use Rattle.dsr_words.specs.declared.commands.Task.TheVariants as tasks
 use Rattle.dsr_meaning.specs.Limits.{most_bytes}
 
 -- what a task comes to, once the text of the specification was read as this tree

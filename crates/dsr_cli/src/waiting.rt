@@ -2,7 +2,7 @@
 ghost use Rattle.std.specs.Prelude.{◌≡◌, ◌≤◌, ◌+◌, IfOk, Some, length};
 ghost use Rattle.dsr_command_theory.specs.Commands as commands;
 ghost use Rattle.dsr_command_theory.specs.Commands.{audits, edits, lays_out, loads_certificate, loads_edited, loads_explained, loads_for, loads_image, loads_listed, loads_repaired, loads_undone, opens, plans_audit, plans_repair, reads, repairs, saves_plan, script_of, tells_text, undoes};
-ghost use Rattle.dsr_cli.specs.Asking.{asked_of};
+ghost use Rattle.dsr_words.specs.Asking.{asked_of};
 ghost use Rattle.dsr_cli.specs.Stages.{comes_to, due, is_ready, left, loaded_for};
 ghost use Rattle.dsr_meaning.specs.Typed.{IsTyped};
 ghost use Rattle.dsr_plan_theory.specs.Taken.{IsTaken};
@@ -12,7 +12,6 @@ ghost use Rattle.dsr_step_theory.specs.Images.{IsImageOf};
 ghost use Rattle.dsr_tree.specs.Trees.{tree_shape};
 ghost use Rattle.dsr_meaning.specs.Limits.{most_bytes};
 
-use crate::words::{Command, Task, command_of};
 use dsr_answers::told;
 use dsr_command_audit::{Laid, Undone, audit, lay_out, undo};
 use dsr_command_certify::{Certified, certify, verify};
@@ -27,6 +26,7 @@ use dsr_parse::print;
 use dsr_plan_theory::{Choice, Plan};
 use dsr_script::{Commands, Move, Stage, Told, Verdict};
 use dsr_tree::Tree;
+use dsr_words::{Command, Task, command_of};
 use std::alloc::{AllocError, Global};
 
 /// The most bytes of a specification's text.

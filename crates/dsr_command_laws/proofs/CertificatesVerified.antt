@@ -3,7 +3,7 @@ use Rattle.std.proofs.Common.{◌≡◌, ◌≢◌, ◌↔◌, ℕ, List, codes,
 use Rattle.std.proofs.lemmas.Option.{same_Some}
 use Rattle.dsr_command_laws.proofs.Tellings.{Speaks, means_same, meant, never_refused, refused_verdict, second_told, spoken}
 use Rattle.dsr_command_theory.specs.Commands.{asked, certificate_limit, script_of}
-use Rattle.dsr_command_theory.specs.Words.{Verify, command_of}
+use Rattle.dsr_words.specs.Words.{Verify, command_of}
 use Rattle.dsr_command_certify.proofs.Excluding.{not_flawed, not_wrong}
 use Rattle.dsr_command_certify.specs.Verified.{IsCertificate, IsVerifyAnswer, flawed, valid, wrong}
 use Rattle.dsr_ir.specs.declared.declarations.Spec.{Spec}

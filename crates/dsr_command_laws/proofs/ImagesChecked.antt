@@ -4,7 +4,7 @@ use Rattle.std.proofs.lemmas.Option.{same_Some}
 use Rattle.dsr_answers.specs.Texts.{verdict_answer}
 use Rattle.dsr_command_laws.proofs.Tellings.{SecondRun, Speaks, means_same, meant, never_refused, refused_verdict, second_told, spoken}
 use Rattle.dsr_command_theory.specs.Commands.{asked, image_limit, script_of}
-use Rattle.dsr_command_theory.specs.Words.{Check, command_of}
+use Rattle.dsr_words.specs.Words.{Check, command_of}
 use Rattle.dsr_command_image.specs.Checked.{IsCheckAnswer, checked, refused}
 use Rattle.dsr_ir.specs.declared.declarations.Spec.{Spec}
 use Rattle.dsr_ir.specs.declared.layouts.Layout.{Layout}

@@ -4,7 +4,7 @@ use Rattle.std.proofs.lemmas.Option.{same_Some}
 use Rattle.std.specs.FinMap.{get}
 use Rattle.dsr_command_laws.proofs.Tellings.{ReadText, RefusedRun, Speaks, loads_never, means_same, meant, never_refused, refused_verdict, spoken, text_loaded, whole}
 use Rattle.dsr_command_theory.specs.Commands.{asked, ends, image_limit, loads_damaged, loads_spec, plans_repair, reads, script_of}
-use Rattle.dsr_command_theory.specs.Words.{Repair, command_of}
+use Rattle.dsr_words.specs.Words.{Repair, command_of}
 use Rattle.dsr_ir.specs.declared.declarations.Spec.{Spec}
 use Rattle.dsr_meaning.specs.Refusals.{Refusal, first_of, refusals}
 use Rattle.dsr_compile_laws.specs.Meanings.{HaveOneMeaning}

@@ -2,7 +2,7 @@
 use Rattle.std.proofs.Common.{◌≡◌, ◌≢◌, ◌⊎◌, ℕ, List, [], ◌∷◌, Some, sym, subst, ◌∙◌, inl, inr}
 use Rattle.dsr_command_laws.proofs.Tellings.{ReadText, RefusedRun, Speaks, means_same, meant, never_refused, refused_verdict, spoken, text_loaded}
 use Rattle.dsr_command_theory.specs.Commands.{asked, certifies, loads_spec, reads, saves_plan, script_of}
-use Rattle.dsr_command_theory.specs.Words.{Certify, command_of}
+use Rattle.dsr_words.specs.Words.{Certify, command_of}
 use Rattle.dsr_cert.specs.Certificates.{certificate_text}
 use Rattle.dsr_command_certify.specs.Certified.{certified_answer}
 use Rattle.dsr_command_certify.specs.Verified.{IsCertificate}

@@ -2,7 +2,7 @@
 use Rattle.std.proofs.Common.{◌≡◌, ◌≢◌, ℕ, List, Some, sym, ap, subst, ◌∙◌, inl, inr}
 use Rattle.dsr_command_laws.proofs.Tellings.{Speaks, means_same, meant, never_refused, read_told, refused_verdict, spoken}
 use Rattle.dsr_command_theory.specs.Commands.{asked, script_of}
-use Rattle.dsr_command_theory.specs.Words.{Plan, command_of}
+use Rattle.dsr_words.specs.Words.{Plan, command_of}
 use Rattle.dsr_ir.specs.declared.declarations.Spec.{Spec}
 use Rattle.dsr_compile_laws.specs.Meanings.{HaveOneMeaning}
 use Rattle.dsr_command_plan.specs.Planned as planned

@@ -16,7 +16,7 @@ use Rattle.dsr_command_plan.specs.Planned as planned
 use Rattle.dsr_command_plan.specs.declared.plans.Found as plans
 use Rattle.dsr_command_plan.specs.declared.plans.Found.TheVariants as plan_found
 use Rattle.dsr_command_theory.specs.Commands.{asked, audits as audits_script, image_limit, lays_out, loads_audited, loads_for, loads_spec, loads_told, plans_audit, reads, report_limit, script_of}
-use Rattle.dsr_command_theory.specs.Words.{Audit, command_of}
+use Rattle.dsr_words.specs.Words.{Audit, command_of}
 use Rattle.dsr_compile_laws.specs.Meanings.{HaveOneMeaning}
 use Rattle.dsr_ir.specs.declared.declarations.Spec.{Spec}
 use Rattle.dsr_language_laws.proofs.SpelledTrees.{names_spelled}

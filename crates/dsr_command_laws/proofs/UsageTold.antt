@@ -5,7 +5,7 @@ use Rattle.dsr_answers.specs.Texts.{layout_answer, verdict_answer}
 use Rattle.dsr_command_laws.proofs.Tellings.{Spoken, spoken}
 use Rattle.dsr_command_theory.specs.Commands.{asked, audits, certifies, checks, edits, ends, explains, goes_on, lays_out, lists_lost, loads_audited, loads_certificate, loads_damaged, loads_edited, loads_explained, loads_for, loads_image, loads_listed, loads_repaired, loads_script, loads_spec, loads_told, loads_undone, opens, plans_audit, plans_repair, reads, repairs, saves_plan, script_of, tells_plan, tells_text, undoes, usage, verifies}
 use Rattle.dsr_command_theory.specs.Usage.{AskForNothing}
-use Rattle.dsr_command_theory.specs.Words.{Asked, Audit, Certify, Check, Edit, Lost, Plan, Repair, Text, Trial, Undo, Verify, Why, command_of}
+use Rattle.dsr_words.specs.Words.{Asked, Audit, Certify, Check, Edit, Lost, Plan, Repair, Text, Trial, Undo, Verify, Why, command_of}
 use Rattle.dsr_cert.specs.Certificates.{certificate_text}
 use Rattle.dsr_command_image.specs.Checked.{IsCheckAnswer, checked, refused}
 use Rattle.dsr_command_certify.specs.Certified.{certified_answer}

@@ -9,7 +9,7 @@ use Rattle.dsr_command_laws.specs.Repairs.{HasLayout, IsTold, WasUnlaid, WasUnpl
 use Rattle.dsr_command_laws.specs.UndoHeadlines.{IsToUndo}
 use Rattle.dsr_command_theory.specs.Commands.{image_limit, report_limit, spec_limit}
 use Rattle.dsr_command_theory.specs.Plans.{HasPlan}
-use Rattle.dsr_command_theory.specs.Words.{Audit, command_of}
+use Rattle.dsr_words.specs.Words.{Audit, command_of}
 use Rattle.dsr_ir.specs.declared.declarations.Spec.{Spec}
 use Rattle.dsr_ir.specs.declared.layouts.Layout.{Layout}
 use Rattle.dsr_language_theory.specs.Specifications.{IsSpecificationOf}

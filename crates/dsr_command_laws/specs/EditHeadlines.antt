@@ -7,7 +7,7 @@ use Rattle.dsr_command_edit.specs.Opened.{IsOpen}
 use Rattle.dsr_command_image.specs.Repaired.{Ending, Saves, Tells}
 use Rattle.dsr_command_laws.specs.Repairs.{HasLayout, IsTold, WasUnlaid}
 use Rattle.dsr_command_theory.specs.Commands.{image_limit, script_limit, spec_limit}
-use Rattle.dsr_command_theory.specs.Words.{Edit, command_of}
+use Rattle.dsr_words.specs.Words.{Edit, command_of}
 use Rattle.dsr_edit_text.specs.Scripts.{IsFirstWrong, IsScript, SetText}
 use Rattle.dsr_ir.specs.declared.declarations.Spec.{Spec}
 use Rattle.dsr_ir.specs.declared.layouts.Layout.{Layout}

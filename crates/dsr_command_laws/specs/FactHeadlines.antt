@@ -4,7 +4,7 @@ use Rattle.std.specs.FinMap.{get}
 use Rattle.dsr_chain_laws.specs.Shortest.{FirstChain, IsShortest}
 use Rattle.dsr_command_laws.specs.Repairs.{IsTold}
 use Rattle.dsr_command_theory.specs.Commands.{image_limit, spec_limit}
-use Rattle.dsr_command_theory.specs.Words.{Lost, Why, command_of}
+use Rattle.dsr_words.specs.Words.{Lost, Why, command_of}
 use Rattle.dsr_command_why.specs.Facts.{fact_text}
 use Rattle.dsr_command_why.specs.Losts.{lost_answer}
 use Rattle.dsr_command_why.specs.Whys.{AreLines, chain_answer, no_chain_answer, outside_answer}

@@ -22,7 +22,7 @@ use Rattle.dsr_tree.specs.Trees.{TreeShape}
 use Rattle.dsr_language_theory.specs.Specifications.{IsSpecificationOf}
 use Rattle.dsr_command_theory.specs.Commands.{image_limit, spec_limit, usage}
 use Rattle.dsr_command_theory.specs.Usage.{AskForNothing}
-use Rattle.dsr_command_theory.specs.Words.{Check, Text, command_of}
+use Rattle.dsr_words.specs.Words.{Check, Text, command_of}
 
 -- the words ask to check an image under a specification: their files are within their limits, the
 -- text means the specification, and the image has the layout

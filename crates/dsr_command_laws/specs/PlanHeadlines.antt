@@ -21,8 +21,8 @@ use Rattle.dsr_store.specs.Written.{appended}
 use Rattle.dsr_language_theory.specs.Specifications.{IsSpecificationOf}
 use Rattle.dsr_command_theory.specs.Commands.{certificate_limit, spec_limit}
 use Rattle.dsr_command_theory.specs.Plans.{HasPlan}
-use Rattle.dsr_command_theory.specs.Words as asking
-use Rattle.dsr_command_theory.specs.Words.{Certify, Verify, command_of}
+use Rattle.dsr_words.specs.Words as asking
+use Rattle.dsr_words.specs.Words.{Certify, Verify, command_of}
 
 -- the words ask for the plan of this specification, whose text is within its limit
 pub record IsPlanned (files : Files) (words : List (List ℕ)) (spec : Spec) : Type 0 where

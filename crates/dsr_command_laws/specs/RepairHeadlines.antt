@@ -2,7 +2,7 @@
 use Rattle.std.specs.Prelude.{◌≡◌, ◌≤◌, ℕ, List, length, Some}
 use Rattle.std.specs.FinMap.{get}
 use Rattle.dsr_command_theory.specs.Commands.{image_limit, spec_limit}
-use Rattle.dsr_command_theory.specs.Words.{Repair, Trial, command_of}
+use Rattle.dsr_words.specs.Words.{Repair, Trial, command_of}
 use Rattle.dsr_command_laws.specs.ImageHeadlines.{IsChecked, IsVerdictOn}
 use Rattle.dsr_ir.specs.declared.declarations.Spec.{Spec}
 use Rattle.dsr_ir.specs.declared.layouts.Layout.{Layout}

@@ -6,7 +6,7 @@ use Rattle.dsr_command_audit.specs.Logs.{IsLogOf}
 use Rattle.dsr_command_audit.specs.ReportTexts.{line_answer, refused_answer, undo_words, undone_answer}
 use Rattle.dsr_command_laws.specs.Repairs.{IsTold}
 use Rattle.dsr_command_theory.specs.Commands.{image_limit, report_limit, spec_limit}
-use Rattle.dsr_command_theory.specs.Words.{Undo, command_of}
+use Rattle.dsr_words.specs.Words.{Undo, command_of}
 use Rattle.dsr_ir.specs.declared.declarations.Spec.{Spec}
 use Rattle.dsr_language_theory.specs.Specifications.{IsSpecificationOf}
 use Rattle.dsr_repair_theory.specs.declared.entries.Entry.{Entry}

@@ -9,7 +9,7 @@ use Rattle.std.specs.Str.{all_ascii_digits, bytes_eq}
 use Rattle.std.specs.Str.Parse.{digits_value}
 use Rattle.dsr_meaning.specs.Counting.{IsIn}
 use Rattle.dsr_command_theory.specs.Usage.{AskForNothing, word_lacks, dash, otherwise, count, over_spec, trial_lacks, no_command, HasNoTrial, no_trial, other_count, IsTrialNumber, SavesOverSpec, certificate, repaired, undone, edited, Says, says_audit, says_certify, says_check, says_edit, says_lost, says_plan, says_repair, says_text, says_trial, says_undo, says_verify, says_why, Takes, audit, certify, check, edit, lost, plan, repair, text, trial, undo, verify, why}
-use Rattle.dsr_command_theory.specs.Words.{Asked, Audit, Certify, Check, Edit, Lost, Plan, Repair, Text, Trial, Undo, Verify, Why, command_of, is_odd, to_certify, to_edit, to_repair, to_try, to_undo, with_four, with_one, with_three, with_two}
+use Rattle.dsr_words.specs.Words.{Asked, Audit, Certify, Check, Edit, Lost, Plan, Repair, Text, Trial, Undo, Verify, Why, command_of, is_odd, to_certify, to_edit, to_repair, to_try, to_undo, with_four, with_one, with_three, with_two}
 
 -- ---- tests
 

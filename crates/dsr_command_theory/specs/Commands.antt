@@ -27,7 +27,7 @@ use Rattle.dsr_syntax_theory.specs.Canonical.{canonical}
 use Rattle.dsr_tree.specs.Trees.{TreeShape}
 use Rattle.dsr_language_theory.specs.Specifications.{specification}
 use Rattle.dsr_compile.specs.Readings.{Interpretation, IsInterpretation, Means, Refused}
-use Rattle.dsr_command_theory.specs.Words.{Asked, Audit, Certify, Check, Edit, Lost, Plan, Repair, Text, Trial, Undo, Verify, Why, command_of}
+use Rattle.dsr_words.specs.Words.{Asked, Audit, Certify, Check, Edit, Lost, Plan, Repair, Text, Trial, Undo, Verify, Why, command_of}
 use Rattle.dsr_meaning.specs.Limits.{most_bytes}
 
 -- the most bytes of a specification's text

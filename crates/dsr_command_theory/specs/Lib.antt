@@ -1,4 +1,3 @@
-pub mod Words
 pub mod Usage
 pub mod Plans
 pub mod Commands

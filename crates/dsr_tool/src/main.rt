@@ -2,11 +2,9 @@
 //! and ends with the number of the status.
 #![tactic(auto)]
 
-mod words;
-
-use crate::words::words_of;
 use dsr_cli::{Status, run};
 use dsr_store::{FileShelf, StdSink};
+use dsr_words::words_of;
 use std::env;
 use std::process::ExitCode;
 

@@ -1,6 +1,6 @@
 -- Words that are too few or too many for a command.
 use Rattle.std.proofs.Common.{arith, ◌≡◌, ◌≤◌, ◌<◌, ℕ, List, [], ◌∷◌, length, map, None, refl}
-use Rattle.dsr_command_theory.specs.Words.{command_of}
+use Rattle.dsr_words.specs.Words.{command_of}
 
 module _ {A : Type 0} (bytes : A → List ℕ) where
   pub too_few : (words : List A) → length words < 2 → None ≡ command_of (map bytes words)

@@ -1,10 +1,10 @@
 -- A command, as its words ask for it.
 use Rattle.std.specs.Prelude.{ℕ, List}
-use Rattle.dsr_command_theory.specs.Words.{Asked, Audit, Certify, Check, Edit, Lost, Plan, Repair, Text, Trial, Undo, Verify, Why}
-use Rattle.dsr_cli.specs.declared.words.Command.{Command}
-use Rattle.dsr_cli.specs.declared.words.Command.TheVariants as commands
-use Rattle.dsr_cli.specs.declared.words.Task.{Task}
-use Rattle.dsr_cli.specs.declared.words.Task.TheVariants as tasks
+use Rattle.dsr_words.specs.Words.{Asked, Audit, Certify, Check, Edit, Lost, Plan, Repair, Text, Trial, Undo, Verify, Why}
+use Rattle.dsr_words.specs.declared.commands.Command.{Command}
+use Rattle.dsr_words.specs.declared.commands.Command.TheVariants as commands
+use Rattle.dsr_words.specs.declared.commands.Task.{Task}
+use Rattle.dsr_words.specs.declared.commands.Task.TheVariants as tasks
 
 -- what is asked of the specification of this name
 abbrev pub asked_for : List ℕ → Task → Asked

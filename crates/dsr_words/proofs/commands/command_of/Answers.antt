@@ -1,7 +1,7 @@
 use Rattle.std.proofs.Common.{arith, string_bytes}
-use Rattle.dsr_cli.proofs.NoCommand.{too_few, too_many}
-use Rattle.dsr_cli.proofs.words.command_of.Goals as goal
-use Rattle.dsr_cli.proofs.words.command_of.Goals.{in_default-via-then-words-lt2, in_default-via-else-words-lt2+else-words-lt3+else-words-lt4+else-words-lt5+else-words-lt6}
+use Rattle.dsr_words.proofs.NoCommand.{too_few, too_many}
+use Rattle.dsr_words.proofs.commands.command_of.Goals as goal
+use Rattle.dsr_words.proofs.commands.command_of.Goals.{in_default-via-then-words-lt2, in_default-via-else-words-lt2+else-words-lt3+else-words-lt4+else-words-lt5+else-words-lt6}
 
 pub returns-in_default : goal.returns-in_default
 returns-in_default c = elim c.in_default.branch [

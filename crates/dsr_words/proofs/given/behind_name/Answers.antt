@@ -1,6 +1,6 @@
 use Rattle.std.proofs.Common.{◌≡◌, ◌++◌, ◌∷◌, [], ◌<◌, ◌↔◌, ℕ, List, Option, Some, None, IsSome, length, drop, refl, sym, ◌∙◌, append-nil, arith}
 use Rattle.std.specs.Option.{option_to_list}
-use Rattle.dsr_tool.proofs.words.behind_name.Goals as goal
+use Rattle.dsr_words.proofs.given.behind_name.Goals as goal
 
 -- Of a list that its first item was taken from, if it had one, the rest is left.
 rest : {X : Type 0} (first : Option X) (all left : List X) (count : ℕ) → count ≡ length all

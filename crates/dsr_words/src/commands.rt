@@ -1,8 +1,8 @@
 // The words of the command line.
 ghost use Rattle.std.specs.Prelude.{◌≡◌, ◌||◌, Some, map, option_map, string_bytes};
-ghost use Rattle.dsr_cli.specs.Asking.{asked_for, asked_of};
+ghost use Rattle.dsr_words.specs.Asking.{asked_for, asked_of};
 ghost use Rattle.std.specs.Str.{all_ascii_digits};
-ghost use Rattle.dsr_command_theory.specs.Words as said;
+ghost use Rattle.dsr_words.specs.Words as said;
 
 /// What is to be done with a specification.
 #[derive(Clone, Copy)]

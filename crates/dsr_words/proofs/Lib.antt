@@ -1,0 +1,2 @@
+pub mod NoCommand
+pub mod TrialNumbers

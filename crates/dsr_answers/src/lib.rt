@@ -11,5 +11,5 @@ mod verdicts;
 pub use layouts::layout_refused;
 pub use names::{constraint_name, field_name, pool_name, push_binding, push_element, symbol_name};
 pub use refusals::{meaning_refused, syntax_refused};
-pub use texts::{push, push_named, push_number, told};
+pub use texts::{push, push_behind, push_named, push_number, told};
 pub use verdicts::verdict;

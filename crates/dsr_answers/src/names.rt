@@ -2,7 +2,7 @@
 ghost use Rattle.std.specs.Prelude.{◌≡◌, ◌++◌, OnOk};
 ghost use Rattle.dsr_answers.specs.Texts as texts;
 
-use crate::texts::{push, push_number};
+use crate::texts::{push, push_behind};
 use dsr_ir::{Binding, Element, NoMemory, Spec, Symbol};
 
 /// The name of a pool; `head` for the one that is numbered 0.
@@ -75,8 +75,7 @@ pub fn push_element(text: &mut Vec<u8>, spec: &Spec, elem: Element) -> Result<()
     if elem.pool == 0 {
         return Ok(());
     }
-    push(text, b"[")?;
-    push_number(text, u64::from(elem.slot))?;
+    push_behind(text, b'[', u64::from(elem.slot))?;
     push(text, b"]")
 }
 

@@ -1,5 +1,5 @@
 // Texts that grow piece by piece.
-ghost use Rattle.std.specs.Prelude.{◌≡◌, ◌++◌, IfOk, OnOk, decimal};
+ghost use Rattle.std.specs.Prelude.{◌≡◌, ◌++◌, ◌∷◌, IfOk, OnOk, decimal};
 ghost use Rattle.dsr_script.specs.Moves.{shown};
 
 use dsr_ir::NoMemory;
@@ -44,6 +44,18 @@ pub fn push_number(text: &mut Vec<u8>, number: u64) -> Result<(), NoMemory>
     if number < 10 {
         return push(text, &[b'0' + number as u8]);
     }
+    push_digits(text, number)
+}
+
+/// Appends a byte and a number behind it, in decimal. Most have one digit, and are one piece.
+#[inline(always)]
+pub fn push_behind(text: &mut Vec<u8>, byte: u8, number: u64) -> Result<(), NoMemory>
+    ensures { OnOk result (text.new.items ≡ text.old.items ++ (byte ∷ decimal number)) }
+{
+    if number < 10 {
+        return push(text, &[byte, b'0' + number as u8]);
+    }
+    push(text, &[byte])?;
     push_digits(text, number)
 }
 

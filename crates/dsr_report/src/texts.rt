@@ -1,26 +1,26 @@
 // The text that tells what each step of a repair changed.
-ghost use Rattle.std.specs.Prelude.{◌≡◌, ◌<◌, ◌+◌, ◌++◌, ◌^◌, IfOk, OnOk, [], length};
+ghost use Rattle.std.specs.Prelude.{◌≡◌, ◌<◌, ◌+◌, ◌++◌, ◌^◌, IfOk, OnOk, [], codes, length};
 ghost use Rattle.std.specs.List.{flat_map};
 ghost use Rattle.std.specs.Option.{option_map_or};
 ghost use Rattle.dsr_log.specs.Entries.{entry_of};
 ghost use Rattle.dsr_report.specs.Reports as said;
 
 use dsr_answers::{
-    constraint_name, field_name, push, push_binding, push_element, push_named, push_number,
+    constraint_name, field_name, push, push_behind, push_binding, push_element, push_named,
+    push_number,
 };
 use dsr_ir::{Element, NoMemory, Spec};
 use dsr_log::{EntryHead, EntryRef, Log};
 use dsr_repair_theory::{ByteChange, CellSet};
 use std::alloc::Global;
 
-// Appends a conjunction and a literal, counted from 1.
+// Appends a conjunction and a literal, counted from 1, behind a blank.
 fn push_place(text: &mut Vec<u8>, head: &EntryHead) -> Result<(), NoMemory>
     ensures { OnOk result (text.new.items ≡ text.old.items
-        ++ said.place_text (entry_of head.now [] [])) }
+        ++ codes " " ++ said.place_text (entry_of head.now [] [])) }
 {
-    push_number(text, u64::from(head.conj) + 1)?;
-    push(text, b".")?;
-    push_number(text, u64::from(head.literal) + 1)
+    push_behind(text, b' ', u64::from(head.conj) + 1)?;
+    push_behind(text, b'.', u64::from(head.literal) + 1)
 }
 
 /// Appends the line that begins the entry with this number.
@@ -38,10 +38,8 @@ pub fn push_update(
     push_named(text, b" ", constraint_name(spec, head.constraint))?;
     push(text, b" ")?;
     push_binding(text, spec, &head.binding)?;
-    push(text, b" ")?;
     push_place(text, head)?;
-    push(text, b" ")?;
-    push_number(text, u64::from(head.rule) + 1)?;
+    push_behind(text, b' ', u64::from(head.rule) + 1)?;
     push(text, b"\n")
 }
 
@@ -67,8 +65,7 @@ fn push_index(text: &mut Vec<u8>, set: &CellSet) -> Result<(), NoMemory>
     if !set.path.indexed {
         return Ok(());
     }
-    push(text, b"[")?;
-    push_number(text, set.index)?;
+    push_behind(text, b'[', set.index)?;
     push(text, b"]")
 }
 
@@ -88,10 +85,8 @@ pub fn push_set(text: &mut Vec<u8>, spec: &Spec, set: &CellSet) -> Result<(), No
 {
     push(text, b"  set ")?;
     push_place_set(text, spec, set)?;
-    push(text, b" ")?;
-    push_number(text, set.old)?;
-    push(text, b" ")?;
-    push_number(text, set.new)?;
+    push_behind(text, b' ', set.old)?;
+    push_behind(text, b' ', set.new)?;
     push(text, b"\n")
 }
 
@@ -105,13 +100,22 @@ fn push_sets(text: &mut Vec<u8>, spec: &Spec, sets: &[CellSet]) -> Result<(), No
     Ok(())
 }
 
-// Appends two digits.
-fn push_byte(text: &mut Vec<u8>, byte: u8) -> Result<(), NoMemory>
-    ensures { OnOk result (text.new.items ≡ text.old.items ++ said.byte_text byte) }
+// The two digits of a byte.
+fn digits_of(byte: u8) -> [u8; 2]
+    ensures { result ≡ said.byte_text byte }
 {
     let mut digits = [0; 2];
     hex::encode_to_slice([byte], &mut digits).unwrap();
-    push(text, &digits)
+    digits
+}
+
+// Appends the digits of two bytes, each behind a blank, and ends the line.
+fn push_bytes(text: &mut Vec<u8>, old: u8, new: u8) -> Result<(), NoMemory>
+    ensures { OnOk result (text.new.items ≡ text.old.items
+        ++ codes " " ++ said.byte_text old ++ codes " " ++ said.byte_text new ++ codes "\n") }
+{
+    let ([high, low], [new_high, new_low]) = (digits_of(old), digits_of(new));
+    push(text, &[b' ', high, low, b' ', new_high, new_low, b'\n'])
 }
 
 /// Appends the line of a byte that is another one.
@@ -120,11 +124,7 @@ pub fn push_change(text: &mut Vec<u8>, change: &ByteChange) -> Result<(), NoMemo
 {
     push(text, b"  byte ")?;
     push_number(text, change.place)?;
-    push(text, b" ")?;
-    push_byte(text, change.old)?;
-    push(text, b" ")?;
-    push_byte(text, change.new)?;
-    push(text, b"\n")
+    push_bytes(text, change.old, change.new)
 }
 
 fn push_changes(text: &mut Vec<u8>, changes: &[ByteChange]) -> Result<(), NoMemory>

@@ -20,3 +20,4 @@ pub mod RunOn
 pub mod StepMade
 pub mod Renewed
 pub mod Filled
+pub mod LastLiteral

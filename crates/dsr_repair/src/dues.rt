@@ -82,14 +82,11 @@ fn due_at<'a>(
     let Some((conj, its, ways)) = first_passing(model, constraint, row, &violation.binding) else {
         unreachable!();
     };
-    let Some(repaired) = first_false(model, its, ways, &violation.binding) else {
-        unreachable!();
-    };
     DueLiteral {
         constraint: violation.constraint,
         binding: violation.binding,
         conj,
-        repaired,
+        repaired: first_false(model, its, ways, &violation.binding),
     }
 }
 

@@ -124,27 +124,38 @@ fn false_template<'a>(
     template_at(ways, place)
 }
 
-/// The first literal that has a template and is false.
+/// The first literal that has a template and is false, where one is: so the last one is false if
+/// none before it is.
 pub fn first_false<'a>(
     model: &Model,
     conj: &'a Conj,
     ways: &'a [Way],
     binding: &Binding,
-) -> Option<ToRepair<'a>>
+) -> ToRepair<'a>
     requires ordered { model.now.ordered ≡ true }
     requires few { length conj.now.literals ≤ 8 }
-    ensures { MatchOption result (NoneIsFalse (IsInModel model.now) binding.now conj.now.literals ways.now)
-        (λ found. IsFirstFalse (IsInModel model.now) binding.now conj.now.literals ways.now
-        found.place found.literal.now found.template.now) }
+    requires some { NoneIsFalse (IsInModel model.now) binding.now conj.now.literals ways.now → ⊥ }
+    ensures { IsFirstFalse (IsInModel model.now) binding.now conj.now.literals ways.now
+        result.place result.literal.now result.template.now }
 {
-    for (place, its) in conj.literals.items().iter().enumerate() {
+    let Some((last, before)) = conj.literals.items().split_last() else {
+        unreachable!();
+    };
+    for (place, its) in before.iter().enumerate() {
         if let Some(template) = false_template(model, its, ways, place, binding) {
-            return Some(ToRepair {
+            return ToRepair {
                 place: place as u32,
                 literal: its,
                 template,
-            });
+            };
         }
     }
-    None
+    let Some(template) = template_at(ways, before.len()) else {
+        unreachable!();
+    };
+    ToRepair {
+        place: before.len() as u32,
+        literal: last,
+        template,
+    }
 }

@@ -18,22 +18,22 @@ first_false-requires-clause-few c =
     c.in-Some.ensures c.requires.typed c.in-Some-first_passing.conj c.in-Some-first_passing.its.now
     c.in-Some-first_passing.ensures.conj_is
 
-pub unreachable-requires-in_default-first_false : goal.unreachable-requires-in_default-first_false
-unreachable-requires-in_default-first_false c =
+pub first_false-requires-clause-some : goal.first_false-requires-clause-some
+first_false-requires-clause-some c none =
     some_false (IsInModel c.args.model.now) c.args.violation.binding c.requires.decided c.args.spec.now c.args.choice.now
     c.requires.plan c.args.violation.constraint c.in-Some.constraint.now c.in-Some-row_at.row.now
     (record { constraint_is = c.in-Some.ensures; row_is = c.in-Some-row_at.ensures })
     c.in-Some-first_passing.its.now c.in-Some-first_passing.conj c.in-Some-first_passing.ways.now
     (none_holds (IsInModel c.args.model.now) c.args.spec.now c.args.choice.now (bound_of c.args.violation) c.in-Some.constraint.now
     c.in-Some.ensures c.requires.next.is.violated)
-    c.in-Some-first_passing.ensures c.in_default-first_false.ensures
+    c.in-Some-first_passing.ensures none
 
 pub returns : goal.returns
 returns c =
     all_due (IsInModel c.args.model.now) c.args.spec.now c.args.choice.now (bound_of c.args.violation)
     c.in-Some.constraint.now c.in-Some-row_at.row.now c.in-Some-first_passing.conj c.in-Some-first_passing.its.now
-    c.in-Some-first_passing.ways.now c.in-Some-first_false.repaired.place c.in-Some-first_false.repaired.literal.now
-    c.in-Some-first_false.repaired.template.now
+    c.in-Some-first_passing.ways.now c.first_false.result.place c.first_false.result.literal.now
+    c.first_false.result.template.now
     (due_here (IsInModel c.args.model.now) c.args.spec.now c.args.choice.now (bound_of c.args.violation) c.in-Some.constraint.now
     c.in-Some.ensures c.requires.next.constraint c.requires.next.row c.in-Some-row_at.row.now c.requires.next.is c.in-Some-row_at.ensures)
-    c.in-Some-first_passing.ensures c.in-Some-first_false.ensures
+    c.in-Some-first_passing.ensures c.first_false.ensures

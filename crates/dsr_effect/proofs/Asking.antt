@@ -5,7 +5,7 @@ use Rattle.std.specs.Prelude.{slice_get}
 use Rattle.std.proofs.lemmas.Bool.{eqb-true}
 use Rattle.std.proofs.lemmas.Bool.Decides.{Decides-like}
 use Rattle.std.proofs.lemmas.Option.{same_Some}
-use Rattle.dsr_facts.proofs.SameItems.{path_decides}
+use Rattle.dsr_meaning.proofs.SameItems.{path_decides}
 use Rattle.dsr_ir.specs.Rules.{target_of}
 use Rattle.dsr_ir.specs.contracts.rules.PathPartialEq.TheImpl as path
 use Rattle.dsr_ir.specs.declared.rules.Guard.{Guard}

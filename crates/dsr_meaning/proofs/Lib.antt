@@ -12,5 +12,6 @@ pub mod Ordered
 pub mod Placing
 pub mod Powers
 pub mod Ranks
+pub mod SameItems
 pub mod Sizes
 pub mod Values

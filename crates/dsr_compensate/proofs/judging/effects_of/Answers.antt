@@ -1,4 +1,5 @@
 use Rattle.std.proofs.Common.{◌≡◌, ◌+◌, ◌++◌, [], ◌∷◌, length, take, refl, sym, ap, subst, ◌∙◌, arith}
+use Rattle.std.proofs.lemmas.Grind.{common_steps}
 use Rattle.dsr_compensate.proofs.Each.{take_length}
 use Rattle.dsr_compensate.proofs.Effects.{effects_more}
 use Rattle.dsr_compensate.proofs.Later.{take_next}
@@ -21,3 +22,6 @@ loop-place-preserved c =
     subst (λ us. AreEffectsOf owner c.args.goal us c.push.new.self.items) (sym (take_next c.args.updates.now c.args.updates.now refl place below update c.index-updates-place.is))
     (subst (AreEffectsOf owner c.args.goal (take place c.args.updates.now ++ update ∷ [])) (sym c.in_ok-push.ensures.items)
     (effects_more owner c.args.goal (take place c.args.updates.now) c.loop-place.effects.items update c.in_ok-effect.effect c.loop-place.invariant its))
+
+pub returns : goal.returns
+returns c = grind (arith, common_steps)

@@ -1,4 +1,5 @@
-use Rattle.std.proofs.Common.{refl, sym, ◌∙◌}
+use Rattle.std.proofs.Common.{refl, sym, ◌∙◌, arith}
+use Rattle.std.proofs.lemmas.Grind.{elements}
 use Rattle.std.proofs.lemmas.Bool.{false≢true}
 use Rattle.dsr_compensate.proofs.Each.{each_ends, each_more, item_at}
 use Rattle.dsr_graph_theory.specs.Owners.{change_of, goal_at}
@@ -17,3 +18,9 @@ returns c = (
   λ _. each_ends (λ n update. MayServe c.args.goal c.args.atom.now n (change_of (owner_of c.args.owner.now) (goal_at c.args.goal n) update)) c.args.updates.now c.loop-place.place c.loop-place-test.false c.loop-place.invariant,
   λ _. refl,
 )
+
+pub may_serve-requires-clause-effect : goal.may_serve-requires-clause-effect
+may_serve-requires-clause-effect c = grind (arith, elements)
+
+pub returns-then-not-may_serve : goal.returns-then-not-may_serve
+returns-then-not-may_serve c = grind (arith, elements)

@@ -1,4 +1,5 @@
-use Rattle.std.proofs.Common.{◌≡◌, ◌++◌, [], List, MatchOption, Some, map, sym, ap, subst, ◌∙◌}
+use Rattle.std.proofs.Common.{◌≡◌, ◌++◌, [], List, MatchOption, Some, map, sym, ap, subst, ◌∙◌, arith}
+use Rattle.std.proofs.lemmas.Grind.{elements}
 use Rattle.std.specs.List.{flat_map}
 use Rattle.dsr_compensate.proofs.Whole.{none_taken, taken_whole}
 use Rattle.dsr_compensate.specs.Taking.{AreTakenOf, ones_of, pairs_of, templates_of, twos_of}
@@ -24,3 +25,6 @@ returns-clause-listed c =
       are_taken = taken_whole owner c.in-Some.its.atom tried found
           (subst (λ cs. AreTakenOf owner c.in-Some.its.atom ((([] ++ map (λ x. x.template) cs) ++ flat_map ones_of cs) ++ flat_map twos_of cs) found) c.deref-2.ensures.value taken);
     })
+
+pub take_all-requires-clause-atom : goal.take_all-requires-clause-atom
+take_all-requires-clause-atom c = grind (arith, elements)

@@ -1,4 +1,4 @@
-use Rattle.std.proofs.Common.{◌≡◌, ◌<◌, ◌+◌, length, get_or, set, take, min, sym, ap, subst, ◌∙◌, arith}
+use Rattle.std.proofs.Common.{◌≡◌, ◌<◌, ◌+◌, length, get_or, set, take, min, sym, ap, subst, ◌∙◌, arith, rules}
 use Rattle.std.proofs.lemmas.Grind.{common_steps}
 use Rattle.std.proofs.lemmas.List.{length-set}
 use Rattle.std.specs.Vec.{with_items}
@@ -26,3 +26,9 @@ loop-rule-preserved c =
       | in_default w ↦
           subst (λ v. IsLowered known (take (i + 1) rules) v.items) (sym w.least-is) (lowered_none known rules i rule c.loop-rule-test.true c.rule-item.is (sym c.given_relation.ensures ∙ w.in_default.is) c.loop-rule.invariant)
     ]
+
+pub loop-rule-init : goal.loop-rule-init
+loop-rule-init c = grind (arith, common_steps)
+
+pub returns : goal.returns
+returns c = grind (arith, common_steps)

@@ -1,6 +1,6 @@
 -- What `rule_rows` leaves to show.
-use Rattle.std.proofs.Common.{◌≡◌, ◌+◌, ◌++◌, length, take, drop, ap, ◌∙◌, arith}
-use Rattle.std.proofs.lemmas.Grind.{common_steps}
+use Rattle.std.proofs.Common.{◌≡◌, ◌+◌, ◌++◌, length, take, drop, ap, ◌∙◌, arith, rules}
+use Rattle.std.proofs.lemmas.Grind.{common_steps, elements}
 use Rattle.dsr_effect.specs.Told.{change_of}
 use Rattle.dsr_effect.proofs.ChangedRows.{changed_more}
 use Rattle.dsr_effect.proofs.FlowLists.{flows_more, flows_same}
@@ -32,3 +32,12 @@ loop-rule-preserved c =
         | in_default w ↦ rw w.flows-is (flows_same (change_of c.args.change.now) (take i rules) (take (i + 1) rules) c.rule-item.result c.loop-rule.flows.items next w.in_default.is c.loop-rule.invariant.2)
       ],
     )
+
+pub loop-rule-init : goal.loop-rule-init
+loop-rule-init c = grind (arith, elements)
+
+pub returns-clause-exactly : goal.returns-clause-exactly
+returns-clause-exactly c = grind (arith, common_steps)
+
+pub returns-clause-flows : goal.returns-clause-flows
+returns-clause-flows c = grind (arith, common_steps)

@@ -1,4 +1,5 @@
-use Rattle.std.proofs.Common.{◌++◌, ◌∙◌, ap, append_assoc, take}
+use Rattle.std.proofs.Common.{◌++◌, ◌∙◌, ap, append_assoc, take, arith}
+use Rattle.std.proofs.lemmas.Grind.{common_steps, elements}
 use Rattle.std.specs.List.{flat_map}
 use Rattle.dsr_meaning.specs.Lists.{each_at}
 use Rattle.dsr_update_theory.specs.Facts as said
@@ -28,3 +29,18 @@ loop-number-preserved c =
           ∙ (λ i. c.loop-number.invariant.3 i ++ said.giver_by n (fact i))
           ∙ each_more (λ k d. said.giver_by k (said.fact_of spec d)) items n item lt is,
     )
+
+pub overflow_cast-number : goal.overflow_cast-number
+overflow_cast-number c = grind (arith, common_steps)
+
+pub returns-clause-injective : goal.returns-clause-injective
+returns-clause-injective c = grind (arith, common_steps)
+
+pub returns-clause-exclusive : goal.returns-clause-exclusive
+returns-clause-exclusive c = grind (arith, elements)
+
+pub returns-clause-apart : goal.returns-clause-apart
+returns-clause-apart c = grind (arith, common_steps)
+
+pub returns-clause-from : goal.returns-clause-from
+returns-clause-from c = grind (arith, common_steps)

@@ -1,4 +1,5 @@
-use Rattle.std.proofs.Common.{◌∙◌, ap, sym, subst, MatchOption, rules, tests}
+use Rattle.std.proofs.Common.{◌∙◌, ap, sym, subst, MatchOption, rules, tests, arith}
+use Rattle.std.proofs.lemmas.Grind.{elements}
 use Rattle.std.specs.Option.{option_map}
 use Rattle.std.proofs.lemmas.Iterator.{YieldsList-from_slice}
 use Rattle.std.proofs.lemmas.Iterator.Search.{find_from_yields_List}
@@ -21,3 +22,6 @@ returns c =
     let found = sym first ∙ ap (option_map (λ y. y.now)) (c.in_ok-rule.was) in
     subst (λ o. MatchOption o (IsNoneBelow c.args.spec.now c.args.set) (IsBelow c.args.spec.now c.args.set)) (sym c.then_some.ensures)
     (below_by_rule c.args.spec.now c.args.set c.in_ok-base.base c.in_ok-rule.rule.now c.all_give_members.result found (c.in_ok-base.was) c.all_give_members.ensures)
+
+pub returns-in_err-rule : goal.returns-in_err-rule
+returns-in_err-rule c = grind (arith, elements)

@@ -4,7 +4,7 @@ use Rattle.std.proofs.lemmas.Iterator.{YieldsList-from_slice}
 use Rattle.std.proofs.lemmas.Iterator.Search.{all_from_yields_List}
 use Rattle.std.proofs.lemmas.Bool.Decides.{Decides-at}
 use Rattle.dsr_ir.specs.contracts.rules.GuardPartialEq.TheImpl as guard
-use Rattle.dsr_facts.proofs.SameItems.{all_among}
+use Rattle.dsr_meaning.proofs.SameItems.{all_among}
 use Rattle.dsr_facts.proofs.memberships.has_guards.Goals as goal
 
 pub returns : goal.returns

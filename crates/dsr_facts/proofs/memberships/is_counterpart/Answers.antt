@@ -1,5 +1,5 @@
 use Rattle.std.proofs.Common.{◌∙◌, sym}
-use Rattle.dsr_facts.proofs.SameItems.{counterpart_decides}
+use Rattle.dsr_facts.proofs.Counterparts.{counterpart_decides}
 use Rattle.dsr_facts.proofs.memberships.is_counterpart.Goals as goal
 use Rattle.dsr_facts.proofs.memberships.is_counterpart.Goals.{then-eq, else-eq, then-eq-2, else-eq-2}
 

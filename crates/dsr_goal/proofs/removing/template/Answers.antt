@@ -5,3 +5,6 @@ use Rattle.dsr_goal.proofs.removing.template.Goals as goal
 
 pub loop-removal-preserved : goal.loop-removal-preserved
 loop-removal-preserved c = grind (arith, common_steps, filter_map-append)
+
+pub returns : goal.returns
+returns c = grind (arith, common_steps)

@@ -1,4 +1,5 @@
-use Rattle.std.proofs.Common.{All, subst, sym, ◌∙◌}
+use Rattle.std.proofs.Common.{All, subst, sym, ◌∙◌, arith}
+use Rattle.std.proofs.lemmas.Grind.{elements}
 use Rattle.dsr_graph.specs.Graphs.{AreListingsOf}
 use Rattle.dsr_graph.specs.Kinds.{AreKindsOf, IsFirstIn}
 use Rattle.dsr_compensate.specs.Owned.{owner_of}
@@ -24,3 +25,6 @@ returns c =
       listings = subst (λ firsts. AreListingsOf owner firsts c.in_ok-listings.listings.items) c.deref.ensures.value c.in_ok-listings.ensures;
       from_is = c.new-from.ensures ∙ c.in_ok-from_slice.ensures.items ∙ c.items.ensures ∙ c.requires.from;
     }
+
+pub kinds_of-requires : goal.kinds_of-requires
+kinds_of-requires c = grind (arith, elements)

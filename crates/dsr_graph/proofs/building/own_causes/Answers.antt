@@ -1,4 +1,5 @@
-use Rattle.std.proofs.Common.{All, sym, subst, ◌∙◌, refl}
+use Rattle.std.proofs.Common.{All, sym, subst, ◌∙◌, refl, arith}
+use Rattle.std.proofs.lemmas.Grind.{elements}
 use Rattle.std.proofs.lemmas.Option.{slice_get-get_or}
 use Rattle.dsr_graph.specs.Told.{IsOfDeclared}
 use Rattle.dsr_graph.proofs.Paired.{paired_all, paired_step}
@@ -16,3 +17,6 @@ loop-first-preserved c =
 pub returns : goal.returns
 returns c =
     paired_all (λ n first causes. AreOwnCausesOf c.args.owner.now.spec.now.base first causes) c.args.firsts.now c.args.firsts.now refl c.loop-first.own.items c.loop-first.first-index c.loop-first-test.false c.loop-first.invariant
+
+pub literal_causes-requires : goal.literal_causes-requires
+literal_causes-requires c = grind (arith, elements)

@@ -1,4 +1,5 @@
-use Rattle.std.proofs.Common.{[], sym, ap, subst, ◌∙◌}
+use Rattle.std.proofs.Common.{[], sym, ap, subst, ◌∙◌, arith}
+use Rattle.std.proofs.lemmas.Grind.{common_steps}
 use Rattle.dsr_graph.proofs.Once.{once_passed, once_pushed}
 use Rattle.dsr_update_theory.specs.Templates.{AreOnce}
 use Rattle.dsr_graph.proofs.causes.each_once.Goals as goal
@@ -16,3 +17,6 @@ loop-cause-preserved c = elim c.if-is_new.branch [
       once_passed c.args.causes.now c.loop-cause.cause-index _ c.loop-cause-test.true c.loop-cause.once.items c.deref.result.now c.if-is_new.once.items
       (ap (λ v. v.items) w.once-is) c.deref.ensures.value w.if-is_new.ensures c.loop-cause.invariant
 ]
+
+pub returns : goal.returns
+returns c = grind (arith, common_steps)

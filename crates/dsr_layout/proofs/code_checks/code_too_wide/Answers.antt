@@ -1,4 +1,5 @@
-use Rattle.std.proofs.Common.{refl, ap, ◌∙◌}
+use Rattle.std.proofs.Common.{refl, ap, ◌∙◌, arith}
+use Rattle.std.proofs.lemmas.Grind.{common_steps}
 use Rattle.dsr_meaning.specs.Lists.{each_at}
 use Rattle.dsr_meaning.specs.Refusals.{reference_refusals}
 use Rattle.dsr_layout.specs.Telling.{told_of}
@@ -12,3 +13,9 @@ loop-i-preserved c =
     ∙ c.own_reference-fault.ensures
     ∙ ap (λ fs. told_of (each_at (reference_refusals c.args.layout.now c.loop-i.i) 0 fs)) c.items.ensures)
     ∙ c.loop-i.invariant
+
+pub returns-then-is_some : goal.returns-then-is_some
+returns-then-is_some c = grind (arith, common_steps)
+
+pub returns : goal.returns
+returns c = grind (arith, common_steps)

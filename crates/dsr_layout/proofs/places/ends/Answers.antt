@@ -1,4 +1,5 @@
-use Rattle.std.proofs.Common.{ap, sym, length, ◌∙◌}
+use Rattle.std.proofs.Common.{ap, sym, length, ◌∙◌, arith}
+use Rattle.std.proofs.lemmas.Grind.{common_steps}
 use Rattle.dsr_layout.specs.Ends.{start_in, end_behind}
 use Rattle.dsr_layout.specs.Tables.{known}
 use Rattle.dsr_layout.proofs.Sizes.{ends_next}
@@ -12,3 +13,6 @@ loop-structure-preserved c =
     let start = c.start_in-start.ensures ∙ ap (λ es. start_in es c.len.result parent) c.deref.ensures.value ∙ ap (λ n. start_in c.loop-structure.ends.items n parent) many in
     let made = c.end_behind-end.ensures ∙ ap (λ fs. end_behind fixed c.start_in-start.result fs) c.items.ensures ∙ ap (λ o. end_behind fixed o c.structure-item.result.fields) start in
     ends_next fixed c.args.structures.now c.loop-structure.structure-index c.structure-item.result c.loop-structure-test.true c.structure-item.is c.loop-structure.ends.items c.loop-structure.invariant.0 c.loop-structure.invariant.1 c.in_ok-push.ensures.items made
+
+pub returns : goal.returns
+returns c = grind (arith, common_steps)

@@ -1,4 +1,5 @@
-use Rattle.std.proofs.Common.{rules, ◌≡◌, ◌+◌, ◌∷◌, ◌++◌, [], All, true, false, not, IsTrue, Option, Some, None, if◌then◌else◌, refl, sym, ap, subst, ◌∙◌}
+use Rattle.std.proofs.Common.{rules, ◌≡◌, ◌+◌, ◌∷◌, ◌++◌, [], All, true, false, not, IsTrue, Option, Some, None, if◌then◌else◌, refl, sym, ap, subst, ◌∙◌, arith}
+use Rattle.std.proofs.lemmas.Grind.{common_steps}
 use Rattle.std.proofs.lemmas.List.Elements.{All-append}
 use Rattle.std.specs.Option.{option_map_or}
 use Rattle.dsr_ir.specs.declared.layouts.PoolNumbers.{PoolNumbers}
@@ -40,3 +41,12 @@ loop-pool-preserved c =
       subst (λ ns. All IsComputable ns) (sym now) all,
       goes_on _ c.args.pools.now c.loop-pool.pool-index c.pool-item.result (c.loop-pool.pool-index + 1) _ c.loop-pool-test.true c.pool-item.is refl (none_where _ (not_refused _ _ are.0 are.1)) ∙ c.loop-pool.invariant.2,
     )
+
+pub returns-in-None-clause-refused : goal.returns-in-None-clause-refused
+returns-in-None-clause-refused c = grind (arith, common_steps)
+
+pub returns-clause-numbers : goal.returns-clause-numbers
+returns-clause-numbers c = grind (arith, common_steps)
+
+pub returns-clause-valued : goal.returns-clause-valued
+returns-clause-valued c = grind (arith, common_steps)

@@ -1,4 +1,5 @@
-use Rattle.std.proofs.Common.{map, get_or, sym, ap, ◌∙◌, ◌∷◌, []}
+use Rattle.std.proofs.Common.{map, get_or, sym, ap, ◌∙◌, ◌∷◌, [], arith}
+use Rattle.std.proofs.lemmas.Grind.{common_steps}
 use Rattle.std.proofs.lemmas.List.{map-append, length-map}
 use Rattle.std.specs.Option.{option_map_or}
 use Rattle.std.specs.Str.{bytes_eq}
@@ -18,3 +19,6 @@ loop-structure-preserved c =
     ∙ ap (λ ls. option_map_or (λ p. p ∷ get_or (map (λ v. v.items) ls) p []) c.parent_of-parent.result []) c.deref.ensures.value
     ∙ line_is (λ p. get_or known p []) c.parent_of-parent.result
     ∙ ap (with_ancestors (λ p. get_or known p [])) (c.parent_of-parent.ensures ∙ ap (λ n. parent_number number n c.structure-item.result.parent) (c.len.ensures ∙ c.loop-structure.lines.ok.0 ∙ sym (length-map lines (λ v. v.items)))))
+
+pub returns : goal.returns
+returns c = grind (arith, common_steps)

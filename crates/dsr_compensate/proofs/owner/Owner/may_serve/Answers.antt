@@ -1,4 +1,5 @@
-use Rattle.std.proofs.Common.{◌↔◌, IsTrue, inl, inr, refl, sym, subst}
+use Rattle.std.proofs.Common.{◌↔◌, IsTrue, inl, inr, refl, sym, subst, arith}
+use Rattle.std.proofs.lemmas.Grind.{elements}
 use Rattle.dsr_ir.specs.declared.updates.Goal.TheVariants.{ExactlyOne}
 use Rattle.dsr_graph_theory.specs.Owners.{change_of, goal_at}
 use Rattle.dsr_graph_theory.specs.Sides.{MayServe}
@@ -29,3 +30,10 @@ returns-in-ExactlyOne c =
     subst (λ g. IsTrue c.may_supply_one.result ↔ MayServe g c.args.atom.now c.args.place change) (sym c.in-ExactlyOne.is)
     (subst (λ n. IsTrue c.may_supply_one.result ↔ MayServe ExactlyOne c.args.atom.now n change) (sym c.if-place-eq0.true)
     (c.may_supply_one.ensures change refl refl c.requires.effect))
+
+pub keeps-requires-clause-declared : goal.keeps-requires-clause-declared
+keeps-requires-clause-declared c = grind (arith, elements)
+
+pub keeps-requires-in-ExactlyOne-2-clause-declared :
+    goal.keeps-requires-in-ExactlyOne-2-clause-declared
+keeps-requires-in-ExactlyOne-2-clause-declared c = grind (arith, elements)

@@ -1,5 +1,6 @@
 -- What `guards_reading` leaves to show.
-use Rattle.std.proofs.Common.{take, ◌∙◌}
+use Rattle.std.proofs.Common.{take, ◌∙◌, arith}
+use Rattle.std.proofs.lemmas.Grind.{common_steps}
 use Rattle.dsr_effect.specs.Told.{change_of}
 use Rattle.dsr_effect.proofs.ReadParts.{next_guard, read_more, read_same}
 use Rattle.dsr_effect.proofs.changes.Change.guards_reading.Goals as goal
@@ -16,3 +17,6 @@ loop-guard-preserved c = elim c.match-guard_reading.branch [
       (next_guard c.items-guard-items.result.now c.args.rule.now.guards c.items-guard-items.ensures c.loop-guard.guard-index _ c.loop-guard-test.true)
       c.loop-guard.reading c.loop-guard.invariant w.in_default.ensures)
 ]
+
+pub returns : goal.returns
+returns c = grind (arith, common_steps)

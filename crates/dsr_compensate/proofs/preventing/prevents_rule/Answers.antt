@@ -1,0 +1,16 @@
+use Rattle.std.proofs.Common.{arith}
+use Rattle.std.proofs.lemmas.Grind.{common_steps}
+use Rattle.dsr_compensate.specs.Preventing as said
+use Rattle.dsr_graph_theory.specs.Candidates as candidates
+use Rattle.dsr_update_theory.specs.Changes as changes
+use Rattle.dsr_update_theory.specs.Touching as touching
+use Rattle.dsr_compensate.proofs.preventing.prevents_rule.Goals as goal
+
+pub returns-then-is_some : goal.returns-then-is_some
+returns-then-is_some c = grind (arith, common_steps)
+
+pub loop-guard-preserved : goal.loop-guard-preserved
+loop-guard-preserved c = grind (arith, common_steps)
+
+pub returns : goal.returns
+returns c = grind (arith, common_steps)

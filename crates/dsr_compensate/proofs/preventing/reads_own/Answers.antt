@@ -1,0 +1,13 @@
+use Rattle.std.proofs.Common.{arith}
+use Rattle.std.proofs.lemmas.Grind.{elements}
+use Rattle.dsr_compensate.specs.Preventing as said
+use Rattle.dsr_graph_theory.specs.Candidates as candidates
+use Rattle.dsr_update_theory.specs.Changes as changes
+use Rattle.dsr_update_theory.specs.Touching as touching
+use Rattle.dsr_compensate.proofs.preventing.reads_own.Goals as goal
+
+pub returns-in-Some : goal.returns-in-Some
+returns-in-Some c = grind (arith, elements)
+
+pub returns-in-None : goal.returns-in-None
+returns-in-None c = grind (arith, elements)

@@ -1,0 +1,13 @@
+use Rattle.std.proofs.Common.{arith}
+use Rattle.std.proofs.lemmas.Grind.{common_steps}
+use Rattle.dsr_meaning.specs.Refusals as meaning
+use Rattle.dsr_layout.proofs.pool_checks.zero.Goals as goal
+
+pub returns-then-pool-eq0 : goal.returns-then-pool-eq0
+returns-then-pool-eq0 c = grind (arith, common_steps)
+
+pub loop-i-preserved : goal.loop-i-preserved
+loop-i-preserved c = grind (arith, common_steps)
+
+pub returns : goal.returns
+returns c = grind (arith, common_steps)

@@ -1,0 +1,6 @@
+use Rattle.std.proofs.Common.{arith}
+use Rattle.std.proofs.lemmas.Grind.{common_steps}
+use Rattle.dsr_store.proofs.memory.SureShelfShelf.load.Goals as goal
+
+pub returns-in-Some-clause-capped : goal.returns-in-Some-clause-capped
+returns-in-Some-clause-capped c = grind (arith, common_steps)

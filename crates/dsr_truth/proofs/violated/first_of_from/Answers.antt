@@ -1,4 +1,5 @@
-use Rattle.std.proofs.Common.{◌≡◌, false, true}
+use Rattle.std.proofs.lemmas.Grind.{elements}
+use Rattle.std.proofs.Common.{◌≡◌, false, true, arith}
 use Rattle.dsr_model.specs.Facts.{IsInModel}
 use Rattle.dsr_truth.proofs.Satisfying.{found_at}
 use Rattle.dsr_truth.proofs.Searching.{from_later}
@@ -14,3 +15,12 @@ returns c =
     from_later (IsInModel c.args.model.now) c.args.spec.now c.args.number constraint declared c.args.binding.now
     (λ here. let both : false ≡ true = c.if-is_violated.ensures.1 here in cc)
     c.next_violated.result c.next_violated.ensures
+
+pub returns-in_err-constraint : goal.returns-in_err-constraint
+returns-in_err-constraint c = grind (arith, elements)
+
+pub returns-then-is_violated : goal.returns-then-is_violated
+returns-then-is_violated c = grind (arith, elements)
+
+pub next_violated-requires-clause-kind : goal.next_violated-requires-clause-kind
+next_violated-requires-clause-kind c = grind (arith, elements)

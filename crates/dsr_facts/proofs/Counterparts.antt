@@ -11,7 +11,6 @@ use Rattle.dsr_meaning.proofs.SameItems.{span_decides}
 use Rattle.dsr_update_theory.specs.KnownSets.{IsCounterpart}
 use Rattle.dsr_facts.specs.Marks.{GivesTargetOf}
 
-
 premise_same : (a b : Option ℕ) → option_eq nat_eq a b ≡ true → a ≡ b
 premise_same None None e = refl
 premise_same (Some a) (Some b) e = ap Some (eqb-true a b e)

@@ -21,4 +21,4 @@ pub returns-then-value-numbers-clause-only : goal.returns-then-value-numbers-cla
 returns-then-value-numbers-clause-only c = grind (arith, elements)
 
 pub slot_with-requires : goal.slot_with-requires
-slot_with-requires c = record { step = grind (arith, elements); }
+slot_with-requires c = record { step = grind (arith, elements) }

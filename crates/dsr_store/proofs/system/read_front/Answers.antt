@@ -9,4 +9,4 @@ pub returns-in-Ok-eq0-clause-front : goal.returns-in-Ok-eq0-clause-front
 returns-in-Ok-eq0-clause-front g c = grind (arith, common_steps)
 
 pub loop-turn-preserved : goal.loop-turn-preserved
-loop-turn-preserved g c = record { within = grind (arith, common_steps); read = grind (arith, common_steps); }
+loop-turn-preserved g c = record { within = grind (arith, common_steps); read = grind (arith, common_steps) }

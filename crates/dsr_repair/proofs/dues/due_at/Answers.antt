@@ -1,4 +1,6 @@
 -- The literal that is due of a violated constraint.
+use Rattle.std.proofs.Common.{arith}
+use Rattle.std.proofs.lemmas.Grind.{elements}
 use Rattle.dsr_repair.proofs.Here.{due_here, few_literals, none_holds}
 use Rattle.dsr_repair.proofs.Passing.{all_due, some_false, some_passes}
 use Rattle.dsr_repair.specs.Violations.{bound_of}
@@ -37,3 +39,6 @@ returns c =
     (due_here (IsInModel c.args.model.now) c.args.spec.now c.args.choice.now (bound_of c.args.violation) c.in-Some.constraint.now
     c.in-Some.ensures c.requires.next.constraint c.requires.next.row c.in-Some-row_at.row.now c.requires.next.is c.in-Some-row_at.ensures)
     c.in-Some-first_passing.ensures c.first_false.ensures
+
+pub first_passing-requires-clause-few : goal.first_passing-requires-clause-few
+first_passing-requires-clause-few c = grind (arith, elements)

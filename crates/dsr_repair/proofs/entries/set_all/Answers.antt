@@ -1,5 +1,6 @@
 -- The writes, one after the other.
 use Rattle.std.proofs.Common.{◌∙◌, ◌+◌, [], All, refl, sym, subst, take, arith}
+use Rattle.std.proofs.lemmas.Grind.{common_steps}
 use Rattle.std.specs.Prelude.{IfSome}
 use Rattle.dsr_image.specs.Images.{IsCellClaimed}
 use Rattle.dsr_repair.proofs.Sets.{sets_next}
@@ -28,3 +29,6 @@ loop-write-preserved g c = record {
   claimed = subst (λ f. All (λ w. IfSome (written_cell c.args.layout.now c.args.step.now w) (IsCellClaimed f)) c.args.writes.now) (sym c.set.ensures.kept) c.loop-write.invariant.claimed;
   room = omega (arith, c.push_set.ensures.longer, c.push_set.ensures.room, c.loop-write.invariant.room, c.loop-write-test.true);
 }
+
+pub returns-clause-set : goal.returns-clause-set
+returns-clause-set g c = grind (arith, common_steps)

@@ -1,5 +1,6 @@
 -- The first slot that is no member of an avoided set.
-use Rattle.std.proofs.Common.{sym, ◌∙◌, ap, option_map}
+use Rattle.std.proofs.Common.{sym, ◌∙◌, ap, option_map, arith}
+use Rattle.std.proofs.lemmas.Grind.{elements}
 use Rattle.std.proofs.lemmas.Bool.{false≢true}
 use Rattle.dsr_repair.proofs.Taken.{first_fresh, more_taken, used_up}
 use Rattle.dsr_model.specs.Facts.{IsInModel}
@@ -23,3 +24,6 @@ returns c =
     used_up (IsInModel c.args.model.now) c.args.spec.now c.args.layout.now c.args.pool c.in_ok-sets.sets.now c.in_ok-count.field-0
     (ap (option_map (λ sets. sets.now)) (sym c.in_ok-sets.was) ∙ c.avoided.ensures)
     (sym c.pool_numbers.ensures ∙ c.in_ok-count.was) c.loop-slot.slot c.loop-slot-test.false c.loop-slot.invariant
+
+pub overflow_cast-elem : goal.overflow_cast-elem
+overflow_cast-elem c = grind (arith, elements)

@@ -1,5 +1,6 @@
 -- The first literal that has a template and is false: the last one, where none before it is.
 use Rattle.std.proofs.Common.{◌∙◌, arith, sym}
+use Rattle.std.proofs.lemmas.Grind.{common_steps}
 use Rattle.std.proofs.lemmas.Option.{slice_get-get_or}
 use Rattle.dsr_repair.proofs.Gone.{each_more}
 use Rattle.dsr_repair.proofs.LastLiteral.{has_way, item_before, last_false}
@@ -48,3 +49,6 @@ returns c = record {
   none_before = λ n other by less is.
       c.loop-place.invariant n other (omega (arith, less, c.loop-place-test.false)) is.literal_is by is;
 }
+
+pub unreachable-requires : goal.unreachable-requires
+unreachable-requires c = grind (arith, common_steps)

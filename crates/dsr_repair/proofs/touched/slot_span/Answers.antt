@@ -1,5 +1,6 @@
 -- The bytes of a slot lie in the image.
 use Rattle.std.proofs.Common.{◌≤◌, ◌+◌, ◌*◌, ◌∙◌, sym, subst, arith}
+use Rattle.std.proofs.lemmas.Grind.{elements}
 use Rattle.dsr_update.proofs.RecordSlots.{slot_within}
 use Rattle.dsr_repair.proofs.touched.slot_span.Goals as goal
 
@@ -19,3 +20,9 @@ returns-clause-within c =
       ordered = omega arith;
       inside = subst (λ s. n.start + s * n.slot + n.slot ≤ c.args.layout.now.length) (sym c.from.ensures) within;
     }
+
+pub overflow_mul-start : goal.overflow_mul-start
+overflow_mul-start c = grind (arith, elements)
+
+pub overflow_add-start : goal.overflow_add-start
+overflow_add-start c = grind (arith, elements)

@@ -1,4 +1,5 @@
-use Rattle.std.proofs.Common.{◌≡◌, ◌∙◌, Some, slice_get, sym, ap, subst}
+use Rattle.std.proofs.Common.{◌≡◌, ◌∙◌, Some, slice_get, sym, ap, subst, arith}
+use Rattle.std.proofs.lemmas.Grind.{elements}
 use Rattle.std.specs.Prelude.{option_map}
 use Rattle.dsr_cert.proofs.Tested.{uncovered_if}
 use Rattle.dsr_compensate.proofs.Each.{item_at}
@@ -13,3 +14,6 @@ returns c =
     let row_is = sym c.row.ensures ∙ ap (option_map (λ r. r.now)) c.in-Some-row.is in
     uncovered_if c.args.self.now.spec.now c.args.self.now.choice.now n constraint c.in-Some-row.row.now (record { constraint_is = constraint_is; row_is = row_is }) c.in_ok-is_covered.field-0
     c.in_ok-is_covered.ensures
+
+pub returns-in_default : goal.returns-in_default
+returns-in_default c = grind (arith, elements)

@@ -1,4 +1,5 @@
 use Rattle.std.proofs.Common.{◌≡◌, ℕ, List, map, sym, subst, arith}
+use Rattle.std.proofs.lemmas.Grind.{elements}
 use Rattle.dsr_cert.proofs.Nested.{all_lines, many_forms, none_wrong, too_many}
 use Rattle.dsr_cert.proofs.Saying.{few_forms}
 use Rattle.dsr_cert.specs.Certificates.{certificate_lines, ended}
@@ -45,3 +46,9 @@ returns c =
       all_lines spec lines c.in_ok-rows.rows.items c.in_ok-rows.next c.in_ok-rows.ensures.1.1 c.in_ok-read_heading.ensures.0 c.in_ok-rows.ensures.0 c.in_ok-read_ending.ensures.0 (omega (arith, no_more, long)),
       none_wrong spec lines c.in_ok-rows.rows.items c.in_ok-rows.next c.in_ok-rows.ensures.1.1 c.in_ok-read_heading.ensures.0 c.in_ok-rows.ensures.0 c.in_ok-read_ending.ensures.0 (omega (arith, no_more, long)),
     )
+
+pub read_rows-requires-clause-stands : goal.read_rows-requires-clause-stands
+read_rows-requires-clause-stands c = grind (arith, elements)
+
+pub read_ending-requires-clause-stands : goal.read_ending-requires-clause-stands
+read_ending-requires-clause-stands c = grind (arith, elements)

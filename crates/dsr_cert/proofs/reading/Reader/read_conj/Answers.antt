@@ -1,4 +1,5 @@
 use Rattle.std.proofs.Common.{◌<◌, ◌≤◌, ◌+◌, false, [], ◌∷◌, length, get_or, slice_get, sym, subst, arith}
+use Rattle.std.proofs.lemmas.Grind.{elements}
 use Rattle.std.proofs.lemmas.Option.{get_or_from_slice_get}
 use Rattle.std.proofs.lemmas.Result.{err_from_is_err_and}
 use Rattle.dsr_cert.proofs.Joined.{tells_later}
@@ -93,3 +94,6 @@ returns c =
     let past = subst (λ xs. length xs ≤ c.loop-place.place) c.items-literal-items.ensures c.loop-place-test.false in
     subst (λ xs. IsPart spec lines c.args.line (each_at (λ literal _. OfLiteral n conj literal ∷ []) 0 xs) (conj_lines conj ways) × AtOwner spec n (λ owner. ArePaired (λ literal its way. NamesWay owner conj literal its way) xs ways))
     (take_whole c.loop-place.place c.args.its.now.literals past) c.loop-place.invariant
+
+pub overflow_cast-at : goal.overflow_cast-at
+overflow_cast-at c = grind (arith, elements)

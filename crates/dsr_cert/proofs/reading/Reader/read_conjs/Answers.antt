@@ -1,4 +1,5 @@
 use Rattle.std.proofs.Common.{[], ap, ◌∙◌, ◌≡◌, ◌≤◌, ◌<◌, ◌+◌, Some, length, get_or, slice_get, sym, subst, arith}
+use Rattle.std.proofs.lemmas.Grind.{elements}
 use Rattle.std.proofs.lemmas.Result.{err_from_is_err_and}
 use Rattle.dsr_cert.proofs.Joined.{tells_later}
 use Rattle.dsr_cert.proofs.Nested.{each_stands, next_step, part_none, part_step, single_length}
@@ -100,3 +101,6 @@ read_conj-requires-clause-conj c =
     let x = c.conj-item.result in
     ap (option_and_then (λ constraint. slice_get constraint.conjs i)) c.requires.constraint
     ∙ subst (λ xs. slice_get xs i ≡ Some x) c.items-conj-items.ensures (item_at c.items-conj-items.result.now i x c.loop-place-test.true c.conj-item.is)
+
+pub overflow_cast-place : goal.overflow_cast-place
+overflow_cast-place c = grind (arith, elements)

@@ -1,0 +1,10 @@
+use Rattle.std.proofs.Common.{arith}
+use Rattle.std.proofs.lemmas.Grind.{elements}
+use Rattle.dsr_answers.specs.Texts as texts
+use Rattle.dsr_answers.proofs.names.constraint_name.Goals as goal
+
+pub returns-in-Some : goal.returns-in-Some
+returns-in-Some c = grind (arith, elements)
+
+pub returns-in-None : goal.returns-in-None
+returns-in-None c = grind (arith, elements)

@@ -51,3 +51,6 @@ is_hopeless-requires-clause-there c =
       constraint_is = subst (λ xs. slice_get xs i ≡ Some constraint) c.items-constraint-items.ensures (item_at c.items-constraint-items.result.now i constraint c.loop-number-test.true c.constraint-item.is);
       as_many = sym (long ∙ c.requires.as_many);
     }
+
+pub is_hopeless-requires-clause-nobody : goal.is_hopeless-requires-clause-nobody
+is_hopeless-requires-clause-nobody c = grind (arith, common_steps)

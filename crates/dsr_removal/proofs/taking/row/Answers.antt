@@ -1,4 +1,5 @@
 use Rattle.std.proofs.Common.{◌≡◌, ◌∙◌, ◌-◌, map, sym, ap, subst, arith}
+use Rattle.std.proofs.lemmas.Grind.{common_steps}
 use Rattle.dsr_placement.specs.Placing.{IsLeft}
 use Rattle.dsr_removal.proofs.FirstWays.{row_by}
 use Rattle.dsr_removal.proofs.Staying.{left_many}
@@ -25,3 +26,6 @@ all_ways-requires-clause-there c =
     let marks_are : marks ≡ map (is_late round) rounds = c.deref-2.ensures.value ∙ (c.in_ok-left.ensures ∙ ap (map (is_late round)) c.deref.ensures.value) in
     let its = c.requires.there in
     record { spec = its.spec; graph_is = its.graph_is; constraint_is = its.constraint_is; as_many = its.as_many ∙ sym (left_many marks rounds round marks_are) }
+
+pub all_ways-requires-clause-few : goal.all_ways-requires-clause-few
+all_ways-requires-clause-few c = grind (arith, common_steps)

@@ -1,4 +1,5 @@
-use Rattle.std.proofs.Common.{◌≡◌, ◌∙◌, None, Some, slice_get, slice_index_or, refl, sym, ap, subst}
+use Rattle.std.proofs.Common.{◌≡◌, ◌∙◌, None, Some, slice_get, slice_index_or, refl, sym, ap, subst, arith}
+use Rattle.std.proofs.lemmas.Grind.{common_steps, elements}
 use Rattle.dsr_compensate.proofs.Each.{item_at}
 use Rattle.dsr_graph.proofs.Paired.{paired_step}
 use Rattle.dsr_graph.specs.Graphs.{owner_at}
@@ -27,3 +28,12 @@ row-requires-clause-there c =
       constraint_is = subst (λ xs. slice_get xs i ≡ Some constraint) c.items-constraint-items.ensures (item_at c.items-constraint-items.result.now i constraint c.loop-number-test.true c.constraint-item.is);
       as_many = sym c.requires.settled.rounds_are.as_many;
     }
+
+pub returns-in_default : goal.returns-in_default
+returns-in_default c = grind (arith, elements)
+
+pub row-requires-clause-below : goal.row-requires-clause-below
+row-requires-clause-below c = grind (arith, elements)
+
+pub returns : goal.returns
+returns c = grind (arith, common_steps)

@@ -1,4 +1,5 @@
-use Rattle.std.proofs.Common.{◌≡◌, ◌∙◌, None, Some, slice_get, slice_index_or, IsTrue, refl, sym, subst}
+use Rattle.std.proofs.Common.{◌≡◌, ◌∙◌, None, Some, slice_get, slice_index_or, IsTrue, refl, sym, subst, arith}
+use Rattle.std.proofs.lemmas.Grind.{common_steps}
 use Rattle.dsr_compensate.proofs.Each.{item_at}
 use Rattle.dsr_graph.proofs.Paired.{paired_step}
 use Rattle.dsr_graph.specs.Graphs.{owner_at}
@@ -34,3 +35,9 @@ next-requires-clause-there c =
       constraint_is = subst (λ xs. slice_get xs i ≡ Some constraint) c.items-constraint-items.ensures (item_at c.items-constraint-items.result.now i constraint c.loop-number-test.true c.constraint-item.is);
       as_many = sym (left_many c.args.self.now.left.now c.args.rounds.now c.args.self.now.number c.requires.left ∙ c.requires.as_many);
     }
+
+pub next-requires-clause-few : goal.next-requires-clause-few
+next-requires-clause-few c = grind (arith, common_steps)
+
+pub returns : goal.returns
+returns c = grind (arith, common_steps)

@@ -1,0 +1,10 @@
+use Rattle.std.proofs.Common.{arith}
+use Rattle.std.proofs.lemmas.Grind.{common_steps}
+use Rattle.dsr_removal.specs.Rounds as said
+use Rattle.dsr_removal.proofs.rounds.unplaced.Goals as goal
+
+pub loop-round-preserved : goal.loop-round-preserved
+loop-round-preserved c = grind (arith, common_steps)
+
+pub returns : goal.returns
+returns c = grind (arith, common_steps)

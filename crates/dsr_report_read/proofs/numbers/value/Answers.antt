@@ -1,0 +1,10 @@
+use Rattle.std.proofs.Common.{arith}
+use Rattle.std.proofs.lemmas.Grind.{common_steps}
+use Rattle.dsr_report_read.specs.Lenient as said
+use Rattle.dsr_report_read.proofs.numbers.value.Goals as goal
+
+pub loop-digit-preserved : goal.loop-digit-preserved
+loop-digit-preserved c = grind (arith, common_steps)
+
+pub returns : goal.returns
+returns c = grind (arith, common_steps)

@@ -6,7 +6,8 @@
 It asks for the goals of each function, and which of them each of TACTICS proves. A goal that the
 first proves is left to the check; where a later one does, that call is written into the function's
 Answers.antt. What stands below the crate must be built, and the crate be proved by `rt check`, or
-each of the four checks takes as long as one of the whole crate.
+each of the four checks takes as long as one of the whole crate. Where it is interrupted, the files
+that it began stay half done: git has what stood there.
 """
 import os
 import re

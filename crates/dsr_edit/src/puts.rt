@@ -6,7 +6,7 @@ ghost use Rattle.dsr_edit.specs.Updates.{AreReady, IsReady, writes_of};
 ghost use Rattle.dsr_step_theory.specs.Puts.{IsPut};
 
 use crate::updates::{CellPut, step_of};
-use dsr_fixpoint::{patch, rebuild, shows_leaf};
+use dsr_fixpoint::{TouchedRules, patch, rebuild, shows_leaf};
 use dsr_image::{ImageBytes, Whole};
 use dsr_ir::{Layout, NoMemory, Spec};
 use dsr_model::Model;
@@ -52,10 +52,29 @@ fn put_one(
         return false;
     }
     let step = step_of(&put.write);
-    if !shows_leaf(model, spec, layout, rules, image, &put.update, &step) {
+    let touched = TouchedRules::by(spec, &put.update);
+    if !shows_leaf(
+        model,
+        spec,
+        layout,
+        rules,
+        image,
+        &put.update,
+        &step,
+        &touched,
+    ) {
         return false;
     }
-    patch(model, spec, layout, rules, image, &put.update, &step);
+    patch(
+        model,
+        spec,
+        layout,
+        rules,
+        image,
+        &put.update,
+        &step,
+        &touched,
+    );
     true
 }
 

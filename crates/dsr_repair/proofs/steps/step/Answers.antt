@@ -54,15 +54,6 @@ pub renew-requires-clause-prepared : goal.renew-requires-clause-prepared
 renew-requires-clause-prepared g c =
     subst (λ s. IsPreparedFor s c.args.layout.now c.args.model.now) (sym c.spec-2.ensures.is) c.requires.modelled.prepared
 
-pub renew-requires-clause-of_leaf : goal.renew-requires-clause-of_leaf
-renew-requires-clause-of_leaf g c =
-    let old = g.I.ImageBytes.bytes c.args.image.now in
-    let due = due_by_it c.args.plan.now.0 c.args.plan.now.1 c.args.layout.now old c.in-Step.step c.in-Step.ensures.0
-    c.in-Some.update.now c.in-Step.ensures.1 c.in-Some.ensures in
-    let plan = subst (λ s. IsPlan s c.args.plan.now.1) c.spec.ensures.is c.spec.ensures.plan in
-    subst (λ s. IsOfLeaf (touching s c.in-Some.update.now) c.in-Step.step) (sym c.spec-2.ensures.is)
-    (of_leaf c.args.plan.now.0 c.args.plan.now.1 c.args.layout.now old c.in-Step.step c.in-Some.update.now plan c.requires.modelled.image due)
-
 pub renew-requires-clause-was : goal.renew-requires-clause-was
 renew-requires-clause-was g c =
     let old = g.I.ImageBytes.bytes c.args.image.now in

@@ -4,7 +4,6 @@ use Rattle.std.proofs.lemmas.Bool.{cases_lt}
 use Rattle.std.proofs.lemmas.Option.{slice_get_cases}
 use Rattle.dsr_repair.specs.Violations.{IsBest, IsBestBefore, IsNextViolation}
 use Rattle.dsr_repair.specs.declared.bindings.Lowest.{Lowest}
-use Rattle.dsr_repair.specs.declared.bindings.Violation.{Violation}
 use Rattle.dsr_ir.specs.declared.declarations.Spec.{Spec}
 use Rattle.dsr_ir.specs.declared.tuples.Binding.{Binding}
 use Rattle.dsr_ir.specs.declared.tuples.Fact.{Fact}

@@ -1,11 +1,10 @@
 -- What stands before a place in the order of repair, and what is the first that is violated there.
-use Rattle.std.proofs.Common.{◌≡◌, ◌≤◌, ◌<◌, ◌+◌, ◌-◌, ◌⊎◌, ◌∙◌, ℕ, zero, suc, List, [], ◌∷◌, length, Option, None, Some, MatchOption, slice_get, inl, inr, refl, sym, ap, subst, arith}
+use Rattle.std.proofs.Common.{◌≡◌, ◌≤◌, ◌<◌, ◌+◌, ◌-◌, ◌⊎◌, ◌∙◌, ℕ, zero, suc, List, [], ◌∷◌, length, Option, None, Some, MatchOption, slice_get, inl, inr, refl, sym, ap, arith}
 use Rattle.std.proofs.lemmas.Bool.{cases_lt}
 use Rattle.std.proofs.lemmas.Option.{same_Some, slice_get_within}
 use Rattle.dsr_repair.specs.Cursors.{AreSatisfiedBefore}
 use Rattle.dsr_repair.specs.Orders.{IsRepairOrder}
-use Rattle.dsr_repair.specs.Violations.{IsNextViolation, bound_of}
-use Rattle.dsr_repair.specs.declared.bindings.Violation.{Violation}
+use Rattle.dsr_repair.specs.Violations.{IsNextViolation}
 use Rattle.dsr_ir.specs.declared.declarations.Spec.{Spec}
 use Rattle.dsr_ir.specs.declared.tuples.Binding.{Binding}
 use Rattle.dsr_ir.specs.declared.tuples.Fact.{Fact}

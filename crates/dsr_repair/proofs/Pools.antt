@@ -7,7 +7,7 @@ use Rattle.dsr_ir.specs.declared.tuples.Element.{Element}
 use Rattle.dsr_ir.specs.declared.tuples.Fact.{Fact}
 use Rattle.dsr_ir.specs.declared.tuples.Fact.TheVariants.{Pair}
 use Rattle.dsr_ir.specs.declared.tuples.Target.{Target}
-use Rattle.dsr_ir.specs.declared.tuples.Target.TheVariants.{Elem, Num}
+use Rattle.dsr_ir.specs.declared.tuples.Target.TheVariants.{Elem}
 use Rattle.dsr_ir.specs.declared.updates.Symbol.TheVariants.{Rel}
 use Rattle.dsr_meaning.specs.Looking.{FindsNextFact, IsOf}
 use Rattle.dsr_model.specs.declared.sets.SetMarks.{SetMarks}

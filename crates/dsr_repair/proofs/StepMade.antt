@@ -1,5 +1,5 @@
 -- A step that is due, made: which update the plan has for it, and what it leaves.
-use Rattle.std.proofs.Common.{Result, Ok, Err, ◌≡◌, ◌∙◌, ℕ, List, length, Option, None, Some, slice_get, get_or, refl, arith, sym, ap, subst}
+use Rattle.std.proofs.Common.{Result, Ok, Err, ◌≡◌, ◌∙◌, ℕ, List, length, Option, None, Some, slice_get, sym, ap, subst}
 use Rattle.std.proofs.lemmas.Option.{same_Some}
 use Rattle.std.specs.Option.{option_and_then}
 use Rattle.std.specs.Prelude.{OnErr}
@@ -18,7 +18,7 @@ use Rattle.dsr_ir.specs.declared.updates.Update.{Update}
 use Rattle.dsr_plan_theory.specs.Plans.{IsPlan, way_at}
 use Rattle.dsr_plan_theory.specs.declared.choices.Choice.{Choice}
 use Rattle.dsr_repair.specs.Planned.{chosen_update, update_in}
-use Rattle.dsr_repair_theory.specs.Entries.{IsEntryOf, changes}
+use Rattle.dsr_repair_theory.specs.Entries.{IsEntryOf}
 use Rattle.dsr_step_theory.specs.Images.{FixedFieldsStay, IsImageOf}
 use Rattle.dsr_run_laws.proofs.RunOnce.{fixed_same, step_keeps, step_keeps_fixed}
 use Rattle.dsr_bound_laws.proofs.Whole.{remaining_falls, rises_above}

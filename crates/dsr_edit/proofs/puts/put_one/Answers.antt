@@ -29,6 +29,7 @@ shows_leaf-requires c = record {
   prepared = c.requires.between.prepared;
   rules = c.requires.between.rules;
   ordered = (c.requires.between.model c.if-not-changed.false).ordered;
+  touched = c.by-touched.ensures;
 }
 
 pub returns-then-not-shows_leaf : goal.returns-then-not-shows_leaf
@@ -52,6 +53,7 @@ patch-requires c =
       prepared = c.requires.between.prepared;
       rules = c.requires.between.rules;
       fresh = c.step_of-step.ensures.fresh;
+      touched = c.by-touched.ensures;
       was = was_model c.args.spec.now c.args.layout.now c.args.image.now c.put.new.self c.requires.between.image c.args.put.now c.requires.ready c.args.value c.requires.fits one c.args.model.now c.step_of-step.result c.step_of-step.ensures (c.requires.between.model c.if-not-changed.false) (c.shows_leaf.ensures.0 c.if-not-shows_leaf.false);
     }
 

@@ -1,6 +1,5 @@
 use Rattle.std.proofs.Common.{arith}
 use Rattle.std.proofs.lemmas.Grind.{elements}
-use Rattle.dsr_repair_theory.specs.Choices as said
 use Rattle.dsr_repair.proofs.choosing.update_by.Goals as goal
 
 pub returns-then-takes_away : goal.returns-then-takes_away

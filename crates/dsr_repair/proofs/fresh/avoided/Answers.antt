@@ -1,7 +1,5 @@
 use Rattle.std.proofs.Common.{arith}
 use Rattle.std.proofs.lemmas.Grind.{elements}
-use Rattle.dsr_ir.specs.declared.tuples.Fact.TheVariants as facts
-use Rattle.dsr_meaning.specs.Typed as typed
 use Rattle.dsr_repair.proofs.fresh.avoided.Goals as goal
 
 pub returns-in_err-pool : goal.returns-in_err-pool

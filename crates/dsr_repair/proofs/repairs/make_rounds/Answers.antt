@@ -1,5 +1,5 @@
 -- The rounds of a repair.
-use Rattle.std.proofs.Common.{◌≡◌, ◌<◌, ◌+◌, [], length, refl, subst, arith}
+use Rattle.std.proofs.Common.{[], length, refl, subst, arith}
 use Rattle.dsr_repair.proofs.RunOn.{less_left_by, run_of_round, run_same}
 use Rattle.dsr_repair.specs.Rounds.{EndsRound}
 use Rattle.dsr_repair_theory.specs.Runs.IsPartRun.{begins}

@@ -1,17 +1,15 @@
 -- One step.
-use Rattle.std.proofs.Common.{◌∙◌, ◌∷◌, ◌++◌, [], All, IfSome, refl, sym, ap, subst, length}
+use Rattle.std.proofs.Common.{All, IfSome, refl, sym, subst, length}
 use Rattle.dsr_repair_laws.proofs.MakingSteps.{writes_free}
 use Rattle.dsr_fixpoint.specs.Models.{IsLaidOut, IsModelOf, IsPreparedFor}
 use Rattle.dsr_plan_theory.specs.Plans.{IsPlan}
-use Rattle.dsr_leaf_laws.specs.Leaves.{IsOfLeaf}
-use Rattle.dsr_leaf_laws.specs.Touched.{touching}
 use Rattle.dsr_repair.specs.Renewing.{WasLeft, WasSupportFor}
-use Rattle.dsr_repair.proofs.Renewed.{due_left, if_backed, of_leaf, was_left}
+use Rattle.dsr_repair.proofs.Renewed.{due_left, if_backed, was_left}
 use Rattle.dsr_repair.proofs.Moved.{cursor_moves, cursor_stays}
 use Rattle.dsr_repair.proofs.StepMade.{can_be_made, due_by_it, fixed_as_before, fixed_stay, image_stays, laid_out, nearer, never_none, on_err, same_state}
 use Rattle.dsr_repair_theory.specs.Entries.{IsEntryOf}
 use Rattle.dsr_resolve.specs.Rules.{AreResolved}
-use Rattle.dsr_step_theory.specs.Images.{FixedFieldsStay, IsFree}
+use Rattle.dsr_step_theory.specs.Images.{IsFree}
 use Rattle.dsr_step_theory.specs.Steps.{CanStep}
 use Rattle.dsr_supported.specs.Supported.{IsSupportFor}
 use Rattle.dsr_repair.proofs.steps.step.Goals as goal

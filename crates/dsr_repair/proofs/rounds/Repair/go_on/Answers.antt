@@ -1,5 +1,5 @@
 -- A round.
-use Rattle.std.proofs.Common.{◌≡◌, ◌+◌, ◌∷◌, [], ◌∙◌, length, refl, sym, ap, subst, arith}
+use Rattle.std.proofs.Common.{◌≡◌, ◌+◌, ◌∷◌, [], ◌∙◌, length, sym, ap, subst, arith}
 use Rattle.std.proofs.lemmas.List.{length-append}
 use Rattle.dsr_meaning.specs.Consistency.{IsConsistent}
 use Rattle.dsr_repair.proofs.RunOn.{round_begins, round_on}

@@ -317,9 +317,8 @@ fn targets_are_members(model: &Model, rel: u32, var: Var, set: u32) -> bool
 }
 
 // Whether the only literal of a constraint over the pairs of a relation is true for all of them, as
-// it can be told without a look at them. Words of marks are asked only where a walk begins: one that
-// goes on step by step would go over them at each step.
-pub fn holds_for_pairs(model: &Model, rel: u32, only: Option<Literal>, begins: bool) -> bool
+// it can be told without a look at them.
+pub fn holds_for_pairs(model: &Model, rel: u32, only: Option<Literal>) -> bool
     requires { model.now.ordered ≡ true }
     ensures { IsTrue result → HoldsForPairs (IsInModel model.now) rel only }
 {
@@ -331,7 +330,7 @@ pub fn holds_for_pairs(model: &Model, rel: u32, only: Option<Literal>, begins: b
     }
     match alone.atom {
         Atom::Count(measure, op, number) => sources_compare(model, measure, op, number),
-        Atom::Member(var, set) => begins && targets_are_members(model, rel, var, set),
+        Atom::Member(var, set) => targets_are_members(model, rel, var, set),
         Atom::Pair(_, _, _) | Atom::Value(_, _, _, _) => false,
     }
 }

@@ -15,8 +15,8 @@ returns-in-Count c = λ yes.
     subst (λ negated. MatchBool negated (AtomHolds is_fact (bindings.Pair x y) literal.atom → ⊥) (AtomHolds is_fact (bindings.Pair x y) literal.atom)) (sym c.if-alone.false)
     (subst (AtomHolds is_fact (bindings.Pair x y)) (sym c.in-Count.is) (c.sources_compare.ensures yes x y)))
 
-pub returns-then-begins : goal.returns-then-begins
-returns-then-begins c = λ yes.
+pub returns-in-Member : goal.returns-in-Member
+returns-in-Member c = λ yes.
     let is_fact = IsInModel c.args.model.now in
     let literal = c.in-Some.alone in
     subst (HoldsForPairs is_fact c.args.rel) (sym c.in-Some.is)

@@ -57,17 +57,17 @@ pub own_next : (is_fact : Fact → Type 0) (c : Constraint) (q : Quant) (last an
 own_next is_fact c q last answer same next =
     subst (λ k. FindsLeastBinding (IsLaterBinding is_fact k last) answer) (sym same) next
 
--- no pair violates a constraint over pairs whose only literal is true for all of them
-pub pairs_hold : (is_fact : Fact → Type 0) (c : Constraint) (rel : ℕ) → c.quant ≡ quants.Pairs rel → HoldsForPairs is_fact rel (only_literal c)
+-- no pair violates a constraint over pairs whose only literal is true for any two records
+pub pairs_hold : (is_fact : Fact → Type 0) (c : Constraint) (rel : ℕ) → c.quant ≡ quants.Pairs rel → HoldsForPairs is_fact (only_literal c)
     → (b : Binding) → IsViolatedAt is_fact c b → ⊥
 pairs_hold is_fact c rel over holds b violated = by_literal (only_literal c) refl holds b
     (subst (λ q. IsBinding is_fact q b) over violated.0) violated.1
   where
-    by_literal : (only : Option Literal) → only_literal c ≡ only → HoldsForPairs is_fact rel only → (b : Binding)
+    by_literal : (only : Option Literal) → only_literal c ≡ only → HoldsForPairs is_fact only → (b : Binding)
         → IsBinding is_fact (quants.Pairs rel) b → IsUnsatisfied is_fact b c → ⊥
     by_literal None is holds b bound unsatisfied = absurd holds
     by_literal (Some l) is holds bindings.Once bound unsatisfied = absurd bound
     by_literal (Some l) is holds (bindings.Each e) bound unsatisfied = absurd bound
     by_literal (Some l) is holds (bindings.Pair x y) bound unsatisfied =
-        let satisfied = met is_fact (bindings.Pair x y) c.conjs l is (holds x y bound) in
+        let satisfied = met is_fact (bindings.Pair x y) c.conjs l is (holds x y) in
         some_or_none (ConjHolds is_fact (bindings.Pair x y)) c.conjs satisfied unsatisfied

@@ -29,12 +29,10 @@ IsSatisfied is_fact b constraint =
 abbrev pub IsUnsatisfied : (Fact → Type 0) → Binding → Constraint → Type 0
 IsUnsatisfied is_fact b constraint = All (λ conj. ConjHolds is_fact b conj → ⊥) constraint.conjs
 
--- the literal is true for all pairs of the relation
-abbrev pub HoldsForPairs : (Fact → Type 0) → ℕ → Option Literal → Type 0
-HoldsForPairs is_fact rel only =
-    IsSomeAnd only
-    (λ literal. (x : Element) (y : Element) → is_fact (Pair rel x (Elem y))
-    → LiteralHolds is_fact (bindings.Pair x y) literal)
+-- the literal is true for any two records
+abbrev pub HoldsForPairs : (Fact → Type 0) → Option Literal → Type 0
+HoldsForPairs is_fact only =
+    IsSomeAnd only (λ literal. (x : Element) (y : Element) → LiteralHolds is_fact (bindings.Pair x y) literal)
 
 -- the binding is one of the quantifier, and no conjunction has all its literals true
 abbrev pub IsViolatedAt : (Fact → Type 0) → Constraint → Binding → Type 0

@@ -302,25 +302,11 @@ fn sources_compare(model: &Model, measure: Measure, op: Op, number: u64) -> bool
     }
 }
 
-// Whether the second variable is a member of a set for all pairs of a relation: where words of
-// marks tell it.
-fn targets_are_members(model: &Model, rel: u32, var: Var, set: u32) -> bool
+// Whether the only literal of a constraint over pairs is true for any two records, as it can be
+// told without a look at them.
+pub fn holds_for_pairs(model: &Model, only: Option<Literal>) -> bool
     requires { model.now.ordered ≡ true }
-    ensures { IsTrue result → (x : elements.Element) (y : elements.Element)
-        → IsInModel model.now (facts.Pair rel x (Elem y))
-        → AtomHolds (IsInModel model.now) (bindings.Pair x y) (atoms.Member var set) }
-{
-    match var {
-        Var::Head | Var::First => false,
-        Var::Second => model.targets_are_members(rel, set),
-    }
-}
-
-// Whether the only literal of a constraint over the pairs of a relation is true for all of them, as
-// it can be told without a look at them.
-pub fn holds_for_pairs(model: &Model, rel: u32, only: Option<Literal>) -> bool
-    requires { model.now.ordered ≡ true }
-    ensures { IsTrue result → HoldsForPairs (IsInModel model.now) rel only }
+    ensures { IsTrue result → HoldsForPairs (IsInModel model.now) only }
 {
     let Some(alone) = only else {
         return false;
@@ -330,8 +316,7 @@ pub fn holds_for_pairs(model: &Model, rel: u32, only: Option<Literal>) -> bool
     }
     match alone.atom {
         Atom::Count(measure, op, number) => sources_compare(model, measure, op, number),
-        Atom::Member(var, set) => targets_are_members(model, rel, var, set),
-        Atom::Pair(_, _, _) | Atom::Value(_, _, _, _) => false,
+        Atom::Member(_, _) | Atom::Pair(_, _, _) | Atom::Value(_, _, _, _) => false,
     }
 }
 

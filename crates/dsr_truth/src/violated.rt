@@ -57,7 +57,7 @@ fn next_violated_pair(
 {
     let quant = Quant::Pairs(rel);
     let only = only_literal(constraint);
-    if holds_for_pairs(model, rel, only) {
+    if holds_for_pairs(model, only) {
         return None;
     }
     match sources_literal(only) {
@@ -132,7 +132,7 @@ fn pair_violations(
 {
     let quant = Quant::Pairs(rel);
     let only = only_literal(constraint);
-    if holds_for_pairs(model, rel, only) {
+    if holds_for_pairs(model, only) {
         return Ok(());
     }
     match sources_literal(only) {

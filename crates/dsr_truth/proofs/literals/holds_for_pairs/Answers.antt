@@ -10,16 +10,7 @@ pub returns-in-Count : goal.returns-in-Count
 returns-in-Count c = λ yes.
     let is_fact = IsInModel c.args.model.now in
     let literal = c.in-Some.alone in
-    subst (HoldsForPairs is_fact c.args.rel) (sym c.in-Some.is)
-    (λ x y pair.
+    subst (HoldsForPairs is_fact) (sym c.in-Some.is)
+    (λ x y.
     subst (λ negated. MatchBool negated (AtomHolds is_fact (bindings.Pair x y) literal.atom → ⊥) (AtomHolds is_fact (bindings.Pair x y) literal.atom)) (sym c.if-alone.false)
     (subst (AtomHolds is_fact (bindings.Pair x y)) (sym c.in-Count.is) (c.sources_compare.ensures yes x y)))
-
-pub returns-in-Member : goal.returns-in-Member
-returns-in-Member c = λ yes.
-    let is_fact = IsInModel c.args.model.now in
-    let literal = c.in-Some.alone in
-    subst (HoldsForPairs is_fact c.args.rel) (sym c.in-Some.is)
-    (λ x y pair.
-    subst (λ negated. MatchBool negated (AtomHolds is_fact (bindings.Pair x y) literal.atom → ⊥) (AtomHolds is_fact (bindings.Pair x y) literal.atom)) (sym c.if-alone.false)
-    (subst (AtomHolds is_fact (bindings.Pair x y)) (sym c.in-Member.is) (c.targets_are_members.ensures yes x y pair)))

@@ -7,5 +7,5 @@ use Rattle.dsr_truth.proofs.violated.next_violated_pair.Goals as goal
 pub returns-then-holds_for_pairs : goal.returns-then-holds_for_pairs
 returns-then-holds_for_pairs c = λ b later.
     let is_fact = IsInModel c.args.model.now in
-    let holds = subst (HoldsForPairs is_fact c.args.rel) c.only_literal-only.ensures (c.holds_for_pairs.ensures c.if-holds_for_pairs.true) in
+    let holds = subst (HoldsForPairs is_fact) c.only_literal-only.ensures (c.holds_for_pairs.ensures c.if-holds_for_pairs.true) in
     pairs_hold is_fact c.args.constraint.now c.args.rel c.requires.own holds b later.0
